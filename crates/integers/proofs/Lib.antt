@@ -1,0 +1,4 @@
+pub mod Linear
+pub mod Tests
+pub mod Products
+pub mod Range

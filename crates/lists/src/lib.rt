@@ -1,0 +1,1 @@
+// Lists: keeping, testing and membership, with their laws. It has no code.

@@ -1,0 +1,164 @@
+-- Shift, clip and a step over an edge: which bits a run has after them, and which root bit it joins to each.
+use mathlib.Core.Path.{_≡_}
+use mathlib.Core.Bool.{not}
+use mathlib.Core.List.{List, [], _∷_}
+use mathlib.Core.Logic.{_↔_}
+use native.Mathlib.Omega.{arith}
+use lib.Dec.{T}
+use lib.IntN.{ℤ, _+ℤ_, _-ℤ_}
+use lib.Signed.{_≤ℤ_, _<ℤ_, ltZ-yes, ltZ-no}
+use Rattle.integers.specs.Integers.{maxZ}
+use Rattle.integers.proofs.Linear.{ints, sum, diff}
+use Rattle.integers.proofs.Tests.{lt?, of-test, min-le, max-le, min-is, max-is}
+use Rattle.model.specs.Rows.{Node, Edge}
+use Rattle.model.specs.Graph.{Graph, node, firstBit, lastBit, bitOffset}
+use Rattle.model.specs.Walk.{StandsOn}
+use Rattle.model.specs.Bitmapping.{Has}
+use Rattle.model.specs.Runs.{Run, empty, whole, shift, clip, across, along, recordOf}
+
+-- the run has bit address a
+pub record InRun (r : Run) (a : ℤ) : Type 0 where
+  pub above : r .low ≤ℤ a
+  pub below : a ≤ℤ r .high
+
+-- the run joins root bit x to bit address b: b is as far above the low end as x is above the root bit that walked there
+pub record Joins (r : Run) (x b : ℤ) : Type 0 where
+  pub inside : InRun r b
+  pub level : x -ℤ r .root ≡ b -ℤ r .low
+
+-- ---- shift
+
+-- the shifted run has exactly the run's bits less the offset
+pub shift-bits : (o : ℤ) (r : Run) (b : ℤ) → InRun (shift o r) b ↔ InRun r (b +ℤ o)
+unfolding shift
+shift-bits o r b =
+    let low = diff (r .low) o in
+    let high = diff (r .high) o in
+    let at = sum b o in
+    (λ h. omega (arith, ints), λ h. omega (arith, ints))
+
+-- and joins the same root bits to them
+pub shift-joins : (o : ℤ) (r : Run) (x b : ℤ) → Joins (shift o r) x b ↔ Joins r x (b +ℤ o)
+unfolding shift
+shift-joins o r x b =
+    let end = diff (r .low) o in
+    let at = sum b o in
+    let there = diff b (r .low -ℤ o) in
+    let here = diff (b +ℤ o) (r .low) in (
+      λ j. record { inside = shift-bits o r b .0 (j .inside); level = omega (arith, ints) },
+      λ j. record { inside = shift-bits o r b .1 (j .inside); level = omega (arith, ints) },
+    )
+
+-- ---- clip
+
+-- the clipped run has exactly those bits that a walk may stand on the node with
+pub clip-bits : (n : Node) (r : Run) (b : ℤ) → InRun (clip n r) b ↔ (InRun r b × StandsOn n b)
+unfolding clip
+clip-bits n r b = (
+  λ h. let lo = max-le (firstBit n) (r .low) b .0 (h .above) in let hi = min-le (lastBit n) (r .high) b .0 (h .below) in
+      (record { above = lo .1; below = hi .1 }, record { above = lo .0; below = hi .0 }),
+  λ h. record {
+    above = max-le (firstBit n) (r .low) b .1 (h .1 .above, h .0 .above);
+    below = min-le (lastBit n) (r .high) b .1 (h .1 .below, h .0 .below);
+  },
+)
+
+-- and joins the same root bits to them
+pub clip-joins : (n : Node) (r : Run) (x b : ℤ) → Joins (clip n r) x b ↔ (Joins r x b × StandsOn n b)
+unfolding clip
+clip-joins n r x b =
+    let low = maxZ (firstBit n) (r .low) in
+    let root = r .root +ℤ (low -ℤ r .low) in
+    let cut = diff low (r .low) in
+    let start = sum (r .root) (low -ℤ r .low) in
+    let x-before = diff x (r .root) in
+    let x-after = diff x root in
+    let b-before = diff b (r .low) in
+    let b-after = diff b low in (
+      λ j. let h = clip-bits n r b .0 (j .inside) in
+          (record { inside = h .0; level = omega (arith, ints) }, h .1),
+      λ j. record { inside = clip-bits n r b .1 (j .0 .inside, j .1); level = omega (arith, ints) },
+    )
+
+-- ---- empty runs, and the run of a root
+
+-- an empty run has no bit
+pub empty-none : (r : Run) (b : ℤ) → T (empty r) → InRun r b → ⊥
+unfolding empty
+empty-none r b t h = let k : r .high <ℤ r .low = ltZ-yes t in omega (arith, ints)
+
+-- a run that is not empty has its low end
+pub empty-not : (r : Run) → T (not (empty r)) → r .low ≤ℤ r .high
+unfolding empty
+empty-not r t = ltZ-no t
+
+-- a run whose ends have crossed is empty
+pub empty-in : (r : Run) → r .high <ℤ r .low → T (empty r)
+unfolding empty
+empty-in r h = of-test (lt? (r .high) (r .low)) (λ k. omega (arith, ints))
+
+-- the run of a root joins each of its bits to itself
+pub whole-joins : (n : Node) (x b : ℤ) → Joins (whole n) x b ↔ ((x ≡ b) × StandsOn n b)
+unfolding whole
+whole-joins n x b =
+    let over = diff x (firstBit n) in
+    let under = diff b (firstBit n) in (
+      λ j. (omega (arith, ints), record { above = j .inside .above; below = j .inside .below }),
+      λ h. record { inside = record { above = h .1 .above; below = h .1 .below }; level = omega (arith, ints) },
+    )
+
+-- ---- over an edge
+
+-- the run over an edge has exactly those bits that a walk may enter the node with, from a bit of the run
+pub across-bits : (g : Graph) (e : Edge) (r : Run) (b : ℤ)
+    → InRun (across g e r) b ↔ (InRun r (b +ℤ bitOffset g e) × StandsOn (node g (e .to)) b)
+unfolding across
+across-bits g e r b =
+    let n = node g (e .to) in
+    let o = bitOffset g e in (
+      λ i. let h = clip-bits n (shift o r) b .0 i in (shift-bits o r b .0 (h .0), h .1),
+      λ h. clip-bits n (shift o r) b .1 (shift-bits o r b .1 (h .0), h .1),
+    )
+
+-- the run over an edge joins those root bits that the run joined to an address which the walk may take over the edge
+pub across-joins : (g : Graph) (e : Edge) (r : Run) (x b : ℤ)
+    → Joins (across g e r) x b ↔ (Joins r x (b +ℤ bitOffset g e) × StandsOn (node g (e .to)) b)
+unfolding across
+across-joins g e r x b =
+    let n = node g (e .to) in
+    let o = bitOffset g e in (
+      λ j. let h = clip-joins n (shift o r) x b .0 j in (shift-joins o r x b .0 (h .0), h .1),
+      λ h. clip-joins n (shift o r) x b .1 (shift-joins o r x b .1 (h .0), h .1),
+    )
+
+-- an empty run stays empty over an edge
+pub across-empty : (g : Graph) (e : Edge) (r : Run) → T (empty r) → T (empty (across g e r))
+unfolding across shift clip empty
+across-empty g e r t =
+    let n = node g (e .to) in
+    let o = bitOffset g e in
+    let k : r .high <ℤ r .low = ltZ-yes t in
+    empty-in (across g e r) (omega (arith, ints, diff (r .low) o, diff (r .high) o, max-is (firstBit n) (r .low -ℤ o) .1, min-is (lastBit n) (r .high -ℤ o) .1))
+
+-- and so along a path
+pub along-empty : (g : Graph) (p : List Edge) (r : Run) → T (empty r) → T (empty (along g p r))
+unfolding along
+along-empty g [] r t = t
+along-empty g (e ∷ p) r t = along-empty g p (across g e r) (across-empty g e r t)
+
+-- ---- at the leaf
+
+-- the record of a run has root bit x with leaf bit y exactly where the run joins x to the address of y
+pub record-joins : (leaf : Node) (r : Run) (x y : ℤ) → Has (recordOf leaf r) x y ↔ Joins r x (y +ℤ firstBit leaf)
+unfolding recordOf
+record-joins leaf r x y =
+    let f = firstBit leaf in
+    let address = sum y f in
+    let low = diff (r .low) f in
+    let displacement = diff (r .root) (r .low -ℤ f) in
+    let apart = diff x y in
+    let over = diff x (r .root) in
+    let under = diff (y +ℤ f) (r .low) in
+    let size = diff (r .high) (r .low) in
+    let last = sum (r .root) (r .high -ℤ r .low) in
+    (λ h. omega (arith, ints), λ j. omega (arith, ints))

@@ -1,0 +1,95 @@
+-- What each call gives and what its buffer holds afterwards: check, walk, list and compare. Assumes nothing.
+use mathlib.Core.Bool.{Bool, not, cond, _&&_}
+use mathlib.Core.List.{List, [], _∷_, _++_, map, flatMap}
+use mathlib.Core.Option.{Option, none, some}
+use Prim.Native.Nat.{ℕ, zero, suc}
+use lib.IntN.{ℤ, _-ℤ_}
+use lib.Signed.{leZ, ltZ}
+use lib.ListN.{length, drop}
+use Rattle.integers.specs.Integers.{eqZ}
+use Rattle.model.specs.Limits.{maxChain}
+use Rattle.model.specs.Rows.{Node, Edge}
+use Rattle.model.specs.Graph.{Graph, graphOf, node, firstBit, lastBit, bitOffset}
+use Rattle.model.specs.Bitmapping.{Record}
+use Rattle.model.specs.Runs.{leaving, listOf}
+use Rattle.model.specs.Compare.{Tables, Result, findings, resultOf}
+use Rattle.model.specs.Refusals.{Refusal}
+use Rattle.model.specs.Checks.{checkGraph, checkSingle, checkTables}
+
+-- an answer: a refusal, or the full result
+pub data Answer (A : Type 0) : Type 0 where
+  refused : Refusal → Answer A
+  full : A → Answer A
+
+-- the refusal that a check gives, or else the result
+unfoldable pub answer : {A : Type 0} → Option Refusal → A → Answer A
+answer none a = full a
+answer (some r) a = refused r
+
+-- what a call with a lent buffer returns: how long its output is
+unfoldable pub lengthOf : {A : Type 0} → Answer (List A) → Answer ℕ
+lengthOf (refused r) = refused r
+lengthOf (full out) = full (length out)
+
+-- what the lent buffer holds afterwards: untouched on a refusal, else the output and past it what it held
+unfoldable pub bufferAfter : {A : Type 0} → Answer (List A) → List A → List A
+bufferAfter (refused r) buffer = buffer
+bufferAfter (full out) buffer = out ++ drop (length out) buffer
+
+-- ---- check one graph: taken, or refused
+
+unfoldable pub checkAnswer : List ℤ → List ℤ → Answer (Unit {0})
+checkAnswer ns es = answer (checkGraph 0 ns es) tt
+
+-- ---- walk
+
+-- a walk may stand on the node with bit address a
+unfoldable pub standsOn : Node → ℤ → Bool
+standsOn n a = leZ (firstBit n) a && leZ a (lastBit n)
+
+-- the bit addresses at the leaf l that a at node v becomes, over at most k edges
+unfoldable pub arrivals : ℕ → Graph → ℤ → ℤ → ℤ → List ℤ
+arrivals zero g v l a = cond (standsOn (node g v) a) (cond (eqZ v l) (a ∷ []) []) []
+arrivals (suc k) g v l a =
+    let onward = flatMap (λ e. arrivals k g (e .to) l (a -ℤ bitOffset g e)) (leaving g v) in
+    let alive = cond (eqZ v l) (a ∷ []) onward in
+    cond (standsOn (node g v) a) alive []
+
+-- a number in its place in an ascending list that has each number once
+unfoldable pub among : ℤ → List ℤ → List ℤ
+among a [] = a ∷ []
+among a (b ∷ t) = cond (eqZ a b) (b ∷ t) (cond (ltZ a b) (a ∷ b ∷ t) (b ∷ among a t))
+
+-- the numbers of a list, ascending, each once
+unfoldable pub ascending : List ℤ → List ℤ
+ascending [] = []
+ascending (a ∷ t) = among a (ascending t)
+
+-- the distinct leaf bits that a root bit reaches, ascending
+unfoldable pub leafBits : Graph → ℤ → ℤ → ℤ → List ℤ
+leafBits g r l x = ascending (map (λ b. b -ℤ firstBit (node g l)) (arrivals maxChain g r l x))
+
+-- the walk of bit address x from root r to leaf l, into a buffer with room for so many numbers
+unfoldable pub walkAnswer : List ℤ → List ℤ → ℤ → ℤ → ℤ → ℕ → Answer (List ℤ)
+walkAnswer ns es r l x room = answer (checkSingle ns es r l (length (leafBits (graphOf ns es) r l x)) room) (leafBits (graphOf ns es) r l x)
+
+-- ---- list
+
+-- the numbers of records: three a record
+unfoldable pub numbersOf : List Record → List ℤ
+numbersOf [] = []
+numbersOf (r ∷ t) = r .first ∷ r .last ∷ r .displacement ∷ numbersOf t
+
+-- the bitmapping list of root r and leaf l, whose numbers fit into a buffer with room for so many numbers
+unfoldable pub listAnswer : List ℤ → List ℤ → ℤ → ℤ → ℕ → Answer (List Record)
+listAnswer ns es r l room = answer (checkSingle ns es r l (length (numbersOf (listOf (graphOf ns es) r l))) room) (listOf (graphOf ns es) r l)
+
+-- the buffer of numbers after a call of list
+unfoldable pub numbersAfter : Answer (List Record) → List ℤ → List ℤ
+numbersAfter (refused r) buffer = buffer
+numbersAfter (full records) buffer = numbersOf records ++ drop (length (numbersOf records)) buffer
+
+-- ---- compare
+
+unfoldable pub compareAnswer : Tables → Answer Result
+compareAnswer t = answer (checkTables t) (resultOf (findings t))

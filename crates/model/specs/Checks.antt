@@ -1,0 +1,156 @@
+-- The checks, computed: for each call the first refusal in the order of its conditions, or none. Assumes nothing.
+-- Each check stands beside a list of conditions of the module Refusals and follows its shape.
+use mathlib.Core.Bool.{Bool, true, false, not, cond, _&&_, _||_}
+use mathlib.Core.List.{List, [], _∷_, map}
+use mathlib.Core.Option.{Option, none, some}
+use Prim.Native.Nat.{ℕ, zero, suc, _+_, _*_, _%_}
+use lib.Dec.{eqb, ltb}
+use lib.IntN.{ℤ, pos, negℤ, _+ℤ_}
+use lib.Signed.{leZ, ltZ}
+use lib.ListN.{length}
+use Rattle.integers.specs.Integers.{eqZ}
+use Rattle.lists.specs.Lists.{keep, any, isNil}
+use Rattle.model.specs.Limits.{nodeWidth, edgeWidth, pairWidth, maxNodes, maxEdges, maxPairs, maxUnits, maxChain, maxPaths, rootStride}
+use Rattle.model.specs.Rows.{Node, Edge, Pair, nodeRows, edgeRows, pairRows}
+use Rattle.model.specs.Graph.{Graph, graphOf, node, space, segment, block}
+use Rattle.model.specs.Runs.{paths}
+use Rattle.model.specs.Compare.{Tables, specGraph, implGraph, rootRows, leafRows, Visit, visits}
+use Rattle.model.specs.Refusals.{Refusal}
+
+-- the refusal, if the test passes
+unfoldable pub when : Bool → ℕ → ℕ → ℕ → Option Refusal
+when true n t r = some (record { number = n; table = t; row = r })
+when false n t r = none
+
+infixr 20 _then_
+-- the first refusal of two
+unfoldable pub _then_ : Option Refusal → Option Refusal → Option Refusal
+none then c = c
+some r then c = some r
+
+-- the first refusal of a list of rows
+unfoldable pub firstOf : {A : Type 0} → (A → Option Refusal) → List A → Option Refusal
+firstOf check [] = none
+firstOf check (x ∷ xs) = let later = firstOf check xs in check x then later
+
+-- ---- 1
+
+unfoldable pub checkShape : ℕ → ℕ → ℕ → List ℤ → Option Refusal
+checkShape t width most xs = when (not (eqb (length xs % width) 0) || ltb (width * most) (length xs)) 1 t 0
+
+-- ---- 2
+
+unfoldable pub isKind : ℤ → Bool
+isKind k = eqZ k space || eqZ k segment || eqZ k block
+
+unfoldable pub isUnit : ℤ → Bool
+isUnit u = eqZ u (pos 8) || eqZ u (pos 16) || eqZ u (pos 32) || eqZ u (pos 64) || eqZ u (pos 128)
+
+unfoldable pub goodNode : Node → Bool
+goodNode n = isKind (n .kind) && isUnit (n .unit) && leZ (pos 0) (n .base) && leZ (pos 1) (n .range) && leZ (n .base +ℤ n .range) (pos maxUnits)
+
+unfoldable pub checkNode : ℕ → Node → Option Refusal
+checkNode t n = when (not (goodNode n)) 2 t (n .row)
+
+-- ---- 3 and 4
+
+unfoldable pub isRow : Graph → ℤ → Bool
+isRow g v = leZ (pos 0) v && ltZ v (pos (length (g .nodes)))
+
+unfoldable pub goodEdge : Graph → Edge → Bool
+goodEdge g e = isRow g (e .from) && isRow g (e .to) && leZ (negℤ (pos maxUnits)) (e .offset) && leZ (e .offset) (pos maxUnits)
+
+unfoldable pub checkEdge : ℕ → Graph → Edge → Option Refusal
+checkEdge t g e = when (not (goodEdge g e)) 3 t (e .row) then when (eqZ (node g (e .from) .kind) block) 4 t (e .row)
+
+-- ---- 5 and 6
+
+-- each number once
+unfoldable pub each : List ℤ → List ℤ
+each [] = []
+each (x ∷ xs) = let d = each xs in cond (any (eqZ x) d) d (x ∷ d)
+
+-- the edges of the list that end at one of these nodes
+unfoldable pub endingAt : List ℤ → List Edge → List Edge
+endingAt starts es = keep (λ e. any (eqZ (e .to)) starts) es
+
+-- the edges of the list that an edge of the list follows
+unfoldable pub followed : List Edge → List Edge
+followed es = endingAt (each (map (λ e. e .from) es)) es
+
+-- the edges of the list that begin a chain of k + 1 of its edges
+unfoldable pub begins : ℕ → List Edge → List Edge
+begins zero es = es
+begins (suc k) [] = []
+begins (suc k) (e ∷ t) = begins k (followed (e ∷ t))
+
+-- a cycle: some chain has more edges than there are nodes, and so comes to a node twice
+unfoldable pub cyclic : Graph → Bool
+cyclic g = not (isNil (begins (length (g .nodes)) (g .edges)))
+
+-- some chain has more than 64 edges
+unfoldable pub deep : Graph → Bool
+deep g = not (isNil (begins maxChain (g .edges)))
+
+-- ---- one graph
+
+unfoldable pub checkGraph : ℕ → List ℤ → List ℤ → Option Refusal
+checkGraph t ns es =
+    checkShape t nodeWidth maxNodes ns
+    then checkShape (suc t) edgeWidth maxEdges es
+    then firstOf (checkNode t) (nodeRows ns)
+    then firstOf (checkEdge (suc t) (graphOf ns es)) (edgeRows es)
+    then when (cyclic (graphOf ns es)) 5 t 0
+    then when (deep (graphOf ns es)) 6 t 0
+
+-- ---- 7 and 10 of a single graph
+
+unfoldable pub isRoot : Graph → ℤ → Bool
+isRoot g v =
+    isRow g v && (eqZ (node g v .kind) space || eqZ (node g v .kind) segment) && not (any (λ e. eqZ (e .to) v) (g .edges))
+
+unfoldable pub isLeaf : Graph → ℤ → Bool
+isLeaf g v = isRow g v && eqZ (node g v .kind) block
+
+unfoldable pub manyPaths : Graph → ℤ → ℤ → Bool
+manyPaths g r l = ltb maxPaths (length (paths g r l))
+
+unfoldable pub checkNamed : Graph → ℤ → ℤ → Option Refusal
+checkNamed g r l = when (not (isRoot g r)) 7 4 0 then when (not (isLeaf g l)) 7 5 0 then when (manyPaths g r l) 10 1 0
+
+-- ---- 11
+
+unfoldable pub checkOutput : ℕ → ℕ → Option Refusal
+checkOutput output room = when (ltb room output) 11 7 0
+
+-- ---- a pairing
+
+-- an earlier row has one of its nodes
+unfoldable pub clashes : Pair → Pair → Bool
+clashes p q = ltb (q .row) (p .row) && (eqZ (q .spec) (p .spec) || eqZ (q .impl) (p .impl))
+
+unfoldable pub checkPair : ℕ → (ℤ → Bool) → (ℤ → Bool) → List Pair → Pair → Option Refusal
+checkPair t spec impl rows p = when (not (spec (p .spec) && impl (p .impl))) 7 t (p .row) then when (any (clashes p) rows) 8 t (p .row)
+
+unfoldable pub checkVisit : Graph → Graph → Visit → Option Refusal
+checkVisit s i v =
+    when (manyPaths s (v .root .spec) (v .leaf .spec)) 10 1 (v .root .row * rootStride + v .leaf .row)
+    then when (manyPaths i (v .root .impl) (v .leaf .impl)) 10 3 (v .root .row * rootStride + v .leaf .row)
+
+unfoldable pub checkPairing : Tables → Option Refusal
+checkPairing t =
+    checkShape 4 pairWidth maxPairs (t .rootPairs)
+    then checkShape 5 pairWidth maxPairs (t .leafPairs)
+    then when (isNil (rootRows t)) 9 4 0
+    then when (isNil (leafRows t)) 9 5 0
+    then firstOf (checkPair 4 (isRoot (specGraph t)) (isRoot (implGraph t)) (rootRows t)) (rootRows t)
+    then firstOf (checkPair 5 (isLeaf (specGraph t)) (isLeaf (implGraph t)) (leafRows t)) (leafRows t)
+    then firstOf (checkVisit (specGraph t) (implGraph t)) (visits (rootRows t) (leafRows t))
+
+-- ---- walk and list; compare
+
+unfoldable pub checkSingle : List ℤ → List ℤ → ℤ → ℤ → ℕ → ℕ → Option Refusal
+checkSingle ns es r l output room = checkGraph 0 ns es then checkNamed (graphOf ns es) r l then checkOutput output room
+
+unfoldable pub checkTables : Tables → Option Refusal
+checkTables t = checkGraph 0 (t .specNodes) (t .specEdges) then checkGraph 2 (t .implNodes) (t .implEdges) then checkPairing t

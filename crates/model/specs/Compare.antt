@@ -1,0 +1,97 @@
+-- The comparison of two graphs: pairs in visiting order, and the full result. Assumes nothing.
+use mathlib.Core.Bool.{cond}
+use mathlib.Core.List.{List, [], _∷_, map, flatMap}
+use mathlib.Core.Option.{Option, none, some}
+use Prim.Native.Nat.{ℕ, suc, max}
+use lib.Dec.{eqb}
+use lib.IntN.{ℤ, pos, negsuc}
+use Rattle.model.specs.Rows.{Pair, pairRows}
+use Rattle.model.specs.Graph.{Graph, graphOf}
+use Rattle.model.specs.Bitmapping.{Record}
+use Rattle.model.specs.Runs.{listOf}
+use Rattle.model.specs.Verdicts.{verdict, lowest}
+
+-- the six tables of a comparison; root pairs and leaf pairs are together the pairing
+pub record Tables : Type 0 where
+  pub specNodes : List ℤ
+  pub specEdges : List ℤ
+  pub implNodes : List ℤ
+  pub implEdges : List ℤ
+  pub rootPairs : List ℤ
+  pub leafPairs : List ℤ
+
+abbrev pub specGraph : Tables → Graph
+specGraph t = graphOf (t .specNodes) (t .specEdges)
+
+abbrev pub implGraph : Tables → Graph
+implGraph t = graphOf (t .implNodes) (t .implEdges)
+
+abbrev pub rootRows : Tables → List Pair
+rootRows t = pairRows (t .rootPairs)
+
+abbrev pub leafRows : Tables → List Pair
+leafRows t = pairRows (t .leafPairs)
+
+-- a visit: one root row with one leaf row
+pub record Visit : Type 0 where
+  pub root : Pair
+  pub leaf : Pair
+
+-- visiting order: root row by root row, within it leaf row by leaf row
+unfoldable pub visits : List Pair → List Pair → List Visit
+visits roots leaves = flatMap (λ r. map (λ l. record { root = r; leaf = l }) leaves) roots
+
+-- what a visit finds: the bitmapping list of the specification and that of the implementation
+pub record Finding : Type 0 where
+  pub visit : Visit
+  pub spec : List Record
+  pub impl : List Record
+
+unfoldable pub findingOf : Tables → Visit → Finding
+findingOf t v =
+    record { visit = v; spec = listOf (specGraph t) (v .root .spec) (v .leaf .spec); impl = listOf (implGraph t) (v .root .impl) (v .leaf .impl) }
+
+-- what all visits find, in visiting order
+unfoldable pub findings : Tables → List Finding
+findings t = map (findingOf t) (visits (rootRows t) (leafRows t))
+
+-- the verdict on a pair
+unfoldable pub verdictOf : Finding → ℕ
+verdictOf f = verdict (f .spec) (f .impl)
+
+-- how often a verdict was given
+unfoldable pub count : ℕ → List ℕ → ℕ
+count v [] = 0
+count v (x ∷ t) = cond (eqb x v) (suc (count v t)) (count v t)
+
+-- the largest verdict given
+unfoldable pub largest : List ℕ → ℕ
+largest [] = 0
+largest (x ∷ t) = max x (largest t)
+
+-- the first pair in visiting order whose verdict is not 0
+unfoldable pub firstUnequal : List Finding → Option Finding
+firstUnequal [] = none
+firstUnequal (f ∷ t) = cond (eqb (verdictOf f) 0) (firstUnequal t) (some f)
+
+-- a place in the comparison: root row, leaf row and bit address, or −1 three times
+pub record Place : Type 0 where
+  pub root : ℤ
+  pub leaf : ℤ
+  pub address : ℤ
+
+unfoldable pub placeOf : Option Finding → Place
+placeOf none = record { root = negsuc 0; leaf = negsuc 0; address = negsuc 0 }
+placeOf (some f) = record { root = pos (f .visit .root .row); leaf = pos (f .visit .leaf .row); address = lowest (f .spec) (f .impl) }
+
+-- the full result: the counts of equal, partial and different pairs, the whole verdict, and the place of the first unequal pair
+pub record Result : Type 0 where
+  pub equal : ℕ
+  pub partial : ℕ
+  pub different : ℕ
+  pub verdict : ℕ
+  pub place : Place
+
+unfoldable pub resultOf : List Finding → Result
+resultOf fs =
+    record { equal = count 0 (map verdictOf fs); partial = count 1 (map verdictOf fs); different = count 2 (map verdictOf fs); verdict = largest (map verdictOf fs); place = placeOf (firstUnequal fs) }

@@ -1,0 +1,76 @@
+-- Demand 3, as one statement about two graphs, a pairing and a full result, by walks of single addresses. Assumes nothing.
+use mathlib.Core.Path.{_≡_}
+use mathlib.Core.Logic.{_≢_, _⊎_, _↔_}
+use mathlib.Core.List.{List, map}
+use Prim.Native.Nat.{ℕ, _+_, _*_, _<_}
+use lib.IntN.{ℤ, pos}
+use lib.Signed.{_≤ℤ_, _<ℤ_}
+use lib.ListN.{length}
+use Rattle.lists.specs.Lists.{_∈_}
+use Rattle.model.specs.Limits.{lastAddress}
+use Rattle.model.specs.Rows.{Pair}
+use Rattle.model.specs.Walk.{Reached}
+use Rattle.model.specs.Bitmapping.{Record, IsBitmappingList}
+use Rattle.model.specs.Verdicts.{verdict}
+use Rattle.model.specs.Compare.{Tables, specGraph, implGraph, rootRows, leafRows, Visit, visits, count, largest, Result}
+
+-- a bit address from 0 to 2^55 − 1
+pub record Address (x : ℤ) : Type 0 where
+  pub low : pos 0 ≤ℤ x
+  pub high : x ≤ℤ lastAddress
+
+-- leaf bit y is reached from bit address x in the specification, and in the implementation
+abbrev pub InSpec : Tables → Pair → Pair → ℤ → ℤ → Type 0
+InSpec t r l = Reached (specGraph t) (r .spec) (l .spec)
+
+abbrev pub InImpl : Tables → Pair → Pair → ℤ → ℤ → Type 0
+InImpl t r l = Reached (implGraph t) (r .impl) (l .impl)
+
+-- the set of leaf bits reached from x is the same in both graphs
+abbrev pub SameSets : Tables → Pair → Pair → ℤ → Type 0
+SameSets t r l x = (y : ℤ) → InSpec t r l x y ↔ InImpl t r l x y
+
+-- the two sets differ at x: some leaf bit is reached in one graph and not in the other
+abbrev pub SetsDiffer : Tables → Pair → Pair → ℤ → Type 0
+SetsDiffer t r l x = (y : ℤ) × ((InSpec t r l x y × (InImpl t r l x y → ⊥)) ⊎ ((InSpec t r l x y → ⊥) × InImpl t r l x y))
+
+-- the pair of root row q and leaf row m is visited before that of root row r and leaf row l
+abbrev pub VisitedBefore : Pair → Pair → Pair → Pair → Type 0
+VisitedBefore q m r l = (q .row < r .row) ⊎ ((q .row ≡ r .row) × (m .row < l .row))
+
+-- the verdicts that the comparing rules give, in visiting order, where spec and impl are the lists of each pair
+abbrev pub verdictsBy : Tables → (Visit → List Record) → (Visit → List Record) → List ℕ
+verdictsBy t spec impl = map (λ v. verdict (spec v) (impl v)) (visits (rootRows t) (leafRows t))
+
+-- spec and impl give the bitmapping lists of all pairs
+pub record ListsOfPairs (t : Tables) (spec impl : Visit → List Record) : Type 0 where
+  pub inSpec : (v : Visit) → v ∈ visits (rootRows t) (leafRows t) → IsBitmappingList (specGraph t) (v .root .spec) (v .leaf .spec) (spec v)
+  pub inImpl : (v : Visit) → v ∈ visits (rootRows t) (leafRows t) → IsBitmappingList (implGraph t) (v .root .impl) (v .leaf .impl) (impl v)
+
+-- the whole verdict and the three counts are those that the comparing rules define from the lists of all pairs
+pub record CountsOfPairs (t : Tables) (res : Result) (spec impl : Visit → List Record) : Type 0 where
+  pub equal : res .equal ≡ count 0 (verdictsBy t spec impl)
+  pub partial : res .partial ≡ count 1 (verdictsBy t spec impl)
+  pub different : res .different ≡ count 2 (verdictsBy t spec impl)
+  pub whole : res .verdict ≡ largest (verdictsBy t spec impl)
+
+-- the reported pair is the first in visiting order whose two sets differ at some address, and the reported address is the lowest
+pub record FirstDifference (t : Tables) (res : Result) : Type 0 where
+  pub root : Pair
+  pub leaf : Pair
+  pub paired : (root ∈ rootRows t) × (leaf ∈ leafRows t)
+  pub reportedRoot : res .place .root ≡ pos (root .row)
+  pub reportedLeaf : res .place .leaf ≡ pos (leaf .row)
+  pub address : Address (res .place .address)
+  pub differs : SetsDiffer t root leaf (res .place .address)
+  pub lowest : (x : ℤ) → x <ℤ res .place .address → SameSets t root leaf x
+  pub first : (q m : Pair) → q ∈ rootRows t → m ∈ leafRows t → VisitedBefore q m root leaf → (x : ℤ) → SameSets t q m x
+
+-- demand 3 of a full result
+pub record Demand3 (t : Tables) (res : Result) : Type 0 where
+  pub counts : (spec impl : Visit → List Record) → ListsOfPairs t spec impl → CountsOfPairs t res spec impl
+  pub total : res .equal + res .partial + res .different ≡ length (rootRows t) * length (leafRows t)
+  -- reported equal exactly when for every paired root, every paired leaf and every bit address the sets are the same
+  pub equal : (res .verdict ≡ 0)
+      ↔ ((r l : Pair) → r ∈ rootRows t → l ∈ leafRows t → (x : ℤ) → Address x → SameSets t r l x)
+  pub unequal : res .verdict ≢ 0 → FirstDifference t res

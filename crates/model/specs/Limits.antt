@@ -1,0 +1,59 @@
+-- The limits of document 01, and the numbers of a row. Assumes nothing.
+use Prim.Native.Nat.{ℕ, _^_, _-_}
+use lib.IntN.{ℤ, pos}
+
+-- numbers of a node row, an edge row and a pair row
+abbrev pub nodeWidth : ℕ
+nodeWidth = 4
+
+abbrev pub edgeWidth : ℕ
+edgeWidth = 3
+
+abbrev pub pairWidth : ℕ
+pairWidth = 2
+
+-- rows of a table at most
+abbrev pub maxNodes : ℕ
+maxNodes = 2000
+
+abbrev pub maxEdges : ℕ
+maxEdges = 2600
+
+abbrev pub maxPairs : ℕ
+maxPairs = 1000
+
+-- base + range of a node, and the size of an offset, in address units, at most
+abbrev pub maxUnits : ℕ
+maxUnits = 2 ^ 48
+
+-- the highest bit address of any node that keeps the limits
+abbrev pub lastAddress : ℤ
+lastAddress = pos (2 ^ 55 - 1)
+
+-- edges of a chain at most
+abbrev pub maxChain : ℕ
+maxChain = 64
+
+-- paths from a root to a leaf at most
+abbrev pub maxPaths : ℕ
+maxPaths = 1024
+
+-- bytes of a text at most
+abbrev pub maxText : ℕ
+maxText = 65536
+
+-- bytes of mapcheck's report buffer
+abbrev pub reportRoom : ℕ
+reportRoom = 65536
+
+-- digits of a value at most
+abbrev pub maxDigits : ℕ
+maxDigits = 18
+
+-- a tally's count stays from here on
+abbrev pub countCeiling : ℕ
+countCeiling = 2 ^ 63 - 1
+
+-- what the root row counts for in the row of refusal 10
+abbrev pub rootStride : ℕ
+rootStride = 1000

@@ -1,0 +1,161 @@
+-- The reader of map files, computed: the six tables of a text, or its first refusal. Assumes nothing.
+use mathlib.Core.Bool.{Bool, true, false, not, cond, _&&_, _||_}
+use mathlib.Core.List.{List, [], _∷_, _++_, map}
+use mathlib.Core.Option.{Option, none, some, Option·map}
+use Prim.Native.Nat.{ℕ, zero, suc, _+_, _-_, _*_}
+use lib.Dec.{leb, ltb, eqb}
+use lib.IntN.{ℤ, pos, negsuc}
+use lib.ListN.{length, getD}
+use Rattle.integers.specs.Integers.{eqZ}
+use Rattle.lists.specs.Lists.{all, isNil}
+use Rattle.model.specs.Limits.{maxText, maxDigits}
+use Rattle.model.specs.Bytes.{Bytes, lineFeed, blank, dash, same}
+use Rattle.model.specs.MapFile.{Table, nodeTable, edgeTable, pairTable, onto, lines, feeds}
+use Rattle.model.specs.Compare.{Tables}
+use Rattle.model.specs.Refusals.{Refusal}
+use Rattle.model.specs.Checks.{when, _then_}
+use Rattle.model.specs.Calls.{Answer, refused, full}
+
+-- ---- 12
+
+unfoldable pub allowed : ℕ → Bool
+allowed c = (leb 97 c && leb c 122) || (leb 48 c && leb c 57) || eqb c dash || eqb c blank || eqb c lineFeed
+
+-- the first byte that is not allowed, at its line; the first byte stands on line n
+unfoldable pub checkBytes : ℕ → Bytes → Option Refusal
+checkBytes n [] = none
+checkBytes n (c ∷ t) = let later = checkBytes (cond (eqb c lineFeed) (suc n) n) t in when (not (allowed c)) 12 6 n then later
+
+-- the last byte is no line feed
+unfoldable pub brokenOff : Bytes → Bool
+brokenOff [] = false
+brokenOff (c ∷ []) = not (eqb c lineFeed)
+brokenOff (c ∷ d ∷ t) = brokenOff (d ∷ t)
+
+unfoldable pub checkText : Bytes → Option Refusal
+checkText text = when (ltb maxText (length text)) 12 6 0 then checkBytes 1 text then when (brokenOff text) 12 6 (suc (feeds text))
+
+-- ---- fields and values
+
+-- the fields of a line: what its spaces part
+unfoldable pub fieldsOf : Bytes → List Bytes
+fieldsOf [] = [] ∷ []
+fieldsOf (c ∷ t) = let fs = fieldsOf t in cond (eqb c blank) ([] ∷ fs) (onto c fs)
+
+unfoldable pub isDigit : ℕ → Bool
+isDigit c = leb 48 c && leb c 57
+
+-- the number that the digits write, after digits that write v
+unfoldable pub numeral : ℕ → Bytes → ℕ
+numeral v [] = v
+numeral v (c ∷ t) = numeral (v * 10 + (c - 48)) t
+
+-- 1 to 18 digits, no leading zero
+unfoldable pub magnitude : Bytes → Option ℕ
+magnitude [] = none
+magnitude (c ∷ t) =
+    cond (all isDigit (c ∷ t) && leb (length (c ∷ t)) maxDigits && (not (eqb c 48) || isNil t)) (some (numeral 0 (c ∷ t))) none
+
+-- behind a minus, and not 0
+unfoldable pub negative : Option ℕ → Option ℤ
+negative none = none
+negative (some zero) = none
+negative (some (suc n)) = some (negsuc n)
+
+unfoldable pub valueOf : Bytes → Option ℤ
+valueOf [] = none
+valueOf (c ∷ t) = cond (eqb c dash) (negative (magnitude t)) (Option·map pos (magnitude (c ∷ t)))
+
+-- an element before the rest, where both are there
+unfoldable pub consOption : {A : Type 0} → Option A → Option (List A) → Option (List A)
+consOption none r = none
+consOption (some x) none = none
+consOption (some x) (some xs) = some (x ∷ xs)
+
+-- the values of all fields
+unfoldable pub valuesOf : List Bytes → Option (List ℤ)
+valuesOf [] = some []
+valuesOf (f ∷ fs) = consOption (valueOf f) (valuesOf fs)
+
+-- ---- lines
+
+-- the column of a name among the fields of a names line, the first of them column i
+unfoldable pub columnOf : Bytes → ℕ → List Bytes → Option ℕ
+columnOf name i [] = none
+columnOf name i (f ∷ fs) = elim (same name f) [ true ↦ some i | false ↦ columnOf name (suc i) fs ]
+
+unfoldable pub columnsOf : List Bytes → List Bytes → Option (List ℕ)
+columnsOf [] fs = some []
+columnsOf (n ∷ ns) fs = consOption (columnOf n 0 fs) (columnsOf ns fs)
+
+-- the columns of the table's names, if the line has exactly these
+unfoldable pub columns : List Bytes → Bytes → Option (List ℕ)
+columns names line = cond (eqb (length (fieldsOf line)) (length names)) (columnsOf names (fieldsOf line)) none
+
+-- a row whose first number, side or role, is 0 or 1
+unfoldable pub keyed : List ℤ → Option (List ℤ)
+keyed [] = none
+keyed (k ∷ r) = cond (eqZ k (pos 0) || eqZ k (pos 1)) (some (k ∷ r)) none
+
+-- the values at these columns, where there are as many values as columns
+unfoldable pub arranged : List ℕ → Option (List ℤ) → Option (List ℤ)
+arranged cs none = none
+arranged cs (some vs) = cond (eqb (length vs) (length cs)) (keyed (map (λ c. getD vs c (pos 0)) cs)) none
+
+-- the row of a value line, in the order of the table's names
+unfoldable pub rowOf : List ℕ → Bytes → Option (List ℤ)
+rowOf cs line = arranged cs (valuesOf (fieldsOf line))
+
+-- ---- tables
+
+-- what reading a table comes to: a refusal, or its rows, the lines that are left and the number of the first of them
+pub data Reading : Type 0 where
+  stopped : Refusal → Reading
+  rows : List (List ℤ) → List Bytes → ℕ → Reading
+
+unfoldable pub withRow : List ℤ → Reading → Reading
+withRow r (stopped f) = stopped f
+withRow r (rows rs rest n) = rows (r ∷ rs) rest n
+
+unfoldable pub stop : ℕ → ℕ → Reading
+stop number line = stopped (record { number = number; table = 6; row = line })
+
+-- the value lines from line n on; the last table ends with the text, another with an empty line
+unfoldable pub readValues : Bool → List ℕ → ℕ → List Bytes → Reading
+readValues last cs n [] = cond last (rows [] [] n) (stop 13 n)
+readValues last cs n (l ∷ ls) =
+    elim (isNil l && not last) [
+      | true ↦ rows [] ls (suc n)
+      | false ↦ elim (rowOf cs l) [ none ↦ stop 14 n | some r ↦ withRow r (readValues last cs (suc n) ls) ]
+    ]
+
+unfoldable pub readTable : Bool → Table → ℕ → List Bytes → Reading
+readTable last t n [] = stop 13 n
+readTable last t n (l ∷ ls) = elim (columns (t .names) l) [ none ↦ stop 13 n | some cs ↦ readValues last cs (suc n) ls ]
+
+-- the rows of one side or role, without that number, one after the other: rows count per side or role
+unfoldable pub rowsWith : ℤ → List (List ℤ) → List ℤ
+rowsWith k [] = []
+rowsWith k ([] ∷ rs) = rowsWith k rs
+rowsWith k ((x ∷ r) ∷ rs) = cond (eqZ x k) (r ++ rowsWith k rs) (rowsWith k rs)
+
+-- side 0 is the specification, 1 the implementation; role 0 root, 1 leaf
+unfoldable pub tablesOf : List (List ℤ) → List (List ℤ) → List (List ℤ) → Tables
+tablesOf ns es ps =
+    record { specNodes = rowsWith (pos 0) ns; specEdges = rowsWith (pos 0) es; implNodes = rowsWith (pos 1) ns; implEdges = rowsWith (pos 1) es; rootPairs = rowsWith (pos 0) ps; leafPairs = rowsWith (pos 1) ps }
+
+unfoldable pub readThird : List (List ℤ) → List (List ℤ) → Reading → Answer Tables
+readThird ns es (stopped r) = refused r
+readThird ns es (rows ps rest n) = full (tablesOf ns es ps)
+
+unfoldable pub readSecond : List (List ℤ) → Reading → Answer Tables
+readSecond ns (stopped r) = refused r
+readSecond ns (rows es rest n) = readThird ns es (readTable true pairTable n rest)
+
+unfoldable pub readFirst : Reading → Answer Tables
+readFirst (stopped r) = refused r
+readFirst (rows ns rest n) = readSecond ns (readTable false edgeTable n rest)
+
+-- the tables of a map file
+unfoldable pub readMap : Bytes → Answer Tables
+readMap text = elim (checkText text) [ some r ↦ refused r | none ↦ readFirst (readTable false nodeTable 1 (lines text)) ]

@@ -1,0 +1,108 @@
+-- The bitmapping list, computed: paths, the run of each path by shift and clip, and normalisation. Assumes nothing.
+use mathlib.Core.Bool.{Bool, not, cond, _&&_, _||_}
+use mathlib.Core.List.{List, [], _∷_, _++_, map, flatMap}
+use Prim.Native.Nat.{ℕ, zero, suc}
+use lib.IntN.{ℤ, pos, _+ℤ_, _-ℤ_}
+use lib.Signed.{leZ, ltZ}
+use Rattle.integers.specs.Integers.{eqZ, minZ, maxZ}
+use Rattle.lists.specs.Lists.{keep}
+use Rattle.model.specs.Limits.{maxChain}
+use Rattle.model.specs.Rows.{Node, Edge}
+use Rattle.model.specs.Graph.{Graph, node, firstBit, lastBit, bitOffset}
+use Rattle.model.specs.Bitmapping.{Record}
+
+-- ---- paths (000, Algorithm 3)
+
+-- the edges that leave v
+unfoldable pub leaving : Graph → ℤ → List Edge
+leaving g v = keep (λ e. eqZ (e .from) v) (g .edges)
+
+-- the paths from v to the leaf l over at most k edges. They end at l: no edge leaves a block
+unfoldable pub pathsWithin : ℕ → Graph → ℤ → ℤ → List (List Edge)
+pathsWithin zero g v l = cond (eqZ v l) ([] ∷ []) []
+pathsWithin (suc k) g v l =
+    let onward = flatMap (λ e. map (λ p. e ∷ p) (pathsWithin k g (e .to) l)) (leaving g v) in cond (eqZ v l) ([] ∷ []) onward
+
+-- the paths from a root to a leaf
+unfoldable pub paths : Graph → ℤ → ℤ → List (List Edge)
+paths g r l = pathsWithin maxChain g r l
+
+-- ---- runs (000, 2.15 to 2.19)
+
+-- the bit addresses low .. high at some node; `root` is the root bit that has walked to low, root + 1 to low + 1, and so on
+pub record Run : Type 0 where
+  pub root : ℤ
+  pub low : ℤ
+  pub high : ℤ
+
+-- the run has no bit
+unfoldable pub empty : Run → Bool
+empty r = ltZ (r .high) (r .low)
+
+-- all bits of a root
+unfoldable pub whole : Node → Run
+whole n = record { root = firstBit n; low = firstBit n; high = lastBit n }
+
+-- shift: every bit less the bit offset
+unfoldable pub shift : ℤ → Run → Run
+shift o r = record { root = r .root; low = r .low -ℤ o; high = r .high -ℤ o }
+
+-- clip: those bits that a walk may stand on the node with
+unfoldable pub clip : Node → Run → Run
+clip n r =
+    record { root = r .root +ℤ (maxZ (firstBit n) (r .low) -ℤ r .low); low = maxZ (firstBit n) (r .low); high = minZ (lastBit n) (r .high) }
+
+-- over an edge: shift, then clip at the node entered
+unfoldable pub across : Graph → Edge → Run → Run
+across g e r = clip (node g (e .to)) (shift (bitOffset g e) r)
+
+-- the run of a path: over its edges, one after the other
+unfoldable pub along : Graph → List Edge → Run → Run
+along g [] r = r
+along g (e ∷ p) r = along g p (across g e r)
+
+-- the runs of all paths from a root to a leaf, but for the empty ones
+unfoldable pub runs : Graph → ℤ → ℤ → List Run
+runs g r l = keep (λ s. not (empty s)) (map (λ p. along g p (whole (node g r))) (paths g r l))
+
+-- ---- records
+
+-- the record of a run at a leaf: leaf bits count from the leaf's first bit
+unfoldable pub recordOf : Node → Run → Record
+recordOf leaf r =
+    record { first = r .root; last = r .root +ℤ (r .high -ℤ r .low); displacement = r .root -ℤ (r .low -ℤ firstBit leaf) }
+
+-- two records of one displacement touch or overlap: no bit lies between them
+unfoldable pub touch : Record → Record → Bool
+touch r s = eqZ (r .displacement) (s .displacement) && leZ (s .first) (r .last +ℤ pos 1) && leZ (r .first) (s .last +ℤ pos 1)
+
+-- one record for two that touch
+unfoldable pub hull : Record → Record → Record
+hull r s = record { first = minZ (r .first) (s .first); last = maxZ (r .last) (s .last); displacement = r .displacement }
+
+-- r joined with every record of the list that it touches
+unfoldable pub joined : Record → List Record → Record
+joined r [] = r
+joined r (s ∷ t) = cond (touch r s) (hull (joined r t) s) (joined r t)
+
+-- r stands before s: by first, then displacement
+unfoldable pub before : Record → Record → Bool
+before r s = ltZ (r .first) (s .first) || (eqZ (r .first) (s .first) && ltZ (r .displacement) (s .displacement))
+
+-- r in its place in an ordered list
+unfoldable pub place : Record → List Record → List Record
+place r [] = r ∷ []
+place r (s ∷ t) = cond (before r s) (r ∷ s ∷ t) (s ∷ place r t)
+
+-- an ordered list of records that do not touch, with r joined in
+unfoldable pub add : Record → List Record → List Record
+add r l = place (joined r l) (keep (λ s. not (touch r s)) l)
+
+-- normalisation: runs of one displacement that touch or overlap are one record, in order (000, Algorithm 4)
+unfoldable pub normal : List Record → List Record
+normal [] = []
+normal (r ∷ t) = add r (normal t)
+
+-- the bitmapping list of root r and leaf l
+unfoldable pub listOf : Graph → ℤ → ℤ → List Record
+listOf g r l = normal (map (recordOf (node g l)) (runs g r l))

@@ -1,0 +1,88 @@
+-- The text check, its answer in C, the tally, and what mapcheck prints. Assumes nothing.
+use mathlib.Core.Bool.{cond}
+use mathlib.Core.List.{List, [], _∷_, _++_}
+use mathlib.Core.Option.{Option, none, some}
+use Prim.Native.Nat.{ℕ, suc, _+_, _*_}
+use lib.Dec.{ltb}
+use lib.IntN.{ℤ, pos, negℤ}
+use lib.ListN.{length, getD, set}
+use Rattle.model.specs.Limits.{reportRoom, countCeiling}
+use Rattle.model.specs.Bytes.{Bytes}
+use Rattle.model.specs.MapFile.{fileConditions}
+use Rattle.model.specs.Reader.{readMap}
+use Rattle.model.specs.Compare.{Tables, Finding, findings, Result, resultOf}
+use Rattle.model.specs.Refusals.{Refusal, Condition, _next_, compareConditions, outputConditions}
+use Rattle.model.specs.Checks.{_then_, checkTables, checkOutput}
+use Rattle.model.specs.Calls.{Answer, refused, full, answer, bufferAfter}
+use Rattle.model.specs.Report.{report, refusalReport}
+
+-- ---- text check: map file in, report out
+
+-- a report, with the whole verdict that it states
+pub record Reported : Type 0 where
+  pub verdict : ℕ
+  pub report : Bytes
+
+unfoldable pub reportedOf : List Finding → Reported
+reportedOf fs = record { verdict = resultOf fs .verdict; report = report fs }
+
+-- the check of the tables that were read, with room for so many bytes of report
+unfoldable pub checkRead : ℕ → Answer Tables → Answer Reported
+checkRead room (refused r) = refused r
+checkRead room (full t) = answer (checkTables t then checkOutput (length (report (findings t))) room) (reportedOf (findings t))
+
+-- the text check with a report buffer of so many bytes
+unfoldable pub textAnswer : ℕ → Bytes → Answer Reported
+textAnswer room text = checkRead room (readMap text)
+
+-- the report that it writes
+unfoldable pub reportOf : Answer Reported → Answer Bytes
+reportOf (refused r) = refused r
+reportOf (full c) = full (c .report)
+
+-- the report buffer afterwards
+unfoldable pub reportAfter : Bytes → Bytes → Bytes
+reportAfter text buffer = bufferAfter (reportOf (textAnswer (length buffer) text)) buffer
+
+-- the conditions on what was read: those of the comparison, then 11
+unfoldable pub readConditions : ℕ → Answer Tables → List Condition
+readConditions room (refused r) = []
+readConditions room (full t) = compareConditions t next outputConditions (length (report (findings t))) room
+
+-- the conditions of the text check, in order: text, tables, output
+unfoldable pub textConditions : ℕ → Bytes → List Condition
+textConditions room text = fileConditions text next readConditions room (readMap text)
+
+-- ---- the answer through C linkage: the report's length, or −(number × 100,000,000 + table × 10,000,000 + row)
+
+unfoldable pub coded : Answer ℕ → ℤ
+coded (full n) = pos n
+coded (refused r) = negℤ (pos (r .number * 100000000 + r .table * 10000000 + r .row))
+
+-- ---- tally: counts of equal, partial, different and refused
+
+-- the count that an answer adds to: that of its whole verdict, or the last
+unfoldable pub countOf : Answer Reported → ℕ
+countOf (refused r) = 3
+countOf (full c) = c .verdict
+
+-- one more at a place; a count at or above 2^63 − 1 stays
+unfoldable pub oneMore : ℕ → List ℕ → List ℕ
+oneMore i counts = cond (ltb (getD counts i 0) countCeiling) (set counts i (suc (getD counts i 0))) counts
+
+-- the tally record after the check of a text
+unfoldable pub tallyAfter : ℕ → Bytes → List ℕ → List ℕ
+tallyAfter room text counts = oneMore (countOf (textAnswer room text)) counts
+
+-- the fresh tally
+abbrev pub freshTally : List ℕ
+freshTally = 0 ∷ 0 ∷ 0 ∷ 0 ∷ []
+
+-- ---- mapcheck: what it prints for its input
+
+unfoldable pub printedOf : Answer Reported → Bytes
+printedOf (refused r) = refusalReport r
+printedOf (full c) = c .report
+
+unfoldable pub printed : Bytes → Bytes
+printed text = printedOf (textAnswer reportRoom text)

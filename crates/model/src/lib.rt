@@ -1,0 +1,93 @@
+// The address map graph model: quantities and answers. The definitions that every contract cites are in specs/.
+ghost use mathlib.Core.Path.{_≡_};
+ghost use Prim.Native.Nat.{_+_, _≤_, _^_};
+ghost use lib.IntN.{pos, negℤ, _-ℤ_, _*ℤ_};
+ghost use lib.Signed.{_≤ℤ_};
+ghost use Rattle.model.specs.Quantities.{Scalable, Movable};
+
+// A count of address units.
+pub struct Units(pub i64);
+
+// A bit address, or a difference of two.
+pub struct Bits(pub i64);
+
+impl Units {
+    // The number of a base, a range or an offset, as it stands in a row.
+    pub fn of(number: i64) -> Units
+        ensures { λ r. ⌜ r .0 ≡ number ⌝ }
+    {
+        Units(number)
+    }
+
+    // Scaled by the unit of a node: the only way from address units to bits.
+    pub fn scaled(self, unit: i64) -> Bits
+        requires { ⌜ Scalable (self .0) unit ⌝ }
+        ensures { λ r. ⌜ r .0 ≡ self .0 *ℤ unit ⌝ }
+    {
+        Bits(self.0 * unit)
+    }
+}
+
+impl Bits {
+    // The bit address after a walk over an edge with this bit offset.
+    pub fn less(self, offset: Bits) -> Bits
+        requires { ⌜ Movable (self .0) (offset .0) ⌝ }
+        ensures { λ r. ⌜ r .0 ≡ self .0 -ℤ offset .0 ⌝ }
+    {
+        Bits(self.0 - offset.0)
+    }
+}
+
+// Why a call refuses its input, in the order of the table of refusals. Tables and rows are those of that table.
+pub enum Reason {
+    Shape { table: usize },
+    Node { table: usize, row: usize },
+    Edge { table: usize, row: usize },
+    FromBlock { table: usize, row: usize },
+    Cycle { table: usize },
+    LongChain { table: usize },
+    NotPaired { table: usize, row: usize },
+    PairedBefore { table: usize, row: usize },
+    NoPair { table: usize },
+    ManyPaths { table: usize, row: usize },
+    LongOutput,
+    Characters { line: usize },
+    Names { line: usize },
+    Values { line: usize },
+}
+
+// The verdict on a pair, or on two graphs.
+pub enum Verdict {
+    Equal,
+    Partial,
+    Different,
+}
+
+// The answer of the check of one graph.
+pub enum Checked {
+    Taken,
+    Refused(Reason),
+}
+
+// The answer of a call that writes into a lent buffer: how many leaf bits, records or bytes it wrote.
+pub enum Written {
+    Count(usize),
+    Refused(Reason),
+}
+
+// The full result of a comparison. Where the verdict is equal, root, leaf and address are -1.
+pub struct Comparison {
+    pub equal: usize,
+    pub partial: usize,
+    pub different: usize,
+    pub verdict: Verdict,
+    pub root: i64,
+    pub leaf: i64,
+    pub address: i64,
+}
+
+// The answer of the comparison of two graphs.
+pub enum Compared {
+    Result(Comparison),
+    Refused(Reason),
+}

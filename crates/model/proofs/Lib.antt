@@ -4,4 +4,11 @@ pub mod Kept
 pub mod Distinct
 pub mod Paths
 pub mod Walks
+pub mod Records
+pub mod Uniqueness
+pub mod Normalisation
+pub mod Decisions
+pub mod Verdicts
+pub mod Lowest
+pub mod Chains
 pub mod Marked

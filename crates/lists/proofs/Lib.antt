@@ -1,1 +1,4 @@
 pub mod Membership
+pub mod Decisions
+pub mod Kept
+pub mod Distinct

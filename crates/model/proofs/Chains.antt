@@ -20,7 +20,8 @@ use Rattle.model.specs.Rows.{Edge}
 use Rattle.model.specs.Graph.{Graph, NodeRow}
 use Rattle.model.specs.Paths.{Way, stay, over, Cycle, LongChain}
 use Rattle.model.specs.Checks.{each, endingAt, followed, begins, cyclic, deep}
-use Rattle.model.proofs.Distinct.{distinct-length}
+use Rattle.lists.proofs.Decisions.{test-map, decides-as}
+use Rattle.lists.proofs.Distinct.{distinct-length}
 
 -- ---- each number once
 
@@ -171,19 +172,11 @@ longer-begins {k} {g} (over e m q y) h = isNil-no (begins k (g .edges)) (way-beg
 
 -- some edge is listed as one that begins a chain of k + 1 exactly where some way has more than k edges
 pub longer? : (k : ℕ) (g : Graph) → Test (Longer g k) (Longer g k → ⊥) (not (isNil (begins k (g .edges))))
-longer? k g = go (not (isNil (begins k (g .edges)))) (test? (not (isNil (begins k (g .edges)))))
-  where
-    Some : Bool
-    Some = not (isNil (begins k (g .edges)))
-
-    go : (t : Bool) → Test (T Some) (T (not Some)) t → Test (Longer g k) (Longer g k → ⊥) t
-    go true (passed h) = passed (let w = isNil-head (begins k (g .edges)) h in begins-longer k g (begins-way k g (w .0) .0 (w .1)))
-    go false (failed h) = failed (λ c. T-not Some h (longer-begins (c .chain) (c .long)))
-
--- a test of P is a test of what P is the same as
-test-same : {P Q : Type 0} {t : Bool} → (P → Q) → (Q → P) → Test P (P → ⊥) t → Test Q (Q → ⊥) t
-test-same f g (passed p) = passed (f p)
-test-same f g (failed n) = failed (λ q. n (g q))
+longer? k g =
+    let found = begins k (g .edges) in
+    test-map (λ h. let w = isNil-head found h in begins-longer k g (begins-way k g (w .0) .0 (w .1)))
+    (λ h c. T-not (not (isNil found)) h (longer-begins (c .chain) (c .long)))
+    (test? (not (isNil found)))
 
 -- ---- a chain of more than 64 edges
 
@@ -191,9 +184,10 @@ test-same f g (failed n) = failed (λ q. n (g q))
 pub deep? : (g : Graph) → Test (LongChain g) (LongChain g → ⊥) (deep g)
 unfolding deep
 deep? g =
-    test-same (λ (c : Longer g maxChain). record { from = c .from; to = c .to; edges = c .edges; long = c .long; chain = c .chain })
-    (λ (c : LongChain g). record { from = c .from; to = c .to; edges = c .edges; long = c .long; chain = c .chain })
-    (longer? maxChain g)
+    let same : Longer g maxChain ↔ LongChain g = (
+      λ c. record { from = c .from; to = c .to; edges = c .edges; long = c .long; chain = c .chain },
+      λ c. record { from = c .from; to = c .to; edges = c .edges; long = c .long; chain = c .chain },
+    ) in decides-as same (longer? maxChain g)
 
 -- where a chain has more than 64 edges, some way has 65
 pub deep-way : {g : Graph} → LongChain g → (v w : ℤ) × (p : List Edge) × Way g v p w × (length p ≡ suc maxChain)
@@ -309,6 +303,4 @@ module _ (g : Graph) (rows : (e : Edge) → e ∈ g .edges → NodeRow g (e .fro
   -- its part between the two is a cycle. Going round a cycle often enough is a way of more edges than there are nodes.
   pub cyclic? : Test (Cycle g) (Cycle g → ⊥) (cyclic g)
   unfolding cyclic
-  cyclic? =
-      test-same (λ (c : Longer g (length (g .nodes))). longer-cycle (c .chain) (c .long)) (λ c. cycle-longer c (length (g .nodes)))
-      (longer? (length (g .nodes)) g)
+  cyclic? = decides-as (λ c. longer-cycle (c .chain) (c .long), λ c. cycle-longer c (length (g .nodes))) (longer? (length (g .nodes)) g)

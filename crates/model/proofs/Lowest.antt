@@ -16,7 +16,7 @@ use Rattle.lists.proofs.Membership.{keep-in, keep-out, keep-nil}
 use Rattle.model.specs.Bitmapping.{Record, Has}
 use Rattle.model.specs.Verdicts.{hasBit, bitsWithin, differsAt, changes, least, leastOf, lowest}
 use Rattle.model.proofs.Records.{displacement-of, has-at}
-use Rattle.model.proofs.Decisions.{Decides, test-map, not?, and?, or?, decides-as, decides-and, decides-le, all?, any?}
+use Rattle.lists.proofs.Decisions.{Decides, test-map, not?, and?, or?, decides-as, decides-and, decides-le, all?, any?}
 
 -- some record of the list has root bit x with leaf bit y
 abbrev pub HasSome : List Record → ℤ → ℤ → Type 0

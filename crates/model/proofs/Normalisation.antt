@@ -11,6 +11,7 @@ use lib.ListN.{length}
 use lib.Signed.{_≤ℤ_}
 use Rattle.integers.proofs.Linear.{ints, sum, diff}
 use Rattle.integers.proofs.Tests.{Test, passed, failed}
+use Rattle.lists.proofs.Kept.{keep-length}
 use Rattle.lists.specs.Lists.{_∈_, keep}
 use Rattle.lists.proofs.Membership.{keep-in, keep-out}
 use Rattle.model.specs.Bitmapping.{Record, Has, Before, Ordered, none, more, IsListOf}
@@ -301,15 +302,6 @@ place-length r (s ∷ l) = go (before r s) (place-length r l)
     go : (b : Bool) → length (place r l) ≡ suc (length l) → length (cond b (r ∷ s ∷ l) (s ∷ place r l)) ≡ suc (suc (length l))
     go true e = refl
     go false e = ap suc e
-
-keep-length : (f : Record → Bool) (l : List Record) → length (keep f l) ≤ length l
-unfolding keep
-keep-length f [] = omega arith
-keep-length f (s ∷ l) = go (f s) (keep-length f l)
-  where
-    go : (b : Bool) → length (keep f l) ≤ length l → length (cond b (s ∷ keep f l) (keep f l)) ≤ suc (length l)
-    go true h = omega arith
-    go false h = omega arith
 
 add-length : (r : Record) (l : List Record) → (1 ≤ length (add r l)) × (length (add r l) ≤ suc (length l))
 unfolding add

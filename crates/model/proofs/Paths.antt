@@ -18,7 +18,7 @@ use Rattle.model.specs.Rows.{Edge, edgesFrom, edgeRows}
 use Rattle.model.specs.Graph.{Graph}
 use Rattle.model.specs.Paths.{Way, stay, over, ManyPaths, LongChain}
 use Rattle.model.specs.Runs.{leaving, pathsWithin, paths}
-use Rattle.model.proofs.Distinct.{distinct-length, keep-distinct, cond-distinct, map-distinct, flatMap-distinct}
+use Rattle.lists.proofs.Distinct.{distinct-length, keep-distinct, cond-distinct, map-distinct, flatMap-distinct}
 
 -- what a graph that meets no condition for a refusal and a leaf of it have: no long chain, and no edge that leaves the leaf
 pub record Fit (g : Graph) (l : ℤ) : Type 0 where

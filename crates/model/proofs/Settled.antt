@@ -1,9 +1,9 @@
 -- A check settles a list of conditions: it gives the refusal of the first that holds, or none where none holds.
 -- These laws build such checks from their parts, and turn one into what a call answers.
 use mathlib.Core.Path.{_≡_, refl, sym, ap, subst, _∙_}
-use mathlib.Core.Bool.{Bool, true, false}
-use mathlib.Core.Logic.{_⊎_, inl, inr, _↔_, Iff·trans}
-use mathlib.Core.List.{List, [], _∷_, _++_, flatMap, List·Memᴰ·head, List·Memᴰ·tail, List·Memᴰ·not-nil}
+use mathlib.Core.Bool.{Bool}
+use mathlib.Core.Logic.{inl, inr, _↔_, Iff·trans}
+use mathlib.Core.List.{List, [], _∷_, flatMap, List·Memᴰ·head, List·Memᴰ·tail, List·Memᴰ·not-nil}
 use mathlib.Core.Option.{Option, none, some}
 use Prim.Native.Nat.{ℕ}
 use native.Mathlib.Omega.{arith}
@@ -95,7 +95,8 @@ settled-when n t r (passed p) = inl (p, refl)
 settled-when n t r (failed q) = (q, tt)
 
 -- checks of rows, row by row, settle the conditions of all rows
-pub settled-each : {A : Type 0} (f : A → Option Refusal) (cs : A → List Condition) (xs : List A) → ((x : A) → x ∈ xs → Settled (f x) (cs x)) → Settled (firstOf f xs) (flatMap cs xs)
+pub settled-each : {A : Type 0} (f : A → Option Refusal) (cs : A → List Condition) (xs : List A) → ((x : A) → x ∈ xs → Settled (f x) (cs x))
+    → Settled (firstOf f xs) (flatMap cs xs)
 unfolding firstOf flatMap
 settled-each f cs [] h = tt
 settled-each f cs (x ∷ xs) h =
@@ -112,6 +113,12 @@ settled-some (some s) {r} cs h = (λ e. let q : s ≡ r = cc in subst (λ (t : R
 pub settled-none : (c : Option Refusal) (cs : List Condition) → Settled c cs → (c ≡ none) ↔ NoneHolds cs
 settled-none none cs h = (λ e. h, λ p. refl)
 settled-none (some s) cs h = (λ e. absurd (let z : _≡_ {A = ℕ} 0 1 = cc in omega arith), λ p. absurd (first-not-none s cs h p))
+
+-- an answer against the conditions of its call: it refuses exactly with the refusal of the first that holds, and gives its full result
+-- exactly when none holds
+pub record Exact {A : Type 0} (given : Answer A) (result : A) (cs : List Condition) : Type 0 where
+  pub refuses : (r : Refusal) → (given ≡ refused r) ↔ FirstHolds r cs
+  pub gives : (given ≡ full result) ↔ NoneHolds cs
 
 module _ {A : Type 0} (a : A) where
   answer-some : (c : Option Refusal) {r : Refusal} → (answer c a ≡ refused r) ↔ (c ≡ some r)
@@ -131,3 +138,7 @@ module _ {A : Type 0} (a : A) where
   -- a call whose check settles gives its full result exactly when no condition holds
   pub answer-full : (c : Option Refusal) (cs : List Condition) → Settled c cs → (answer c a ≡ full a) ↔ NoneHolds cs
   answer-full c cs h = Iff·trans (answer-none c) (settled-none c cs h)
+
+  -- a call whose check settles its conditions answers exactly
+  pub answer-exact : (c : Option Refusal) (cs : List Condition) → Settled c cs → Exact (answer c a) a cs
+  answer-exact c cs h = record { refuses = λ r. answer-refused c cs h; gives = answer-full c cs h }

@@ -11,7 +11,7 @@ use Rattle.lists.specs.Lists.{_∈_, any, all, isNil}
 use Rattle.model.specs.Bitmapping.{Record}
 use Rattle.model.specs.Verdicts.{firstLeafBit, lastLeafBit, Contained, Partly, Rules, equal, partial, different, sameRecord, sameList, contained, verdict}
 use Rattle.model.proofs.Records.{record-path}
-use Rattle.model.proofs.Decisions.{Decides, test-map, not?, decides-iff, decides-as, decides-and, decides-le, decides-nil, all?, any?}
+use Rattle.lists.proofs.Decisions.{Decides, test-map, not?, decides-iff, decides-as, decides-and, decides-le, decides-nil, all?, any?}
 
 -- ---- the tests
 

@@ -1,17 +1,17 @@
 -- What a test made of tests says: denied, joined, or made on each element of a list.
 use mathlib.Core.Path.{_≡_, refl}
-use mathlib.Core.Bool.{Bool, not, _&&_, _||_}
-use mathlib.Core.Logic.{_⊎_, inl, inr, _↔_}
+use mathlib.Core.Bool.{Bool, true, false, not, _&&_, _||_}
+use mathlib.Core.Logic.{_⊎_, inl, inr, ⊎-elim, _↔_}
 use mathlib.Core.List.{List, [], _∷_}
-use Prim.Native.Nat.{ℕ}
+use Prim.Native.Nat.{ℕ, _<_}
 use native.Mathlib.Omega.{arith}
-use lib.Dec.{T, T-not, not-T}
+use lib.Dec.{T, T-not, not-T, ltb}
 use lib.IntN.{ℤ}
 use lib.Signed.{leZ, _≤ℤ_}
 use Rattle.integers.proofs.Linear.{ints}
-use Rattle.integers.proofs.Tests.{Test, passed, failed, le?, test?, test-of, of-test}
+use Rattle.integers.proofs.Tests.{Test, passed, failed, le?, ltb?, test?, test-of, of-test}
 use Rattle.lists.specs.Lists.{_∈_, any, all, isNil}
 use Rattle.lists.proofs.Membership.{any-in, any-out, all-out, all-fails}
 
 -- what follows from what a test says, it says too
 pub test-map : {P Q P′ Q′ : Type 0} {t : Bool} → (P → P′) → (Q → Q′) → Test P Q t → Test P′ Q′ t
@@ -60,6 +60,27 @@ decides-and d e = test-map (λ p. p) none (and? d e)
 -- leZ decides the order
 pub decides-le : (a b : ℤ) → Decides (a ≤ℤ b) (leZ a b)
 decides-le a b = test-map (λ h. h) (λ h k. omega (arith, ints)) (le? a b)
+
+-- what a test says where it passes holds if what it says where it fails does not
+pub test-stable : {P Q : Type 0} {a : Bool} → Test P Q a → (Q → ⊥) → P
+test-stable t n = test-of t (of-test t n)
+
+-- a test that decides P decides, denied, that P does not hold
+pub decides-not : {P : Type 0} {a : Bool} → Decides P a → Decides (P → ⊥) (not a)
+decides-not d = test-map (λ n. n) (λ p n. n p) (not? d)
+
+-- tests that decide two statements decide whether one of them holds
+pub decides-or : {P Q : Type 0} {a b : Bool} → Decides P a → Decides Q b → Decides (P ⊎ Q) (a || b)
+decides-or d e = test-map (λ c. c) (λ n c. ⊎-elim (n .0) (n .1) c) (or? d e)
+
+-- or associates
+pub or-regroup : {P Q : Type 0} (a b c : Bool) → Test P Q (a || (b || c)) → Test P Q (a || b || c)
+or-regroup true b c t = t
+or-regroup false b c t = t
+
+-- ltb decides the order of two numbers
+pub decides-lt : (m n : ℕ) → Decides (m < n) (ltb m n)
+decides-lt m n = test-map (λ h. h) (λ h k. omega arith) (ltb? m n)
 
 -- isNil decides whether a list is empty
 pub decides-nil : {A : Type 0} (l : List A) → Decides (l ≡ []) (isNil l)

@@ -19,7 +19,8 @@ use Rattle.model.specs.Calls.{compareAnswer}
 use Rattle.lists.proofs.Decisions.{Decides, test-map, not?, and?, decides-and, decides-nil, any?, test-stable, decides-or, decides-lt}
 use Rattle.model.proofs.Settled.{Settled, settled-next, settled-when, settled-each, none-next, none-flatMap, Exact, answer-exact}
 use Rattle.model.proofs.GraphChecks.{shape-settled, isRoot?, isLeaf?, graph-settled}
-use Rattle.model.proofs.Taken.{Taken, graph-taken}
+use Rattle.model.specs.Taken.{Taken}
+use Rattle.model.proofs.Taken.{graph-taken}
 use Rattle.model.proofs.SingleChecks.{manyPaths?}
 use Rattle.model.proofs.Visits.{visits-in}
 

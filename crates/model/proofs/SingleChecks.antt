@@ -16,7 +16,8 @@ use Rattle.lists.proofs.Decisions.{Decides, decides-as, test-stable, decides-no
 use Rattle.model.proofs.Settled.{Settled, settled-next, settled-when, Exact, answer-exact}
 use Rattle.model.proofs.Paths.{many-paths}
 use Rattle.model.proofs.GraphChecks.{isRoot?, isLeaf?, graph-settled}
-use Rattle.model.proofs.Taken.{Taken, graph-taken, taken-fit}
+use Rattle.model.specs.Taken.{Taken}
+use Rattle.model.proofs.Taken.{graph-taken, taken-fit}
 
 -- the test for more than 1,024 paths to a leaf of a taken graph
 pub manyPaths? : {g : Graph} {r l : ℤ} → Taken g → Leaf g l → Decides (ManyPaths g r l) (manyPaths g r l)

@@ -2,7 +2,7 @@
 use mathlib.Core.Path.{_≡_, refl, sym, ap, subst}
 use mathlib.Core.Logic.{_≢_, inl, inr}
 use mathlib.Core.List.{List, [], _∷_, flatMap, List·Memᴰ·head, List·Memᴰ·tail}
-use Prim.Native.Nat.{ℕ, zero, suc, _+_, _*_, _≤_, _<_, _^_}
+use Prim.Native.Nat.{ℕ, zero, suc, _+_, _*_, _%_, _≤_, _<_, _^_}
 use native.Mathlib.Nat.{mul-le-mul}
 use native.Mathlib.Omega.{arith}
 use lib.IntN.{ℤ, pos, negsuc, negℤ, _+ℤ_, _*ℤ_}
@@ -10,28 +10,19 @@ use lib.Signed.{_≤ℤ_}
 use lib.ListN.{length, getD}
 use Rattle.integers.proofs.Linear.{plus, minus, ints, sum, diff, neg}
 use Rattle.integers.proofs.Products.{times, times-bound}
-use Rattle.integers.proofs.Tests.{le?}
+use Rattle.integers.proofs.Tests.{le?, eq?, leb?}
 use Rattle.lists.proofs.Decisions.{test-stable}
 use Rattle.lists.specs.Lists.{_∈_, Distinct}
-use Rattle.model.specs.Limits.{maxUnits, lastAddress}
+use Rattle.model.specs.Limits.{nodeWidth, edgeWidth, maxNodes, maxEdges, maxUnits, lastAddress}
 use Rattle.model.specs.Rows.{Node, Edge, nodeRows, edgeRows}
 use Rattle.model.specs.Graph.{Graph, graphOf, NodeRow, noNode, node, block, firstBit, lastBit, bitOffset}
 use Rattle.model.specs.Walk.{StandsOn}
 use Rattle.model.specs.Paths.{Leaf, Cycle, LongChain}
-use Rattle.model.specs.Refusals.{NoneHolds, refuse, _next_, Kind, AddressUnit, BadNode, unknownKind, unknownUnit, lowBase, lowRange, highEnd, lowOffset, highOffset, shapeConditions, nodeConditions, edgeConditions, graphConditions}
+use Rattle.model.specs.Refusals.{NoneHolds, refuse, _next_, Kind, AddressUnit, BadNode, unknownKind, unknownUnit, lowBase, lowRange, highEnd, lowOffset, highOffset, BadShape, broken, tooMany, shapeConditions, nodeConditions, edgeConditions, graphConditions}
+use Rattle.model.specs.Taken.{Taken, GoodShape, TakenTables}
 use Rattle.model.proofs.Settled.{none-next, none-flatMap}
 use Rattle.model.proofs.Paths.{Fit, edges-distinct}
 use Rattle.model.proofs.GraphChecks.{isKind?, isUnit?, edges-good, edges-end}
-
--- what a graph that meets no condition has
-pub record Taken (g : Graph) : Type 0 where
-  pub acyclic : Cycle g → ⊥
-  pub short : LongChain g → ⊥
-  pub good : (v : ℤ) → NodeRow g v → BadNode (node g v) → ⊥
-  pub ends : (e : Edge) → e ∈ g .edges → NodeRow g (e .from) × NodeRow g (e .to)
-  pub offsets : (e : Edge) → e ∈ g .edges → (negℤ (pos maxUnits) ≤ℤ e .offset) × (e .offset ≤ℤ pos maxUnits)
-  pub fromNoBlock : (e : Edge) → e ∈ g .edges → node g (e .from) .kind ≢ block
-  pub distinct : Distinct (g .edges)
 
 -- ---- a graph that meets no condition is taken
 
@@ -82,6 +73,20 @@ graph-taken t ns es h =
       fromNoBlock = edges-from (suc t) g (edges .0);
       distinct = edges-distinct es;
     }
+
+-- a table whose shape is not bad has a good one
+shape-good : (width most : ℕ) (xs : List ℤ) → (BadShape width most xs → ⊥) → GoodShape width most xs
+shape-good width most xs n =
+    record {
+      whole = test-stable (eq? (length xs % width) 0) (λ k. n (broken k));
+      few = test-stable (leb? (length xs) (width * most)) (λ k. n (tooMany k));
+    }
+
+-- the tables of a graph that meets no condition are taken
+pub tables-taken : (t : ℕ) (ns es : List ℤ) → NoneHolds (graphConditions t ns es) → TakenTables ns es
+unfolding graphConditions shapeConditions
+tables-taken t ns es h =
+    record { graph = graph-taken t ns es h; nodes = shape-good nodeWidth maxNodes ns (h .0); edges = shape-good edgeWidth maxEdges es (h .1 .0) }
 
 -- ---- leaves
 

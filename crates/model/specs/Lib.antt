@@ -9,6 +9,7 @@ pub mod Runs
 pub mod Verdicts
 pub mod Compare
 pub mod Refusals
+pub mod Taken
 pub mod Checks
 pub mod Calls
 pub mod Demands

@@ -1,0 +1,35 @@
+-- What a graph that meets no condition for a refusal has: the contracts of what runs after a check ask for it. Assumes nothing.
+use mathlib.Core.Path.{_≡_}
+use mathlib.Core.Logic.{_≢_}
+use mathlib.Core.List.{List}
+use Prim.Native.Nat.{ℕ, _*_, _%_, _≤_}
+use lib.IntN.{ℤ, pos, negℤ}
+use lib.Signed.{_≤ℤ_}
+use lib.ListN.{length}
+use Rattle.lists.specs.Lists.{_∈_, Distinct}
+use Rattle.model.specs.Limits.{nodeWidth, edgeWidth, maxNodes, maxEdges, maxUnits}
+use Rattle.model.specs.Rows.{Edge}
+use Rattle.model.specs.Graph.{Graph, graphOf, NodeRow, node, block}
+use Rattle.model.specs.Paths.{Cycle, LongChain}
+use Rattle.model.specs.Refusals.{BadNode}
+
+-- no cycle, no chain of more than 64 edges, every node row good, every edge row good, and no edge from a block
+pub record Taken (g : Graph) : Type 0 where
+  pub acyclic : Cycle g → ⊥
+  pub short : LongChain g → ⊥
+  pub good : (v : ℤ) → NodeRow g v → BadNode (node g v) → ⊥
+  pub ends : (e : Edge) → e ∈ g .edges → NodeRow g (e .from) × NodeRow g (e .to)
+  pub offsets : (e : Edge) → e ∈ g .edges → (negℤ (pos maxUnits) ≤ℤ e .offset) × (e .offset ≤ℤ pos maxUnits)
+  pub fromNoBlock : (e : Edge) → e ∈ g .edges → node g (e .from) .kind ≢ block
+  pub distinct : Distinct (g .edges)
+
+-- whole rows, and no more of them than the limit
+pub record GoodShape (width most : ℕ) (xs : List ℤ) : Type 0 where
+  pub whole : length xs % width ≡ 0
+  pub few : length xs ≤ width * most
+
+-- a node table and an edge table whose graph is taken
+pub record TakenTables (ns es : List ℤ) : Type 0 where
+  pub graph : Taken (graphOf ns es)
+  pub nodes : GoodShape nodeWidth maxNodes ns
+  pub edges : GoodShape edgeWidth maxEdges es

@@ -1,8 +1,8 @@
 -- The counts, the largest verdict and the first unequal pair of a list of findings.
 use mathlib.Core.Path.{_≡_, refl, sym, ap, _∙_, subst}
 use mathlib.Core.Bool.{Bool, true, false, cond}
-use mathlib.Core.List.{List, [], _∷_, _++_, List·Memᴰ·head, List·Memᴰ·tail, List·Memᴰ·not-nil, List·Memᴰ·cases-cons, Memᴰ·append-right}
-use mathlib.Core.Logic.{_≢_, _↔_, ⊎-elim}
+use mathlib.Core.List.{List, [], _∷_, _++_, map, List·Memᴰ·head, List·Memᴰ·tail, List·Memᴰ·not-nil, List·Memᴰ·cases-cons, Memᴰ·append-right}
+use mathlib.Core.Logic.{_≢_, _↔_, Iff·trans, ⊎-elim}
 use mathlib.Core.Option.{Option, none, some}
 use Prim.Native.Nat.{ℕ, zero, suc, _+_, _≤_, max}
 use native.Mathlib.Omega.{arith}
@@ -10,7 +10,8 @@ use lib.Dec.{eqb}
 use lib.ListN.{length}
 use Rattle.integers.proofs.Tests.{Test, passed, failed, eq?}
 use Rattle.lists.specs.Lists.{_∈_}
-use Rattle.model.specs.Compare.{Finding, verdictOf, count, largest, firstUnequal}
+use Rattle.lists.proofs.Membership.{map-in, map-out}
+use Rattle.model.specs.Compare.{Finding, verdictOf, count, largest, firstUnequal, placeOf}
 
 -- the three counts together are as many as the verdicts
 pub counts-total : (vs : List ℕ) → ((v : ℕ) → v ∈ vs → v ≤ 2) → count 0 vs + count 1 vs + count 2 vs ≡ length vs
@@ -36,6 +37,12 @@ largest-zero (v ∷ vs) = both (largest-zero vs)
       λ e w m. ⊎-elim (λ q. omega arith) (λ n. rec .0 (omega arith) w n) (List·Memᴰ·cases-cons m),
       λ h. let p = h v (List·Memᴰ·head refl) in let q = rec .1 (λ w m. h w (List·Memᴰ·tail m)) in omega arith,
     )
+
+-- the largest verdict of findings is 0 exactly where that of each is
+pub largest-equal : (fs : List Finding) → (largest (map verdictOf fs) ≡ 0) ↔ ((f : Finding) → f ∈ fs → verdictOf f ≡ 0)
+largest-equal fs =
+    Iff·trans (largest-zero (map verdictOf fs))
+    (λ h f m. h (verdictOf f) (map-in verdictOf m), λ h v m. let w = map-out verdictOf fs m in w .2 ∙ h (w .0) (w .1))
 
 -- the first unequal finding of a list: all ahead of it have verdict 0, and it has not
 pub record FirstUnequal (fs : List Finding) (f : Finding) : Type 0 where
@@ -83,3 +90,7 @@ first-unequal-none fs = (λ e. subst (FirstFound fs) e (first-unequal fs), λ h.
     go : ((f : Finding) → f ∈ fs → verdictOf f ≡ 0) → (o : Option Finding) → FirstFound fs o → o ≡ none
     go h none w = refl
     go h (some f) w = absurd (w .unequal (h f (first-unequal-in w)))
+
+-- where all verdicts are 0, there is no place to report
+pub place-none : (fs : List Finding) → largest (map verdictOf fs) ≡ 0 → placeOf (firstUnequal fs) ≡ placeOf none
+place-none fs e = ap placeOf (first-unequal-none fs .1 (largest-equal fs .0 e))

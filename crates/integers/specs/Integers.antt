@@ -1,5 +1,5 @@
 -- Tests on signed numbers. The order and its tests are the library's (lib.Signed); these are beside them. Assumes nothing.
-use mathlib.Core.Bool.{Bool, true, false, cond}
+use mathlib.Core.Bool.{Bool, false, cond}
 use lib.Dec.{eqb}
 use lib.IntN.{ℤ, pos, negsuc}
 use lib.Signed.{leZ}

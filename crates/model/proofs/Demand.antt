@@ -19,15 +19,15 @@ use Rattle.model.specs.Compare.{Tables, specGraph, implGraph, rootRows, 
 use Rattle.model.specs.Refusals.{Refusal, NoneHolds, compareConditions}
 use Rattle.model.specs.Checks.{checkTables}
 use Rattle.model.specs.Calls.{full, answer, compareAnswer}
-use Rattle.model.specs.Demands.{Address, InSpec, InImpl, SameSets, SetsDiffer, VisitedBefore, verdictsBy, ListsOfPairs, FirstDifference, Demand3}
+use Rattle.model.specs.Demands.{Address, InSpec, InImpl, SameSets, SetsDiffer, VisitedBefore, inOrder, VerdictsOfPairs, FirstDifference, Demand3}
 use Rattle.model.proofs.Paths.{Fit}
 use Rattle.model.proofs.Walks.{reached-address}
-use Rattle.model.proofs.Verdicts.{verdict-equal, verdict-range}
+use Rattle.model.proofs.Verdicts.{verdict-equal, verdict-range, rules-unique}
 use Rattle.model.proofs.Lowest.{HasSome, DifferOn, DifferAt, lowest?, lowest-agrees}
 use Rattle.model.proofs.ListLaw.{list-only, list-reached, list-same}
 use Rattle.model.proofs.Taken.{taken-fit, taken-address}
 use Rattle.model.proofs.Visits.{Ascends, ascends-map, ascends-ahead, pairs-ascending, VisitBefore, visit-before-asym, visits-in, visits-ascending, visits-length}
-use Rattle.model.proofs.Folds.{counts-total, largest-equal, FirstUnequal, first-unequal-in, FirstFound, first-unequal}
+use Rattle.model.proofs.Folds.{counts-total, largest-equal, FirstUnequal, first-unequal-in, FirstFound, first-unequal, place-none}
 use Rattle.model.proofs.Pairing.{Comparable, compare-exact, compare-comparable}
 
 -- the two lists of a pair
@@ -136,17 +136,18 @@ map-same f g [] h = refl
 map-same f g (x ∷ l) h = cc (h x (List·Memᴰ·head refl), map-same f g l (λ y m. h y (List·Memᴰ·tail m)))
 
 module _ {t : Tables} (c : Comparable t) where
-  -- verdicts by any lists that are the bitmapping lists of the pairs are those of the findings: there are no other such lists
-  verdicts-found : {spec impl : Visit → List Record} → ListsOfPairs t spec impl → verdictsBy t spec impl ≡ verdicts t
+  -- verdicts that the comparing rules give for any lists that are the bitmapping lists of the pairs are those of the findings: there
+  -- are no other such lists, and the rules give one verdict
+  verdicts-found : {spec impl : Visit → List Record} {given : Visit → ℕ} → VerdictsOfPairs t spec impl given → inOrder t given ≡ verdicts t
   unfolding findings findingOf verdictOf
-  verdicts-found {spec} {impl} b =
+  verdicts-found {spec} {impl} {given} b =
       let all = visits (rootRows t) (leafRows t) in
-      map-same (λ v. verdict (spec v) (impl v)) (λ v. verdictOf (findingOf t v)) all same ∙ sym (map-map verdictOf (findingOf t) all)
+      map-same given (λ v. verdictOf (findingOf t v)) all same ∙ sym (map-map verdictOf (findingOf t) all)
     where
-      same : (v : Visit) → v ∈ visits (rootRows t) (leafRows t) → verdict (spec v) (impl v) ≡ verdict (specList t (v .root) (v .leaf)) (implList t (v .root) (v .leaf))
+      same : (v : Visit) → v ∈ visits (rootRows t) (leafRows t) → given v ≡ verdict (specList t (v .root) (v .leaf)) (implList t (v .root) (v .leaf))
       same v m =
           let w = visits-in (rootRows t) (leafRows t) .0 m in
-          cc (list-only (spec-fit c (w .0) (w .1)) (b .inSpec v m), list-only (impl-fit c (w .0) (w .1)) (b .inImpl v m))
+          cc (rules-unique (b .rules v m), list-only (spec-fit c (w .0) (w .1)) (b .inSpec v m), list-only (impl-fit c (w .0) (w .1)) (b .inImpl v m))
 
   -- the whole verdict is 0 exactly where the sets of every pair are the same at every address of the range
   whole-equal : (largest (verdicts t) ≡ 0) ↔ ((r l : Pair) → r ∈ rootRows t → l ∈ leafRows t → (x : ℤ) → Address x → SameSets t r l x)
@@ -235,11 +236,12 @@ result-demand : {t : Tables} → Comparable t → Demand3 t (resultOf (findings 
 unfolding resultOf
 result-demand {t} c =
     record {
-      counts = λ spec impl b. let e = verdicts-found c b in
+      counts = λ spec impl given b. let e = verdicts-found c b in
           record { equal = ap (count 0) (sym e); partial = ap (count 1) (sym e); different = ap (count 2) (sym e); whole = ap largest (sym e) };
       total = findings-total t;
       equal = whole-equal c;
       unequal = unequal-difference c;
+      none = place-none (findings t);
     }
 
 -- demand 3 holds of every full result of compare

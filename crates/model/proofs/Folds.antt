@@ -11,7 +11,7 @@ use lib.ListN.{length}
 use Rattle.integers.proofs.Tests.{Test, passed, failed, eq?}
 use Rattle.lists.specs.Lists.{_∈_}
 use Rattle.lists.proofs.Membership.{map-in, map-out}
-use Rattle.model.specs.Compare.{Finding, verdictOf, count, largest, firstUnequal, placeOf}
+use Rattle.model.specs.Compare.{Finding, verdictOf, count, largest, firstUnequal, placeOf, nowhere}
 
 -- the three counts together are as many as the verdicts
 pub counts-total : (vs : List ℕ) → ((v : ℕ) → v ∈ vs → v ≤ 2) → count 0 vs + count 1 vs + count 2 vs ≡ length vs
@@ -92,5 +92,6 @@ first-unequal-none fs = (λ e. subst (FirstFound fs) e (first-unequal fs), λ h.
     go h (some f) w = absurd (w .unequal (h f (first-unequal-in w)))
 
 -- where all verdicts are 0, there is no place to report
-pub place-none : (fs : List Finding) → largest (map verdictOf fs) ≡ 0 → placeOf (firstUnequal fs) ≡ placeOf none
+pub place-none : (fs : List Finding) → largest (map verdictOf fs) ≡ 0 → placeOf (firstUnequal fs) ≡ nowhere
+unfolding placeOf
 place-none fs e = ap placeOf (first-unequal-none fs .1 (largest-equal fs .0 e))

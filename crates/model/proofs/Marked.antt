@@ -1,4 +1,4 @@
--- P1 to P8 hold of the definitions: computed.
+-- The marked maps P1 to P8 hold of the definitions: computed.
 use mathlib.Core.Path.{_≡_, refl}
 use mathlib.Core.List.{flatMap}
 use Rattle.lists.specs.Lists.{keep, any, all, isNil}
@@ -8,15 +8,15 @@ use Rattle.model.specs.Runs.{leaving, pathsWithin, paths, empty, whole, 
 use Rattle.model.specs.Verdicts.{sameRecord, sameList, contained, verdict, hasBit, bitsWithin, differsAt, changes, least, leastOf, lowest}
 use Rattle.model.specs.Compare.{visits, findingOf, findings, verdictOf, count, largest, firstUnequal, placeOf, resultOf}
 use Rattle.model.specs.Checks.{when, _then_, firstOf, checkShape, isKind, isUnit, goodNode, checkNode, isRow, goodEdge, checkEdge, each, endingAt, followed, begins, cyclic, deep, checkGraph, isRoot, isLeaf, manyPaths, checkNamed, checkOutput, clashes, checkPair, checkVisit, checkPairing, checkSingle, checkTables}
-use Rattle.model.specs.Calls.{answer, lengthOf, bufferAfter, checkAnswer, standsOn, arrivals, among, ascending, leafBits, walkAnswer, numbersOf, listAnswer, numbersAfter, compareAnswer}
+use Rattle.model.specs.Calls.{answer, checkAnswer, numbersOf, listAnswer, compareAnswer}
 use Rattle.model.specs.Bytes.{bytes, digits, shown, spaced, same}
 use Rattle.model.specs.MapFile.{nodeTable, edgeTable, pairTable, onto, lines, feeds}
 use Rattle.model.specs.Reader.{allowed, checkBytes, brokenOff, checkText, fieldsOf, isDigit, numeral, magnitude, negative, valueOf, consOption, valuesOf, columnOf, columnsOf, columns, keyed, arranged, rowOf, withRow, stop, readValues, readTable, rowsWith, tablesOf, readThird, readSecond, readFirst, readMap}
 use Rattle.model.specs.Report.{lineOf, findingLine, resultLine, report, refusalReport}
-use Rattle.model.specs.TextCheck.{reportedOf, checkRead, textAnswer, reportOf, reportAfter, coded, countOf, oneMore, tallyAfter, printedOf, printed}
-use Rattle.model.specs.Marked.{AllHold, marked, p1, p2, p3, p4, p5, p6, p7, p8}
+use Rattle.model.specs.TextCheck.{reportedOf, checkRead, textAnswer, printedOf, printed}
+use Rattle.model.specs.Marked.{AllHold, marked}
 
--- the marked maps hold: every case of the list
+-- every case of the list holds
 pub marked-holds : AllHold marked
-unfolding flatMap keep any all isNil nodesFrom edgesFrom pairsFrom graphOf node firstBit lastBit bitOffset leaving pathsWithin paths empty whole shift clip across along runs recordOf touch hull joined before place add normal listOf sameRecord sameList contained verdict hasBit bitsWithin differsAt changes least leastOf lowest visits findingOf findings verdictOf count largest firstUnequal placeOf resultOf when _then_ firstOf checkShape isKind isUnit goodNode checkNode isRow goodEdge checkEdge each endingAt followed begins cyclic deep checkGraph isRoot isLeaf manyPaths checkNamed checkOutput clashes checkPair checkVisit checkPairing checkSingle checkTables answer lengthOf bufferAfter checkAnswer standsOn arrivals among ascending leafBits walkAnswer numbersOf listAnswer numbersAfter compareAnswer bytes digits shown spaced same nodeTable edgeTable pairTable onto lines feeds allowed checkBytes brokenOff checkText fieldsOf isDigit numeral magnitude negative valueOf consOption valuesOf columnOf columnsOf columns keyed arranged rowOf withRow stop readValues readTable rowsWith tablesOf readThird readSecond readFirst readMap lineOf findingLine resultLine report refusalReport reportedOf checkRead textAnswer reportOf reportAfter coded countOf oneMore tallyAfter printedOf printed
+unfolding flatMap keep any all isNil nodesFrom edgesFrom pairsFrom graphOf node firstBit lastBit bitOffset leaving pathsWithin paths empty whole shift clip across along runs recordOf touch hull joined before place add normal listOf sameRecord sameList contained verdict hasBit bitsWithin differsAt changes least leastOf lowest visits findingOf findings verdictOf count largest firstUnequal placeOf resultOf when _then_ firstOf checkShape isKind isUnit goodNode checkNode isRow goodEdge checkEdge each endingAt followed begins cyclic deep checkGraph isRoot isLeaf manyPaths checkNamed checkOutput clashes checkPair checkVisit checkPairing checkSingle checkTables answer checkAnswer numbersOf listAnswer compareAnswer bytes digits shown spaced same nodeTable edgeTable pairTable onto lines feeds allowed checkBytes brokenOff checkText fieldsOf isDigit numeral magnitude negative valueOf consOption valuesOf columnOf columnsOf columns keyed arranged rowOf withRow stop readValues readTable rowsWith tablesOf readThird readSecond readFirst readMap lineOf findingLine resultLine report refusalReport reportedOf checkRead textAnswer printedOf printed
 marked-holds = (refl, (refl, (refl, (refl, (refl, (refl, (refl, (refl, (refl, (refl, (refl, (refl, (refl, (refl, (refl, (refl, (refl, (refl, (refl, (refl, tt))))))))))))))))))))

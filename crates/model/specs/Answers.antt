@@ -15,6 +15,7 @@ use Rattle.model.specs.Compare.{Result}
 use Rattle.model.specs.Refusals.{Refusal}
 use Rattle.model.specs.Calls.{Answer, refused, full}
 
+-- a refusal by its number, table and row
 abbrev pub numbered : ℕ → ℕ → ℕ → Refusal
 numbered n t r = record { number = n; table = t; row = r }
 
@@ -26,7 +27,7 @@ refusalOf (reason.Edge t r) = numbered 3 t r
 refusalOf (reason.FromBlock t r) = numbered 4 t r
 refusalOf (reason.Cycle t) = numbered 5 t 0
 refusalOf (reason.LongChain t) = numbered 6 t 0
-refusalOf (reason.NotPaired t r) = numbered 7 t r
+refusalOf (reason.NotRootOrLeaf t r) = numbered 7 t r
 refusalOf (reason.PairedBefore t r) = numbered 8 t r
 refusalOf (reason.NoPair t) = numbered 9 t 0
 refusalOf (reason.ManyPaths t r) = numbered 10 t r
@@ -56,6 +57,7 @@ abbrev pub comparisonResult : Comparison → Result
 comparisonResult c =
     record { equal = c .equal; partial = c .partial; different = c .different; verdict = verdictNumber (c .verdict); place = record { root = c .root; leaf = c .leaf; address = c .address } }
 
+-- the full result, or refused
 abbrev pub comparedAnswer : Compared → Answer Result
 comparedAnswer (compared.Result c) = full (comparisonResult c)
 comparedAnswer (compared.Refused r) = refused (refusalOf r)

@@ -1,14 +1,14 @@
 -- What each call gives and what its buffer holds afterwards: check, walk, list and compare. Assumes nothing.
-use mathlib.Core.Bool.{Bool, not, cond, _&&_}
+use mathlib.Core.Bool.{Bool, cond, _&&_}
 use mathlib.Core.List.{List, [], _∷_, _++_, map, flatMap}
 use mathlib.Core.Option.{Option, none, some}
-use Prim.Native.Nat.{ℕ, zero, suc}
+use Prim.Native.Nat.{ℕ, zero, suc, _*_}
 use lib.IntN.{ℤ, _-ℤ_}
 use lib.Signed.{leZ, ltZ}
 use lib.ListN.{length, drop}
 use Rattle.integers.specs.Integers.{eqZ}
 use Rattle.model.specs.Limits.{maxChain}
-use Rattle.model.specs.Rows.{Node, Edge}
+use Rattle.model.specs.Rows.{Node}
 use Rattle.model.specs.Graph.{Graph, graphOf, node, firstBit, lastBit, bitOffset}
 use Rattle.model.specs.Bitmapping.{Record}
 use Rattle.model.specs.Runs.{leaving, listOf}
@@ -38,6 +38,7 @@ bufferAfter (full out) buffer = out ++ drop (length out) buffer
 
 -- ---- check one graph: taken, or refused
 
+-- the answer of the check
 unfoldable pub checkAnswer : List ℤ → List ℤ → Answer (Unit {0})
 checkAnswer ns es = answer (checkGraph 0 ns es) tt
 
@@ -73,6 +74,13 @@ leafBits g r l x = ascending (map (λ b. b -ℤ firstBit (node g l)) (arrivals m
 unfoldable pub walkAnswer : List ℤ → List ℤ → ℤ → ℤ → ℤ → ℕ → Answer (List ℤ)
 walkAnswer ns es r l x room = answer (checkSingle ns es r l (length (leafBits (graphOf ns es) r l x)) room) (leafBits (graphOf ns es) r l x)
 
+-- what the call of walk returns, and what its buffer holds afterwards
+unfoldable pub walkGives : List ℤ → List ℤ → ℤ → ℤ → ℤ → List ℤ → Answer ℕ
+walkGives ns es r l x buffer = lengthOf (walkAnswer ns es r l x (length buffer))
+
+unfoldable pub walkAfter : List ℤ → List ℤ → ℤ → ℤ → ℤ → List ℤ → List ℤ
+walkAfter ns es r l x buffer = bufferAfter (walkAnswer ns es r l x (length buffer)) buffer
+
 -- ---- list
 
 -- the numbers of records: three a record
@@ -84,12 +92,27 @@ numbersOf (r ∷ t) = r .first ∷ r .last ∷ r .displacement ∷ numbersOf t
 unfoldable pub listAnswer : List ℤ → List ℤ → ℤ → ℤ → ℕ → Answer (List Record)
 listAnswer ns es r l room = answer (checkSingle ns es r l (length (numbersOf (listOf (graphOf ns es) r l))) room) (listOf (graphOf ns es) r l)
 
--- the buffer of numbers after a call of list
-unfoldable pub numbersAfter : Answer (List Record) → List ℤ → List ℤ
-numbersAfter (refused r) buffer = buffer
-numbersAfter (full records) buffer = numbersOf records ++ drop (length (numbersOf records)) buffer
+-- the numbers that are written into a buffer of numbers
+unfoldable pub numbersAnswer : Answer (List Record) → Answer (List ℤ)
+numbersAnswer (refused r) = refused r
+numbersAnswer (full records) = full (numbersOf records)
+
+-- what the call of list returns, how many records, and what its buffer of numbers holds afterwards
+unfoldable pub listGives : List ℤ → List ℤ → ℤ → ℤ → List ℤ → Answer ℕ
+listGives ns es r l buffer = lengthOf (listAnswer ns es r l (length buffer))
+
+unfoldable pub listAfter : List ℤ → List ℤ → ℤ → ℤ → List ℤ → List ℤ
+listAfter ns es r l buffer = bufferAfter (numbersAnswer (listAnswer ns es r l (length buffer))) buffer
+
+-- the same for a buffer of records, each of which is room for three numbers
+unfoldable pub recordsGives : List ℤ → List ℤ → ℤ → ℤ → List Record → Answer ℕ
+recordsGives ns es r l buffer = lengthOf (listAnswer ns es r l (3 * length buffer))
+
+unfoldable pub recordsAfter : List ℤ → List ℤ → ℤ → ℤ → List Record → List Record
+recordsAfter ns es r l buffer = bufferAfter (listAnswer ns es r l (3 * length buffer)) buffer
 
 -- ---- compare
 
+-- the comparison of two graphs
 unfoldable pub compareAnswer : Tables → Answer Result
 compareAnswer t = answer (checkTables t) (resultOf (findings t))

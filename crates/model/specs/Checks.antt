@@ -11,7 +11,7 @@ use lib.ListN.{length}
 use Rattle.integers.specs.Integers.{eqZ}
 use Rattle.lists.specs.Lists.{keep, any, isNil}
 use Rattle.model.specs.Limits.{nodeWidth, edgeWidth, pairWidth, maxNodes, maxEdges, maxPairs, maxUnits, maxChain, maxPaths, rootStride}
-use Rattle.model.specs.Rows.{Node, Edge, Pair, nodeRows, edgeRows, pairRows}
+use Rattle.model.specs.Rows.{Node, Edge, Pair, nodeRows, edgeRows}
 use Rattle.model.specs.Graph.{Graph, graphOf, node, space, segment, block}
 use Rattle.model.specs.Runs.{paths}
 use Rattle.model.specs.Compare.{Tables, specGraph, implGraph, rootRows, leafRows, Visit, visits}
@@ -33,37 +33,45 @@ unfoldable pub firstOf : {A : Type 0} → (A → Option Refusal) → List A → 
 firstOf check [] = none
 firstOf check (x ∷ xs) = let later = firstOf check xs in check x then later
 
--- ---- 1
+-- ---- 1: length no multiple of the row width, or more rows than the limit
 
+-- the check of a shape
 unfoldable pub checkShape : ℕ → ℕ → ℕ → List ℤ → Option Refusal
 checkShape t width most xs = when (not (eqb (length xs % width) 0) || ltb (width * most) (length xs)) 1 t 0
 
--- ---- 2
+-- ---- 2: unknown kind or unit; base < 0; range < 1; base + range > 2^48
 
+-- space, segment or block
 unfoldable pub isKind : ℤ → Bool
 isKind k = eqZ k space || eqZ k segment || eqZ k block
 
+-- 8, 16, 32, 64 or 128
 unfoldable pub isUnit : ℤ → Bool
 isUnit u = eqZ u (pos 8) || eqZ u (pos 16) || eqZ u (pos 32) || eqZ u (pos 64) || eqZ u (pos 128)
 
+-- a node row with nothing of that
 unfoldable pub goodNode : Node → Bool
 goodNode n = isKind (n .kind) && isUnit (n .unit) && leZ (pos 0) (n .base) && leZ (pos 1) (n .range) && leZ (n .base +ℤ n .range) (pos maxUnits)
 
+-- 2 for one row
 unfoldable pub checkNode : ℕ → Node → Option Refusal
 checkNode t n = when (not (goodNode n)) 2 t (n .row)
 
--- ---- 3 and 4
+-- ---- 3: an end is no node row, or offset outside −2^48 .. 2^48; 4: from is a block
 
+-- the number of a node row
 unfoldable pub isRow : Graph → ℤ → Bool
 isRow g v = leZ (pos 0) v && ltZ v (pos (length (g .nodes)))
 
+-- an edge row that 3 is not for
 unfoldable pub goodEdge : Graph → Edge → Bool
 goodEdge g e = isRow g (e .from) && isRow g (e .to) && leZ (negℤ (pos maxUnits)) (e .offset) && leZ (e .offset) (pos maxUnits)
 
+-- 3 before 4 for one row
 unfoldable pub checkEdge : ℕ → Graph → Edge → Option Refusal
 checkEdge t g e = when (not (goodEdge g e)) 3 t (e .row) then when (eqZ (node g (e .from) .kind) block) 4 t (e .row)
 
--- ---- 5 and 6
+-- ---- 5: a cycle; 6: some chain of more than 64 edges
 
 -- each number once
 unfoldable pub each : List ℤ → List ℤ
@@ -92,8 +100,9 @@ cyclic g = not (isNil (begins (length (g .nodes)) (g .edges)))
 unfoldable pub deep : Graph → Bool
 deep g = not (isNil (begins maxChain (g .edges)))
 
--- ---- one graph
+-- ---- one graph: node shape, edge shape, node rows, edge rows (3 before 4), 5, 6
 
+-- the check of a graph whose node table is t and whose edge table is t + 1
 unfoldable pub checkGraph : ℕ → List ℤ → List ℤ → Option Refusal
 checkGraph t ns es =
     checkShape t nodeWidth maxNodes ns
@@ -103,40 +112,48 @@ checkGraph t ns es =
     then when (cyclic (graphOf ns es)) 5 t 0
     then when (deep (graphOf ns es)) 6 t 0
 
--- ---- 7 and 10 of a single graph
+-- ---- a root and a leaf of a single graph: 7 the named node is no root, or no leaf; 10 more than 1,024 paths
 
+-- a node row that is a space or segment, and no edge enters it
 unfoldable pub isRoot : Graph → ℤ → Bool
 isRoot g v =
     isRow g v && (eqZ (node g v .kind) space || eqZ (node g v .kind) segment) && not (any (λ e. eqZ (e .to) v) (g .edges))
 
+-- a node row that is a block
 unfoldable pub isLeaf : Graph → ℤ → Bool
 isLeaf g v = isRow g v && eqZ (node g v .kind) block
 
+-- more than 1,024 paths lead from r to l
 unfoldable pub manyPaths : Graph → ℤ → ℤ → Bool
 manyPaths g r l = ltb maxPaths (length (paths g r l))
 
+-- 7 for the root, 7 for the leaf, 10
 unfoldable pub checkNamed : Graph → ℤ → ℤ → Option Refusal
 checkNamed g r l = when (not (isRoot g r)) 7 4 0 then when (not (isLeaf g l)) 7 5 0 then when (manyPaths g r l) 10 1 0
 
--- ---- 11
+-- ---- 11: the output is longer than its buffer
 
+-- the check of an output of this length
 unfoldable pub checkOutput : ℕ → ℕ → Option Refusal
 checkOutput output room = when (ltb room output) 11 7 0
 
--- ---- a pairing
+-- ---- a pairing: 7 a paired node is no root, or no leaf; 8 a node stands in an earlier row on the same side; 10 in visiting order
 
 -- an earlier row has one of its nodes
 unfoldable pub clashes : Pair → Pair → Bool
 clashes p q = ltb (q .row) (p .row) && (eqZ (q .spec) (p .spec) || eqZ (q .impl) (p .impl))
 
+-- 7 before 8 for one row
 unfoldable pub checkPair : ℕ → (ℤ → Bool) → (ℤ → Bool) → List Pair → Pair → Option Refusal
 checkPair t spec impl rows p = when (not (spec (p .spec) && impl (p .impl))) 7 t (p .row) then when (any (clashes p) rows) 8 t (p .row)
 
+-- 10 for one pair, specification first
 unfoldable pub checkVisit : Graph → Graph → Visit → Option Refusal
 checkVisit s i v =
     when (manyPaths s (v .root .spec) (v .leaf .spec)) 10 1 (v .root .row * rootStride + v .leaf .row)
     then when (manyPaths i (v .root .impl) (v .leaf .impl)) 10 3 (v .root .row * rootStride + v .leaf .row)
 
+-- shapes of 4 and 5, 9 for 4 and for 5, rows of 4, rows of 5, then 10
 unfoldable pub checkPairing : Tables → Option Refusal
 checkPairing t =
     checkShape 4 pairWidth maxPairs (t .rootPairs)
@@ -147,10 +164,12 @@ checkPairing t =
     then firstOf (checkPair 5 (isLeaf (specGraph t)) (isLeaf (implGraph t)) (leafRows t)) (leafRows t)
     then firstOf (checkVisit (specGraph t) (implGraph t)) (visits (rootRows t) (leafRows t))
 
--- ---- walk and list; compare
+-- ---- the calls
 
+-- walk and list, whose output has the given length
 unfoldable pub checkSingle : List ℤ → List ℤ → ℤ → ℤ → ℕ → ℕ → Option Refusal
 checkSingle ns es r l output room = checkGraph 0 ns es then checkNamed (graphOf ns es) r l then checkOutput output room
 
+-- compare two graphs
 unfoldable pub checkTables : Tables → Option Refusal
 checkTables t = checkGraph 0 (t .specNodes) (t .specEdges) then checkGraph 2 (t .implNodes) (t .implEdges) then checkPairing t

@@ -20,6 +20,7 @@ pub record Tables : Type 0 where
   pub rootPairs : List ℤ
   pub leafPairs : List ℤ
 
+-- the two graphs, and the rows of the pairing
 abbrev pub specGraph : Tables → Graph
 specGraph t = graphOf (t .specNodes) (t .specEdges)
 
@@ -47,6 +48,7 @@ pub record Finding : Type 0 where
   pub spec : List Record
   pub impl : List Record
 
+-- the finding of a visit
 unfoldable pub findingOf : Tables → Visit → Finding
 findingOf t v =
     record { visit = v; spec = listOf (specGraph t) (v .root .spec) (v .leaf .spec); impl = listOf (implGraph t) (v .root .impl) (v .leaf .impl) }
@@ -74,14 +76,19 @@ unfoldable pub firstUnequal : List Finding → Option Finding
 firstUnequal [] = none
 firstUnequal (f ∷ t) = cond (eqb (verdictOf f) 0) (firstUnequal t) (some f)
 
--- a place in the comparison: root row, leaf row and bit address, or −1 three times
+-- a place in the comparison: root row, leaf row and bit address
 pub record Place : Type 0 where
   pub root : ℤ
   pub leaf : ℤ
   pub address : ℤ
 
+-- no place: −1 three times
+abbrev pub nowhere : Place
+nowhere = record { root = negsuc 0; leaf = negsuc 0; address = negsuc 0 }
+
+-- the place of the first unequal pair
 unfoldable pub placeOf : Option Finding → Place
-placeOf none = record { root = negsuc 0; leaf = negsuc 0; address = negsuc 0 }
+placeOf none = nowhere
 placeOf (some f) = record { root = pos (f .visit .root .row); leaf = pos (f .visit .leaf .row); address = lowest (f .spec) (f .impl) }
 
 -- the full result: the counts of equal, partial and different pairs, the whole verdict, and the place of the first unequal pair
@@ -92,6 +99,7 @@ pub record Result : Type 0 where
   pub verdict : ℕ
   pub place : Place
 
+-- the full result of the findings of all visits
 unfoldable pub resultOf : List Finding → Result
 resultOf fs =
     record { equal = count 0 (map verdictOf fs); partial = count 1 (map verdictOf fs); different = count 2 (map verdictOf fs); verdict = largest (map verdictOf fs); place = placeOf (firstUnequal fs) }

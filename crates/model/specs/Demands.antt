@@ -11,8 +11,8 @@ use Rattle.model.specs.Limits.{lastAddress}
 use Rattle.model.specs.Rows.{Pair}
 use Rattle.model.specs.Walk.{Reached}
 use Rattle.model.specs.Bitmapping.{Record, IsBitmappingList}
-use Rattle.model.specs.Verdicts.{verdict}
-use Rattle.model.specs.Compare.{Tables, specGraph, implGraph, rootRows, leafRows, Visit, visits, count, largest, Result}
+use Rattle.model.specs.Verdicts.{Rules}
+use Rattle.model.specs.Compare.{Tables, specGraph, implGraph, rootRows, leafRows, Visit, visits, count, largest, Place, nowhere, Result}
 
 -- a bit address from 0 to 2^55 − 1
 pub record Address (x : ℤ) : Type 0 where
@@ -38,21 +38,22 @@ SetsDiffer t r l x = (y : ℤ) × ((InSpec t r l x y × (InImpl t r l x y → �
 abbrev pub VisitedBefore : Pair → Pair → Pair → Pair → Type 0
 VisitedBefore q m r l = (q .row < r .row) ⊎ ((q .row ≡ r .row) × (m .row < l .row))
 
--- the verdicts that the comparing rules give, in visiting order, where spec and impl are the lists of each pair
-abbrev pub verdictsBy : Tables → (Visit → List Record) → (Visit → List Record) → List ℕ
-verdictsBy t spec impl = map (λ v. verdict (spec v) (impl v)) (visits (rootRows t) (leafRows t))
-
--- spec and impl give the bitmapping lists of all pairs
-pub record ListsOfPairs (t : Tables) (spec impl : Visit → List Record) : Type 0 where
+-- spec and impl give the bitmapping lists of all pairs, and verdict the verdict that the comparing rules give each
+pub record VerdictsOfPairs (t : Tables) (spec impl : Visit → List Record) (verdict : Visit → ℕ) : Type 0 where
   pub inSpec : (v : Visit) → v ∈ visits (rootRows t) (leafRows t) → IsBitmappingList (specGraph t) (v .root .spec) (v .leaf .spec) (spec v)
   pub inImpl : (v : Visit) → v ∈ visits (rootRows t) (leafRows t) → IsBitmappingList (implGraph t) (v .root .impl) (v .leaf .impl) (impl v)
+  pub rules : (v : Visit) → v ∈ visits (rootRows t) (leafRows t) → Rules (spec v) (impl v) (verdict v)
+
+-- the verdicts of all pairs, in visiting order
+abbrev pub inOrder : Tables → (Visit → ℕ) → List ℕ
+inOrder t verdict = map verdict (visits (rootRows t) (leafRows t))
 
 -- the whole verdict and the three counts are those that the comparing rules define from the lists of all pairs
-pub record CountsOfPairs (t : Tables) (res : Result) (spec impl : Visit → List Record) : Type 0 where
-  pub equal : res .equal ≡ count 0 (verdictsBy t spec impl)
-  pub partial : res .partial ≡ count 1 (verdictsBy t spec impl)
-  pub different : res .different ≡ count 2 (verdictsBy t spec impl)
-  pub whole : res .verdict ≡ largest (verdictsBy t spec impl)
+pub record CountsOfPairs (t : Tables) (res : Result) (verdict : Visit → ℕ) : Type 0 where
+  pub equal : res .equal ≡ count 0 (inOrder t verdict)
+  pub partial : res .partial ≡ count 1 (inOrder t verdict)
+  pub different : res .different ≡ count 2 (inOrder t verdict)
+  pub whole : res .verdict ≡ largest (inOrder t verdict)
 
 -- the reported pair is the first in visiting order whose two sets differ at some address, and the reported address is the lowest
 pub record FirstDifference (t : Tables) (res : Result) : Type 0 where
@@ -68,9 +69,11 @@ pub record FirstDifference (t : Tables) (res : Result) : Type 0 where
 
 -- demand 3 of a full result
 pub record Demand3 (t : Tables) (res : Result) : Type 0 where
-  pub counts : (spec impl : Visit → List Record) → ListsOfPairs t spec impl → CountsOfPairs t res spec impl
+  pub counts : (spec impl : Visit → List Record) (verdict : Visit → ℕ) → VerdictsOfPairs t spec impl verdict → CountsOfPairs t res verdict
   pub total : res .equal + res .partial + res .different ≡ length (rootRows t) * length (leafRows t)
   -- reported equal exactly when for every paired root, every paired leaf and every bit address the sets are the same
   pub equal : (res .verdict ≡ 0)
       ↔ ((r l : Pair) → r ∈ rootRows t → l ∈ leafRows t → (x : ℤ) → Address x → SameSets t r l x)
   pub unequal : res .verdict ≢ 0 → FirstDifference t res
+  -- where the graphs are reported equal, no place is
+  pub none : res .verdict ≡ 0 → res .place ≡ nowhere

@@ -17,6 +17,7 @@ pub record Table : Type 0 where
   pub key : Bytes
   pub names : List Bytes
 
+-- names of the three tables
 unfoldable pub nodeTable : Table
 nodeTable = record { key = bytes "side"; names = bytes "side" ∷ bytes "kind" ∷ bytes "base" ∷ bytes "range" ∷ bytes "unit" ∷ [] }
 
@@ -26,11 +27,12 @@ edgeTable = record { key = bytes "side"; names = bytes "side" ∷ bytes "from" �
 unfoldable pub pairTable : Table
 pairTable = record { key = bytes "role"; names = bytes "role" ∷ bytes "spec" ∷ bytes "impl" ∷ [] }
 
--- the lines of a text, each without its line feed
+-- a byte in front of the first line
 unfoldable pub onto : ℕ → List Bytes → List Bytes
 onto c [] = (c ∷ []) ∷ []
 onto c (l ∷ ls) = (c ∷ l) ∷ ls
 
+-- the lines of a text, each without its line feed
 unfoldable pub lines : Bytes → List Bytes
 lines [] = []
 lines (c ∷ t) = let ls = lines t in cond (eqb c lineFeed) ([] ∷ ls) (onto c ls)
@@ -73,6 +75,7 @@ pub record BrokenOff (text : Bytes) : Type 0 where
   pub ends : text ≡ front ++ (last ∷ [])
   pub noFeed : last ≢ lineFeed
 
+-- length (line 0), bytes, last line
 unfoldable pub wholeTextConditions : Bytes → List Condition
 wholeTextConditions text =
     refuse 12 6 0 (maxText < length text) next byteConditions 1 text next refuse 12 6 (suc (feeds text)) (BrokenOff text)
@@ -90,7 +93,7 @@ WrongNames t line = (fields : List Bytes) → NamesLine t fields line → ⊥
 
 -- 14: the value line breaks the file rules
 abbrev pub WrongValues : Table → Bytes → Bytes → Type 0
-WrongValues t heading line = (fields : List Bytes) → NamesLine t fields heading → ValueLine t fields line → ⊥
+WrongValues t namesLine line = (fields : List Bytes) → NamesLine t fields namesLine → ValueLine t fields line → ⊥
 
 -- the lines from line n on. One empty line ends a table that another follows; a file that ends too soon gives 13 at the line after its last
 unfoldable pub lineConditions : ℕ → Due → List Bytes → List Condition

@@ -4,9 +4,8 @@ use mathlib.Core.List.{List, [], _∷_, _++_}
 use Prim.Native.Nat.{ℕ, zero, suc, _+_, _-_, _^_}
 use Prim.Native.String.{String}
 use lib.IntN.{ℤ, pos, negsuc}
-use Rattle.model.specs.Graph.{graphOf}
 use Rattle.model.specs.Bitmapping.{Record}
-use Rattle.model.specs.Runs.{normal, listOf}
+use Rattle.model.specs.Runs.{normal}
 use Rattle.model.specs.Compare.{Tables, Result}
 use Rattle.model.specs.Calls.{Answer, refused, full, checkAnswer, listAnswer, compareAnswer}
 use Rattle.model.specs.Bytes.{bytes}
@@ -53,7 +52,7 @@ specNodes = pos 0 ∷ pos 0 ∷ pos 4096 ∷ pos 8 ∷ pos 2 ∷ pos 256 ∷ pos
 abbrev pub specEdges : List ℤ
 specEdges = pos 0 ∷ pos 1 ∷ pos 0 ∷ []
 
--- the implementation, where the segment between has this range
+-- the implementation, where the space between has this range
 abbrev pub implNodes : ℕ → List ℤ
 implNodes range = pos 0 ∷ pos 0 ∷ pos 4096 ∷ pos 8 ∷ pos 0 ∷ pos 0 ∷ pos range ∷ pos 32 ∷ pos 2 ∷ pos 0 ∷ pos 16 ∷ pos 32 ∷ []
 

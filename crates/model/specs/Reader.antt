@@ -16,8 +16,9 @@ use Rattle.model.specs.Refusals.{Refusal}
 use Rattle.model.specs.Checks.{when, _then_}
 use Rattle.model.specs.Calls.{Answer, refused, full}
 
--- ---- 12
+-- ---- 12: over the whole text
 
+-- a–z, 0–9, minus, space, line feed
 unfoldable pub allowed : ℕ → Bool
 allowed c = (leb 97 c && leb c 122) || (leb 48 c && leb c 57) || eqb c dash || eqb c blank || eqb c lineFeed
 
@@ -32,6 +33,7 @@ brokenOff [] = false
 brokenOff (c ∷ []) = not (eqb c lineFeed)
 brokenOff (c ∷ d ∷ t) = brokenOff (d ∷ t)
 
+-- length, then bytes, then the last line
 unfoldable pub checkText : Bytes → Option Refusal
 checkText text = when (ltb maxText (length text)) 12 6 0 then checkBytes 1 text then when (brokenOff text) 12 6 (suc (feeds text))
 
@@ -42,6 +44,7 @@ unfoldable pub fieldsOf : Bytes → List Bytes
 fieldsOf [] = [] ∷ []
 fieldsOf (c ∷ t) = let fs = fieldsOf t in cond (eqb c blank) ([] ∷ fs) (onto c fs)
 
+-- 0–9
 unfoldable pub isDigit : ℕ → Bool
 isDigit c = leb 48 c && leb c 57
 
@@ -62,6 +65,7 @@ negative none = none
 negative (some zero) = none
 negative (some (suc n)) = some (negsuc n)
 
+-- the number that a field writes
 unfoldable pub valueOf : Bytes → Option ℤ
 valueOf [] = none
 valueOf (c ∷ t) = cond (eqb c dash) (negative (magnitude t)) (Option·map pos (magnitude (c ∷ t)))
@@ -84,6 +88,7 @@ unfoldable pub columnOf : Bytes → ℕ → List Bytes → Option ℕ
 columnOf name i [] = none
 columnOf name i (f ∷ fs) = elim (same name f) [ true ↦ some i | false ↦ columnOf name (suc i) fs ]
 
+-- the columns of all names
 unfoldable pub columnsOf : List Bytes → List Bytes → Option (List ℕ)
 columnsOf [] fs = some []
 columnsOf (n ∷ ns) fs = consOption (columnOf n 0 fs) (columnsOf ns fs)
@@ -113,10 +118,12 @@ pub data Reading : Type 0 where
   stopped : Refusal → Reading
   rows : List (List ℤ) → List Bytes → ℕ → Reading
 
+-- a row before what reading the lines after it comes to
 unfoldable pub withRow : List ℤ → Reading → Reading
 withRow r (stopped f) = stopped f
 withRow r (rows rs rest n) = rows (r ∷ rs) rest n
 
+-- a refusal of the text at a line
 unfoldable pub stop : ℕ → ℕ → Reading
 stop number line = stopped (record { number = number; table = 6; row = line })
 
@@ -129,6 +136,7 @@ readValues last cs n (l ∷ ls) =
       | false ↦ elim (rowOf cs l) [ none ↦ stop 14 n | some r ↦ withRow r (readValues last cs (suc n) ls) ]
     ]
 
+-- a table from its names line on, which is line n
 unfoldable pub readTable : Bool → Table → ℕ → List Bytes → Reading
 readTable last t n [] = stop 13 n
 readTable last t n (l ∷ ls) = elim (columns (t .names) l) [ none ↦ stop 13 n | some cs ↦ readValues last cs (suc n) ls ]
@@ -144,6 +152,7 @@ unfoldable pub tablesOf : List (List ℤ) → List (List ℤ) → List (List ℤ
 tablesOf ns es ps =
     record { specNodes = rowsWith (pos 0) ns; specEdges = rowsWith (pos 0) es; implNodes = rowsWith (pos 1) ns; implEdges = rowsWith (pos 1) es; rootPairs = rowsWith (pos 0) ps; leafPairs = rowsWith (pos 1) ps }
 
+-- the third table read, after the first and the second; the second, after the first; the first
 unfoldable pub readThird : List (List ℤ) → List (List ℤ) → Reading → Answer Tables
 readThird ns es (stopped r) = refused r
 readThird ns es (rows ps rest n) = full (tablesOf ns es ps)

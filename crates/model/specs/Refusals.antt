@@ -1,14 +1,14 @@
 -- The conditions for a refusal, each a proposition in the words of document 01, and for each call their order. Assumes nothing.
 use mathlib.Core.Path.{_≡_}
 use mathlib.Core.Logic.{_≢_, _⊎_}
-use mathlib.Core.List.{List, [], _∷_, _++_, map, flatMap}
+use mathlib.Core.List.{List, [], _∷_, _++_, flatMap}
 use Prim.Native.Nat.{ℕ, suc, _+_, _*_, _%_, _<_}
 use lib.IntN.{ℤ, pos, negℤ, _+ℤ_}
-use lib.Signed.{_≤ℤ_, _<ℤ_}
+use lib.Signed.{_<ℤ_}
 use lib.ListN.{length}
 use Rattle.lists.specs.Lists.{_∈_}
 use Rattle.model.specs.Limits.{nodeWidth, edgeWidth, pairWidth, maxNodes, maxEdges, maxPairs, maxUnits, rootStride}
-use Rattle.model.specs.Rows.{Node, Edge, Pair, nodeRows, edgeRows, pairRows}
+use Rattle.model.specs.Rows.{Node, Edge, Pair, nodeRows, edgeRows}
 use Rattle.model.specs.Graph.{Graph, graphOf, NodeRow, node, space, segment, block}
 use Rattle.model.specs.Paths.{Root, Leaf, Cycle, LongChain, ManyPaths}
 use Rattle.model.specs.Compare.{Tables, specGraph, implGraph, rootRows, leafRows, Visit, visits}

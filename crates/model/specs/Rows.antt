@@ -46,6 +46,7 @@ pairsFrom i [] = []
 pairsFrom i (s ∷ []) = []
 pairsFrom i (s ∷ m ∷ rest) = record { row = i; spec = s; impl = m } ∷ pairsFrom (suc i) rest
 
+-- the rows of a whole table
 abbrev pub nodeRows : List ℤ → List Node
 nodeRows ns = nodesFrom 0 ns
 

@@ -1,7 +1,6 @@
 -- The text check, its answer in C, the tally, and what mapcheck prints. Assumes nothing.
 use mathlib.Core.Bool.{cond}
-use mathlib.Core.List.{List, [], _∷_, _++_}
-use mathlib.Core.Option.{Option, none, some}
+use mathlib.Core.List.{List, [], _∷_}
 use Prim.Native.Nat.{ℕ, suc, _+_, _*_}
 use lib.Dec.{ltb}
 use lib.IntN.{ℤ, pos, negℤ}
@@ -10,10 +9,10 @@ use Rattle.model.specs.Limits.{reportRoom, countCeiling}
 use Rattle.model.specs.Bytes.{Bytes}
 use Rattle.model.specs.MapFile.{fileConditions}
 use Rattle.model.specs.Reader.{readMap}
-use Rattle.model.specs.Compare.{Tables, Finding, findings, Result, resultOf}
-use Rattle.model.specs.Refusals.{Refusal, Condition, _next_, compareConditions, outputConditions}
+use Rattle.model.specs.Compare.{Tables, Finding, findings, resultOf}
+use Rattle.model.specs.Refusals.{Condition, _next_, compareConditions, outputConditions}
 use Rattle.model.specs.Checks.{_then_, checkTables, checkOutput}
-use Rattle.model.specs.Calls.{Answer, refused, full, answer, bufferAfter}
+use Rattle.model.specs.Calls.{Answer, refused, full, answer, lengthOf, bufferAfter}
 use Rattle.model.specs.Report.{report, refusalReport}
 
 -- ---- text check: map file in, report out
@@ -23,6 +22,7 @@ pub record Reported : Type 0 where
   pub verdict : ℕ
   pub report : Bytes
 
+-- the report of the findings of all visits
 unfoldable pub reportedOf : List Finding → Reported
 reportedOf fs = record { verdict = resultOf fs .verdict; report = report fs }
 
@@ -40,9 +40,12 @@ unfoldable pub reportOf : Answer Reported → Answer Bytes
 reportOf (refused r) = refused r
 reportOf (full c) = full (c .report)
 
--- the report buffer afterwards
-unfoldable pub reportAfter : Bytes → Bytes → Bytes
-reportAfter text buffer = bufferAfter (reportOf (textAnswer (length buffer) text)) buffer
+-- what the text check returns, the report's length, and what its report buffer holds afterwards
+unfoldable pub textGives : Bytes → Bytes → Answer ℕ
+textGives text buffer = lengthOf (reportOf (textAnswer (length buffer) text))
+
+unfoldable pub textAfter : Bytes → Bytes → Bytes
+textAfter text buffer = bufferAfter (reportOf (textAnswer (length buffer) text)) buffer
 
 -- the conditions on what was read: those of the comparison, then 11
 unfoldable pub readConditions : ℕ → Answer Tables → List Condition
@@ -55,9 +58,14 @@ textConditions room text = fileConditions text next readConditions room (readMap
 
 -- ---- the answer through C linkage: the report's length, or −(number × 100,000,000 + table × 10,000,000 + row)
 
+-- an answer as one number
 unfoldable pub coded : Answer ℕ → ℤ
 coded (full n) = pos n
 coded (refused r) = negℤ (pos (r .number * 100000000 + r .table * 10000000 + r .row))
+
+-- what the call through C linkage returns; its report buffer afterwards is textAfter
+unfoldable pub codeGives : Bytes → Bytes → ℤ
+codeGives text buffer = coded (textGives text buffer)
 
 -- ---- tally: counts of equal, partial, different and refused
 
@@ -70,9 +78,9 @@ countOf (full c) = c .verdict
 unfoldable pub oneMore : ℕ → List ℕ → List ℕ
 oneMore i counts = cond (ltb (getD counts i 0) countCeiling) (set counts i (suc (getD counts i 0))) counts
 
--- the tally record after the check of a text
-unfoldable pub tallyAfter : ℕ → Bytes → List ℕ → List ℕ
-tallyAfter room text counts = oneMore (countOf (textAnswer room text)) counts
+-- the tally record after the check of a text into a report buffer; the answer is textGives, the buffer afterwards textAfter
+unfoldable pub tallyAfter : Bytes → Bytes → List ℕ → List ℕ
+tallyAfter text buffer counts = oneMore (countOf (textAnswer (length buffer) text)) counts
 
 -- the fresh tally
 abbrev pub freshTally : List ℕ
@@ -80,9 +88,11 @@ freshTally = 0 ∷ 0 ∷ 0 ∷ 0 ∷ []
 
 -- ---- mapcheck: what it prints for its input
 
+-- the report, or the refusal as two lines
 unfoldable pub printedOf : Answer Reported → Bytes
 printedOf (refused r) = refusalReport r
 printedOf (full c) = c .report
 
+-- what is printed for a text
 unfoldable pub printed : Bytes → Bytes
 printed text = printedOf (textAnswer reportRoom text)

@@ -46,7 +46,7 @@ pub enum Reason {
     FromBlock { table: usize, row: usize },
     Cycle { table: usize },
     LongChain { table: usize },
-    NotPaired { table: usize, row: usize },
+    NotRootOrLeaf { table: usize, row: usize },
     PairedBefore { table: usize, row: usize },
     NoPair { table: usize },
     ManyPaths { table: usize, row: usize },

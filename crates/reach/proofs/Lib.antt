@@ -1,0 +1,9 @@
+pub mod Totals
+pub mod Counting
+pub mod Values
+pub mod Sweep
+pub mod Ends
+pub mod Pass
+pub mod FirstRow
+pub mod Links
+pub mod Reaching

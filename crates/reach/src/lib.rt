@@ -1,0 +1,92 @@
+// Counts of the paths to a leaf, and the edges that can still reach it, linked by the node that they leave.
+ghost use mathlib.Core.Path.{_≡_};
+ghost use mathlib.Core.List.{_++_};
+ghost use Prim.Native.Nat.{_+_, _≤_};
+ghost use lib.IntN.{pos};
+ghost use lib.ListN.{length, replicate, drop};
+ghost use Rattle.model.specs.Limits.{maxPaths};
+ghost use Rattle.model.specs.Graph.{graphOf};
+ghost use Rattle.reach.specs.Counting.{stopped, countsOver, Countable};
+ghost use Rattle.reach.specs.Links.{Linkable, Linked};
+use tables::edge_from;
+use tables::edge_to;
+
+// Numbers of a node row and of an edge row.
+const NODE_WIDTH: usize = 4;
+
+const EDGE_WIDTH: usize = 3;
+
+// The most paths from a root to a leaf.
+const MAX_PATHS: usize = 1024;
+
+// The sum of two stopped counts, stopped.
+fn stopped_sum(a: usize, b: usize) -> usize
+    requires { ⌜ (a ≤ maxPaths + 1) × (b ≤ maxPaths + 1) ⌝ }
+    ensures { λ r. ⌜ r ≡ stopped (a + b) ⌝ }
+{
+    let sum = a + b;
+    if sum > MAX_PATHS {
+        return MAX_PATHS + 1;
+    }
+    sum
+}
+
+// Sets the first `count` elements to `value`.
+fn fill(out: &mut [usize], count: usize, value: usize)
+    requires { ⌜ count ≤ length (now out) ⌝ }
+    ensures { λ _. ⌜ now (out .exit) ≡ replicate count value ++ drop count (now (out .entry)) ⌝ }
+{
+    let mut i = 0;
+    while i < count {
+        out[i] = value;
+        i += 1;
+    }
+}
+
+// Sets counts[v], for each node v, to the number of paths from v to the leaf, or to MAX_PATHS + 1 where there are more than MAX_PATHS.
+// One pass over the edges in an order that has each edge behind all edges that leave the node it enters.
+pub fn count_paths(nodes: &[i64], edges: &[i64], order: &[usize], leaf: usize, counts: &mut [usize])
+    requires { ⌜ Countable (now nodes) (now edges) (now order) leaf (now counts) ⌝ }
+    ensures { λ _. ⌜
+        now (counts .exit)
+        ≡ countsOver (graphOf (now (nodes .entry)) (now (edges .entry))) (pos leaf) (now (counts .entry)) ⌝ }
+{
+    fill(counts, nodes.len() / NODE_WIDTH, 0);
+    counts[leaf] = 1;
+    let count = edges.len() / EDGE_WIDTH;
+    let mut i = 0;
+    while i < count {
+        let e = order[i];
+        let from = edge_from(edges, e);
+        let to = edge_to(edges, e);
+        counts[from] = stopped_sum(counts[from], counts[to]);
+        i += 1;
+    }
+}
+
+// Sets head[v], for each node v, to the first edge that leaves v and enters a node whose count is not 0, and next[e], for each edge e, to the
+// first such edge behind e that leaves the same node; to the number of edges where there is none. One pass, from the last edge to the first.
+pub fn link_edges(
+    nodes: &[i64],
+    edges: &[i64],
+    counts: &[usize],
+    head: &mut [usize],
+    next: &mut [usize],
+)
+    requires { ⌜ Linkable (now nodes) (now edges) (now counts) (now head) (now next) ⌝ }
+    ensures { λ _. ⌜
+        Linked (now (counts .entry)) (graphOf (now (nodes .entry)) (now (edges .entry))) (now (head .entry)) (now (next .entry)) (now (head .exit)) (now (next .exit)) ⌝ }
+{
+    let count = edges.len() / EDGE_WIDTH;
+    fill(head, nodes.len() / NODE_WIDTH, count);
+    let mut e = count;
+    while 0 < e {
+        e -= 1;
+        let from = edge_from(edges, e);
+        let to = edge_to(edges, e);
+        next[e] = head[from];
+        if counts[to] != 0 {
+            head[from] = e;
+        }
+    }
+}

@@ -18,3 +18,4 @@ pub mod Folds
 pub mod Pairing
 pub mod Demand
 pub mod Marked
+pub mod Readings

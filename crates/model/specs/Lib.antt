@@ -20,3 +20,4 @@ pub mod Reader
 pub mod Report
 pub mod TextCheck
 pub mod Marked
+pub mod Readings

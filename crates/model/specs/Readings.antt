@@ -1,0 +1,186 @@
+-- Readings of document 01's open places, and limits at both edges, as lists of cases. Assumes nothing.
+use mathlib.Core.Path.{_≡_}
+use mathlib.Core.List.{List, [], _∷_}
+use Prim.Native.Nat.{ℕ, _-_, _^_}
+use Prim.Native.String.{String}
+use lib.IntN.{ℤ, pos, negsuc, negℤ}
+use Rattle.model.specs.Compare.{Tables, Result}
+use Rattle.model.specs.Calls.{Answer, full, checkAnswer, walkGives, walkAfter, listGives, listAfter, compareAnswer}
+use Rattle.model.specs.Bytes.{Bytes, bytes}
+use Rattle.model.specs.TextCheck.{printed, codeGives, tallyAfter, freshTally}
+use Rattle.model.specs.Marked.{refusal, times, text1}
+
+pub data Reading : Type 0 where
+  -- a map file, and what mapcheck prints for it
+  prints : String → String → Reading
+  -- node table and edge table, and the answer of the check
+  checks : List ℤ → List ℤ → Answer (Unit {0}) → Reading
+  -- tables, root, leaf, address and buffer; what walk returns, and the buffer afterwards
+  walks : List ℤ → List ℤ → ℤ → ℤ → ℤ → List ℤ → Answer ℕ → List ℤ → Reading
+  -- tables, root, leaf and buffer; what list returns, and the buffer afterwards
+  listed : List ℤ → List ℤ → ℤ → ℤ → List ℤ → Answer ℕ → List ℤ → Reading
+  -- two graphs with their pairing, and the answer of the comparison
+  compares : Tables → Answer Result → Reading
+  -- a text and a report buffer, and what the call through C linkage returns
+  codes : Bytes → Bytes → ℤ → Reading
+  -- a text, a report buffer and a tally, and the tally afterwards
+  tallies : Bytes → Bytes → List ℕ → List ℕ → Reading
+
+-- what a reading says
+abbrev pub Says : Reading → Type 0
+Says (prints text out) = printed (bytes text) ≡ bytes out
+Says (checks ns es a) = checkAnswer ns es ≡ a
+Says (walks ns es r l x b n after) = (walkGives ns es r l x b ≡ n) × (walkAfter ns es r l x b ≡ after)
+Says (listed ns es r l b n after) = (listGives ns es r l b ≡ n) × (listAfter ns es r l b ≡ after)
+Says (compares t a) = compareAnswer t ≡ a
+Says (codes text b n) = codeGives text b ≡ n
+Says (tallies text b counts after) = tallyAfter text b counts ≡ after
+
+-- every reading of the list holds
+abbrev pub AllSay : List Reading → Type 0
+AllSay [] = Unit {0}
+AllSay (c ∷ cs) = Says c × AllSay cs
+
+-- map files, and what is printed for them
+abbrev pub textReadings : List Reading
+textReadings =
+    -- the empty text has no names line
+    prints "" "refusal table row\n13 6 1\n" ∷
+    -- of one line feed the names line is empty
+    prints "\n" "refusal table row\n13 6 1\n" ∷
+    -- names alone: no root pair
+    prints "side kind base range unit\n\nside from to offset\n\nrole spec impl\n" "refusal table row\n9 4 0\n" ∷
+    -- names in any order: P1 with its columns turned round
+    prints "unit range base kind side\n8 4096 0 0 0\n8 64 256 2 0\n8 4096 0 0 1\n32 12 0 0 1\n32 16 0 2 1\n\noffset to side from\n0 1 0 0\n64 1 1 0\n0 2 1 1\n\nimpl role spec\n0 0 0\n2 1 1\n" "root leaf verdict spec impl\n0 0 1 1 1\n\nverdict equal partial different root leaf address\n1 0 1 0 0 0 2432\n" ∷
+    -- a name twice
+    prints "side side base range unit\n\n" "refusal table row\n13 6 1\n" ∷
+    -- a name too many
+    prints "side kind base range unit unit\n\n" "refusal table row\n13 6 1\n" ∷
+    -- a doubled space in a names line
+    prints "side kind  base range unit\n\n" "refusal table row\n13 6 1\n" ∷
+    -- a space behind a value line
+    prints "side kind base range unit\n0 0 0 1 8 \n\n" "refusal table row\n14 6 2\n" ∷
+    -- a leading zero
+    prints "side kind base range unit\n0 0 00 1 8\n\n" "refusal table row\n14 6 2\n" ∷
+    -- minus zero
+    prints "side kind base range unit\n0 0 -0 1 8\n\n" "refusal table row\n14 6 2\n" ∷
+    -- nineteen digits
+    prints "side kind base range unit\n0 0 1000000000000000000 1 8\n\n" "refusal table row\n14 6 2\n" ∷
+    -- eighteen digits are a value: the node row is bad
+    prints "side kind base range unit\n0 0 -999999999999999999 1 8\n\nside from to offset\n\nrole spec impl\n" "refusal table row\n2 0 0\n" ∷
+    -- side 2
+    prints "side kind base range unit\n2 0 0 1 8\n\n" "refusal table row\n14 6 2\n" ∷
+    -- role -1
+    prints "side kind base range unit\n\nside from to offset\n\nrole spec impl\n-1 0 0\n" "refusal table row\n14 6 6\n" ∷
+    -- a value too few
+    prints "side kind base range unit\n0 0 0 1\n\n" "refusal table row\n14 6 2\n" ∷
+    -- ends too soon where the empty line is due
+    prints "side kind base range unit\n0 0 0 1 8\n" "refusal table row\n13 6 3\n" ∷
+    -- ends too soon where a names line is due
+    prints "side kind base range unit\n\n" "refusal table row\n13 6 3\n" ∷
+    -- a second empty line stands where names are due
+    prints "side kind base range unit\n\n\nside from to offset\n\nrole spec impl\n" "refusal table row\n13 6 3\n" ∷
+    -- a line of one space is a value line
+    prints "side kind base range unit\n \n\nside from to offset\n\nrole spec impl\n" "refusal table row\n14 6 2\n" ∷
+    -- an empty line after the third table is a value line
+    prints "side kind base range unit\n0 0 0 4096 8\n0 2 256 64 8\n1 0 0 4096 8\n1 0 0 12 32\n1 2 0 16 32\n\nside from to offset\n0 0 1 0\n1 0 1 64\n1 1 2 0\n\nrole spec impl\n0 0 0\n1 1 2\n\n" "refusal table row\n14 6 16\n" ∷
+    -- a byte that is not allowed, at its line, before what its line breaks
+    prints "side kind base range unit\n0 0 0 1 8\n0 0 A 1 8\n" "refusal table row\n12 6 3\n" ∷
+    -- the last line has no line feed
+    prints "side kind base range unit\n0 0 0 1 8" "refusal table row\n12 6 2\n" ∷
+    -- the lowest byte before the last line
+    prints "side\nB\n0" "refusal table row\n12 6 2\n" ∷
+    -- the whole text is read before a count is judged: a bad pair line comes before a bad node row
+    prints "side kind base range unit\n0 9 0 1 8\n\nside from to offset\n\nrole spec impl\n0 0\n" "refusal table row\n14 6 7\n" ∷
+    -- rows count per side: row 1 of the implementation is bad
+    prints "side kind base range unit\n1 0 0 1 8\n0 0 0 1 8\n1 0 0 0 8\n\nside from to offset\n\nrole spec impl\n" "refusal table row\n2 2 1\n" ∷
+    -- a pair with records on one side only has a line: different
+    prints "side kind base range unit\n0 0 0 4 8\n0 2 0 4 8\n1 0 0 4 8\n1 2 0 4 8\n\nside from to offset\n0 0 1 0\n\nrole spec impl\n0 0 0\n1 1 1\n" "root leaf verdict spec impl\n0 0 2 1 0\n\nverdict equal partial different root leaf address\n2 0 0 1 0 0 0\n" ∷
+    -- a pair with no record has none: equal
+    prints "side kind base range unit\n0 0 0 4 8\n0 2 0 4 8\n1 0 0 4 8\n1 2 0 4 8\n\nside from to offset\n\nrole spec impl\n0 0 0\n1 1 1\n" "root leaf verdict spec impl\n\nverdict equal partial different root leaf address\n0 1 0 0 -1 -1 -1\n" ∷
+    []
+
+-- one graph
+abbrev pub graphReadings : List Reading
+graphReadings =
+    -- no nodes and no edges
+    checks [] [] (full tt) ∷
+    -- a node table of five numbers
+    checks (pos 0 ∷ pos 0 ∷ pos 16 ∷ pos 8 ∷ pos 0 ∷ []) [] (refusal 1 0 0) ∷
+    -- 2,000 nodes, and one more
+    checks (times 2000 (pos 0 ∷ pos 0 ∷ pos 16 ∷ pos 8 ∷ [])) [] (full tt) ∷
+    checks (times 2001 (pos 0 ∷ pos 0 ∷ pos 16 ∷ pos 8 ∷ [])) [] (refusal 1 0 0) ∷
+    -- 2,600 edges, and one more
+    checks (pos 0 ∷ pos 0 ∷ pos 16 ∷ pos 8 ∷ pos 2 ∷ pos 0 ∷ pos 16 ∷ pos 8 ∷ []) (times 2600 (pos 0 ∷ pos 1 ∷ pos 0 ∷ [])) (full tt) ∷
+    checks (pos 0 ∷ pos 0 ∷ pos 16 ∷ pos 8 ∷ pos 2 ∷ pos 0 ∷ pos 16 ∷ pos 8 ∷ []) (times 2601 (pos 0 ∷ pos 1 ∷ pos 0 ∷ [])) (refusal 1 1 0) ∷
+    -- the least and the largest number
+    checks (pos 0 ∷ negsuc 9223372036854775807 ∷ pos 9223372036854775807 ∷ pos 8 ∷ []) [] (refusal 2 0 0) ∷
+    checks (pos 0 ∷ pos 9223372036854775807 ∷ pos 9223372036854775807 ∷ pos 8 ∷ []) [] (refusal 2 0 0) ∷
+    -- unknown kind, unknown unit, no range
+    checks (pos 0 ∷ pos 0 ∷ pos 16 ∷ pos 8 ∷ pos 3 ∷ pos 0 ∷ pos 1 ∷ pos 8 ∷ []) [] (refusal 2 0 1) ∷
+    checks (pos 0 ∷ pos 0 ∷ pos 1 ∷ pos 24 ∷ []) [] (refusal 2 0 0) ∷
+    checks (pos 0 ∷ pos 0 ∷ pos 0 ∷ pos 8 ∷ []) [] (refusal 2 0 0) ∷
+    -- an end that is no node row
+    checks (pos 0 ∷ pos 0 ∷ pos 16 ∷ pos 8 ∷ pos 2 ∷ pos 0 ∷ pos 16 ∷ pos 8 ∷ []) (pos 0 ∷ pos 2 ∷ pos 0 ∷ []) (refusal 3 1 0) ∷
+    checks (pos 0 ∷ pos 0 ∷ pos 16 ∷ pos 8 ∷ pos 2 ∷ pos 0 ∷ pos 16 ∷ pos 8 ∷ []) (negsuc 0 ∷ pos 1 ∷ pos 0 ∷ []) (refusal 3 1 0) ∷
+    -- from a block, in a lower row than a bad end
+    checks (pos 0 ∷ pos 0 ∷ pos 16 ∷ pos 8 ∷ pos 2 ∷ pos 0 ∷ pos 16 ∷ pos 8 ∷ []) (pos 0 ∷ pos 1 ∷ pos 0 ∷ pos 1 ∷ pos 0 ∷ pos 0 ∷ pos 0 ∷ pos 5 ∷ pos 0 ∷ []) (refusal 4 1 1) ∷
+    -- an edge from a block to no node row: 3 before 4
+    checks (pos 0 ∷ pos 0 ∷ pos 16 ∷ pos 8 ∷ pos 2 ∷ pos 0 ∷ pos 16 ∷ pos 8 ∷ []) (pos 1 ∷ pos 9 ∷ pos 0 ∷ []) (refusal 3 1 0) ∷
+    -- a self-loop of a space, and of a block
+    checks (pos 0 ∷ pos 0 ∷ pos 16 ∷ pos 8 ∷ []) (pos 0 ∷ pos 0 ∷ pos 0 ∷ []) (refusal 5 0 0) ∷
+    checks (pos 2 ∷ pos 0 ∷ pos 16 ∷ pos 8 ∷ []) (pos 0 ∷ pos 0 ∷ pos 0 ∷ []) (refusal 4 1 0) ∷
+    []
+
+-- walk, list and compare
+abbrev pub callReadings : List Reading
+callReadings =
+    -- a walk: the address, one past the root, and a negative one
+    walks (pos 0 ∷ pos 0 ∷ pos 16 ∷ pos 8 ∷ pos 2 ∷ pos 0 ∷ pos 16 ∷ pos 8 ∷ []) (pos 0 ∷ pos 1 ∷ pos 0 ∷ []) (pos 0) (pos 1) (pos 5) (pos 9 ∷ pos 9 ∷ []) (full 1) (pos 5 ∷ pos 9 ∷ []) ∷
+    walks (pos 0 ∷ pos 0 ∷ pos 16 ∷ pos 8 ∷ pos 2 ∷ pos 0 ∷ pos 16 ∷ pos 8 ∷ []) (pos 0 ∷ pos 1 ∷ pos 0 ∷ []) (pos 0) (pos 1) (pos 128) (pos 9 ∷ []) (full 0) (pos 9 ∷ []) ∷
+    walks (pos 0 ∷ pos 0 ∷ pos 16 ∷ pos 8 ∷ pos 2 ∷ pos 0 ∷ pos 16 ∷ pos 8 ∷ []) (pos 0 ∷ pos 1 ∷ pos 0 ∷ []) (pos 0) (pos 1) (negsuc 0) [] (full 0) [] ∷
+    -- parallel edges reach a leaf bit once; two offsets reach two, ascending
+    walks (pos 0 ∷ pos 0 ∷ pos 16 ∷ pos 8 ∷ pos 2 ∷ pos 0 ∷ pos 16 ∷ pos 8 ∷ []) (pos 0 ∷ pos 1 ∷ pos 1 ∷ pos 0 ∷ pos 1 ∷ pos 0 ∷ pos 0 ∷ pos 1 ∷ pos 1 ∷ []) (pos 0) (pos 1) (pos 8) (pos 7 ∷ pos 7 ∷ pos 7 ∷ []) (full 2) (pos 0 ∷ pos 8 ∷ pos 7 ∷ []) ∷
+    -- no room: 11, and the buffer as it was
+    walks (pos 0 ∷ pos 0 ∷ pos 16 ∷ pos 8 ∷ pos 2 ∷ pos 0 ∷ pos 16 ∷ pos 8 ∷ []) (pos 0 ∷ pos 1 ∷ pos 1 ∷ pos 0 ∷ pos 1 ∷ pos 0 ∷ []) (pos 0) (pos 1) (pos 8) (pos 7 ∷ []) (refusal 11 7 0) (pos 7 ∷ []) ∷
+    -- the named root is no root; the leaf no leaf; neither a node row
+    walks (pos 0 ∷ pos 0 ∷ pos 16 ∷ pos 8 ∷ pos 2 ∷ pos 0 ∷ pos 16 ∷ pos 8 ∷ []) (pos 0 ∷ pos 1 ∷ pos 0 ∷ []) (pos 1) (pos 1) (pos 0) [] (refusal 7 4 0) [] ∷
+    walks (pos 0 ∷ pos 0 ∷ pos 16 ∷ pos 8 ∷ pos 2 ∷ pos 0 ∷ pos 16 ∷ pos 8 ∷ []) (pos 0 ∷ pos 1 ∷ pos 0 ∷ []) (pos 0) (pos 0) (pos 0) [] (refusal 7 5 0) [] ∷
+    walks (pos 0 ∷ pos 0 ∷ pos 16 ∷ pos 8 ∷ pos 2 ∷ pos 0 ∷ pos 16 ∷ pos 8 ∷ []) (pos 0 ∷ pos 1 ∷ pos 0 ∷ []) (negsuc 0) (pos 7) (pos 0) [] (refusal 7 4 0) [] ∷
+    -- a list of one record needs three numbers, and past them the buffer keeps its own
+    listed (pos 0 ∷ pos 0 ∷ pos 16 ∷ pos 8 ∷ pos 2 ∷ pos 0 ∷ pos 16 ∷ pos 8 ∷ []) (pos 0 ∷ pos 1 ∷ pos 0 ∷ []) (pos 0) (pos 1) (pos 9 ∷ pos 9 ∷ pos 9 ∷ pos 9 ∷ []) (full 1) (pos 0 ∷ pos 127 ∷ pos 0 ∷ pos 9 ∷ []) ∷
+    listed (pos 0 ∷ pos 0 ∷ pos 16 ∷ pos 8 ∷ pos 2 ∷ pos 0 ∷ pos 16 ∷ pos 8 ∷ []) (pos 0 ∷ pos 1 ∷ pos 0 ∷ []) (pos 0) (pos 1) (pos 9 ∷ pos 9 ∷ []) (refusal 11 7 0) (pos 9 ∷ pos 9 ∷ []) ∷
+    -- 1,001 leaf rows and no root row: the shape comes first
+    compares (record { specNodes = (pos 0 ∷ pos 0 ∷ pos 16 ∷ pos 8 ∷ pos 2 ∷ pos 0 ∷ pos 16 ∷ pos 8 ∷ []); specEdges = (pos 0 ∷ pos 1 ∷ pos 0 ∷ []); implNodes = (pos 0 ∷ pos 0 ∷ pos 16 ∷ pos 8 ∷ pos 2 ∷ pos 0 ∷ pos 16 ∷ pos 8 ∷ []); implEdges = (pos 0 ∷ pos 1 ∷ pos 0 ∷ []); rootPairs = []; leafPairs = (times 1001 (pos 1 ∷ pos 1 ∷ [])) }) (refusal 1 5 0) ∷
+    -- no root pair; no leaf pair
+    compares (record { specNodes = (pos 0 ∷ pos 0 ∷ pos 16 ∷ pos 8 ∷ pos 2 ∷ pos 0 ∷ pos 16 ∷ pos 8 ∷ []); specEdges = []; implNodes = (pos 0 ∷ pos 0 ∷ pos 16 ∷ pos 8 ∷ pos 2 ∷ pos 0 ∷ pos 16 ∷ pos 8 ∷ []); implEdges = []; rootPairs = []; leafPairs = (pos 1 ∷ pos 1 ∷ []) }) (refusal 9 4 0) ∷
+    compares (record { specNodes = (pos 0 ∷ pos 0 ∷ pos 16 ∷ pos 8 ∷ pos 2 ∷ pos 0 ∷ pos 16 ∷ pos 8 ∷ []); specEdges = []; implNodes = (pos 0 ∷ pos 0 ∷ pos 16 ∷ pos 8 ∷ pos 2 ∷ pos 0 ∷ pos 16 ∷ pos 8 ∷ []); implEdges = []; rootPairs = (pos 0 ∷ pos 0 ∷ []); leafPairs = [] }) (refusal 9 5 0) ∷
+    -- a node paired before, on one side; 8 at row 1 before 7 at row 2
+    compares (record { specNodes = (pos 0 ∷ pos 0 ∷ pos 16 ∷ pos 8 ∷ pos 0 ∷ pos 0 ∷ pos 16 ∷ pos 8 ∷ pos 2 ∷ pos 0 ∷ pos 16 ∷ pos 8 ∷ []); specEdges = []; implNodes = (pos 0 ∷ pos 0 ∷ pos 16 ∷ pos 8 ∷ pos 0 ∷ pos 0 ∷ pos 16 ∷ pos 8 ∷ pos 2 ∷ pos 0 ∷ pos 16 ∷ pos 8 ∷ []); implEdges = []; rootPairs = (pos 0 ∷ pos 0 ∷ pos 1 ∷ pos 0 ∷ pos 9 ∷ pos 9 ∷ []); leafPairs = (pos 2 ∷ pos 2 ∷ []) }) (refusal 8 4 1) ∷
+    -- within a row 7 before 8
+    compares (record { specNodes = (pos 0 ∷ pos 0 ∷ pos 16 ∷ pos 8 ∷ pos 0 ∷ pos 0 ∷ pos 16 ∷ pos 8 ∷ pos 2 ∷ pos 0 ∷ pos 16 ∷ pos 8 ∷ []); specEdges = []; implNodes = (pos 0 ∷ pos 0 ∷ pos 16 ∷ pos 8 ∷ pos 0 ∷ pos 0 ∷ pos 16 ∷ pos 8 ∷ pos 2 ∷ pos 0 ∷ pos 16 ∷ pos 8 ∷ []); implEdges = []; rootPairs = (pos 0 ∷ pos 0 ∷ pos 0 ∷ pos 2 ∷ []); leafPairs = (pos 2 ∷ pos 2 ∷ []) }) (refusal 7 4 1) ∷
+    -- the first unequal pair is partial though a later one is different
+    compares (record { specNodes = (pos 0 ∷ pos 0 ∷ pos 16 ∷ pos 8 ∷ pos 2 ∷ pos 0 ∷ pos 16 ∷ pos 8 ∷ pos 2 ∷ pos 0 ∷ pos 16 ∷ pos 8 ∷ []); specEdges = (pos 0 ∷ pos 1 ∷ pos 0 ∷ pos 0 ∷ pos 2 ∷ pos 0 ∷ []); implNodes = (pos 0 ∷ pos 0 ∷ pos 16 ∷ pos 8 ∷ pos 2 ∷ pos 0 ∷ pos 8 ∷ pos 8 ∷ pos 2 ∷ pos 0 ∷ pos 16 ∷ pos 8 ∷ []); implEdges = (pos 0 ∷ pos 1 ∷ pos 0 ∷ []); rootPairs = (pos 0 ∷ pos 0 ∷ []); leafPairs = (pos 1 ∷ pos 1 ∷ pos 2 ∷ pos 2 ∷ []) }) (full (record { equal = 0; partial = 1; different = 1; verdict = 2; place = record { root = pos 0; leaf = pos 0; address = pos 64 } })) ∷
+    []
+
+-- the call through C linkage, and the tally
+abbrev pub answerReadings : List Reading
+answerReadings =
+    -- the coded refusal: 13, table 6, line 1
+    codes (bytes "") [] (negℤ (pos 1360000001)) ∷
+    -- the length of P1's report, into a buffer that holds it just
+    codes (bytes text1) (times 106 (7 ∷ [])) (pos 106) ∷
+    -- one byte less: 11
+    codes (bytes text1) (times 105 (7 ∷ [])) (negℤ (pos 1170000000)) ∷
+    -- a partial map adds to the second count, a refused text to the last, 11 too
+    tallies (bytes text1) (times 106 (7 ∷ [])) freshTally (0 ∷ 1 ∷ 0 ∷ 0 ∷ []) ∷
+    tallies (bytes "") [] freshTally (0 ∷ 0 ∷ 0 ∷ 1 ∷ []) ∷
+    tallies (bytes text1) [] freshTally (0 ∷ 0 ∷ 0 ∷ 1 ∷ []) ∷
+    -- a count at or above 2^63 − 1 stays
+    tallies (bytes "") [] (1 ∷ 2 ∷ 3 ∷ (2 ^ 63 - 2) ∷ []) (1 ∷ 2 ∷ 3 ∷ (2 ^ 63 - 1) ∷ []) ∷
+    tallies (bytes "") [] (1 ∷ 2 ∷ 3 ∷ (2 ^ 63 - 1) ∷ []) (1 ∷ 2 ∷ 3 ∷ (2 ^ 63 - 1) ∷ []) ∷
+    tallies (bytes "") [] (1 ∷ 2 ∷ 3 ∷ (2 ^ 64 - 1) ∷ []) (1 ∷ 2 ∷ 3 ∷ (2 ^ 64 - 1) ∷ []) ∷
+    -- a text of 65,536 bytes is taken as to its length; of 65,537 it is not
+    codes (times 65536 (10 ∷ [])) [] (negℤ (pos 1360000001)) ∷
+    codes (times 65537 (10 ∷ [])) [] (negℤ (pos 1260000000)) ∷
+    []

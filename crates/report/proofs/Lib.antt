@@ -1,0 +1,4 @@
+pub mod Tail
+pub mod Digits
+pub mod Distance
+pub mod Lines

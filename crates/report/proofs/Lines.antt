@@ -7,9 +7,10 @@ use native.Mathlib.Omega.{arith}
 use lib.IntN.{ℤ, pos, negsuc}
 use lib.ListN.{length, take, getD, length-append}
 use lib.Seq.{take-all}
+use Rattle.model.specs.Answers.{numbered}
 use Rattle.model.specs.Bytes.{Bytes, bytes, blank, lineFeed, shown, spaced}
 use Rattle.model.specs.Report.{lineOf, refusalReport}
-use Rattle.report.specs.Put.{fieldAt, refusal, refusalRoom}
+use Rattle.report.specs.Put.{fieldAt, refusalRoom}
 use Rattle.report.proofs.Digits.{digits-short, digits-within}
 
 -- a number has at most twenty digits and a minus
@@ -95,7 +96,7 @@ refusal-line-within a b c h i j =
 
 -- what is printed for a refusal
 pub refusal-parts : (number table row : ℕ)
-    → refusalReport (refusal number table row) ≡ bytes "refusal table row\n" ++ lineOf (pos number ∷ pos table ∷ pos row ∷ [])
+    → refusalReport (numbered number table row) ≡ bytes "refusal table row\n" ++ lineOf (pos number ∷ pos table ∷ pos row ∷ [])
 unfolding refusalReport
 refusal-parts number table row = refl
 

@@ -5,7 +5,6 @@ use Prim.Native.Nat.{ℕ, zero, suc}
 use lib.IntN.{ℤ}
 use lib.ListN.{length, drop}
 use Rattle.model.specs.Bytes.{Bytes, blank, shown}
-use Rattle.model.specs.Refusals.{Refusal}
 
 -- the line stands at the front of the buffer, which keeps its bytes behind it, and n is the line's length
 pub record Put (line before after : Bytes) (n : ℕ) : Type 0 where
@@ -24,7 +23,3 @@ maxFields = 8
 -- a refusal is printed into at least this many bytes
 abbrev pub refusalRoom : ℕ
 refusalRoom = 80
-
--- a refusal of its three numbers
-abbrev pub refusal : ℕ → ℕ → ℕ → Refusal
-refusal number table row = record { number = number; table = table; row = row }

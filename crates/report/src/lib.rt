@@ -3,9 +3,10 @@ ghost use mathlib.Core.Path.{_≡_};
 ghost use Prim.Native.Nat.{_≤_, _<_, _^_};
 ghost use lib.IntN.{natAbs};
 ghost use lib.ListN.{length};
+ghost use Rattle.model.specs.Answers.{numbered};
 ghost use Rattle.model.specs.Bytes.{bytes, digits, shown};
 ghost use Rattle.model.specs.Report.{lineOf, refusalReport};
-ghost use Rattle.report.specs.Put.{Put, fieldAt, maxFields, refusal, refusalRoom};
+ghost use Rattle.report.specs.Put.{Put, fieldAt, maxFields, refusalRoom};
 
 // A number of 64 bits has at most this many digits.
 const MAX_DIGITS: usize = 20;
@@ -172,7 +173,7 @@ pub fn put_refusal_heading(out: &mut [u8]) -> usize
 // Writes what is printed for a refusal: the names and, into what remains of the buffer, its number, table and row.
 pub fn put_refusal(out: &mut [u8], number: usize, table: usize, row: usize) -> usize
     requires { ⌜ (refusalRoom ≤ length (now out)) × (number < 2 ^ 32) × (table < 2 ^ 32) × (row < 2 ^ 32) ⌝ }
-    ensures { λ r. ⌜ Put (refusalReport (refusal number table row)) (now (out .entry)) (now (out .exit)) r ⌝ }
+    ensures { λ r. ⌜ Put (refusalReport (numbered number table row)) (now (out .entry)) (now (out .exit)) r ⌝ }
 {
     let at = put_refusal_heading(out);
     let line = [number as i64, table as i64, row as i64];

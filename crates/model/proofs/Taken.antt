@@ -145,7 +145,7 @@ sign-none (pos a) h = refl
 sign-none (negsuc a) h = absurd (omega (arith, ints))
 
 -- the parts of a number within a bound on either side
-parts-within : (A : ℕ) (x : ℤ) → negℤ (pos A) ≤ℤ x → x ≤ℤ pos A → (plus x ≤ A) × (minus x ≤ A)
+pub parts-within : (A : ℕ) (x : ℤ) → negℤ (pos A) ≤ℤ x → x ≤ℤ pos A → (plus x ≤ A) × (minus x ≤ A)
 parts-within A (pos a) h k = omega (arith, ints)
 parts-within A (negsuc a) h k = omega (arith, ints, neg (pos A))
 

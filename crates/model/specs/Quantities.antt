@@ -1,8 +1,13 @@
--- What is asked of numbers that the code scales and moves, so that the results are numbers of 64 bits. Assumes nothing.
+-- What is asked of numbers that the code adds, scales and moves, so that the results are numbers of 64 bits. Assumes nothing.
 -- The limits of a taken graph lie far inside: bit addresses below 2^55, bit offsets within ±2^55.
 use Prim.Native.Nat.{ℕ, _^_}
-use lib.IntN.{ℤ, pos, negℤ, _*ℤ_}
+use lib.IntN.{ℤ, pos, negℤ, _+ℤ_, _*ℤ_}
 use lib.Signed.{_≤ℤ_, _<ℤ_}
+
+-- units + more lies within ±2^62
+pub record Addable (units more : ℤ) : Type 0 where
+  pub low : negℤ (pos (2 ^ 62)) ≤ℤ (units +ℤ more)
+  pub high : (units +ℤ more) ≤ℤ pos (2 ^ 62)
 
 -- units × unit lies within ±2^62
 pub record Scalable (units unit : ℤ) : Type 0 where

@@ -1,9 +1,9 @@
 // The address map graph model: quantities and answers. The definitions that every contract cites are in specs/.
 ghost use mathlib.Core.Path.{_≡_};
 ghost use Prim.Native.Nat.{_+_, _≤_, _^_};
-ghost use lib.IntN.{pos, negℤ, _-ℤ_, _*ℤ_};
+ghost use lib.IntN.{pos, negℤ, _+ℤ_, _-ℤ_, _*ℤ_};
 ghost use lib.Signed.{_≤ℤ_};
-ghost use Rattle.model.specs.Quantities.{Scalable, Movable};
+ghost use Rattle.model.specs.Quantities.{Addable, Scalable, Movable};
 
 // A count of address units.
 pub struct Units(pub i64);
@@ -17,6 +17,14 @@ impl Units {
         ensures { λ r. ⌜ r .0 ≡ number ⌝ }
     {
         Units(number)
+    }
+
+    // The sum of a base and a range.
+    pub fn plus(self, more: Units) -> Units
+        requires { ⌜ Addable (self .0) (more .0) ⌝ }
+        ensures { λ r. ⌜ r .0 ≡ self .0 +ℤ more .0 ⌝ }
+    {
+        Units(self.0 + more.0)
     }
 
     // Scaled by the unit of a node: the only way from address units to bits.
@@ -35,6 +43,14 @@ impl Bits {
         ensures { λ r. ⌜ r .0 ≡ self .0 -ℤ offset .0 ⌝ }
     {
         Bits(self.0 - offset.0)
+    }
+
+    // The bit address before this one.
+    pub fn previous(self) -> Bits
+        requires { ⌜ Movable (self .0) (pos 1) ⌝ }
+        ensures { λ r. ⌜ r .0 ≡ self .0 -ℤ pos 1 ⌝ }
+    {
+        Bits(self.0 - 1)
     }
 }
 

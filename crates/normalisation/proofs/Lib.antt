@@ -1,0 +1,5 @@
+pub mod Sorted
+pub mod Merging
+pub mod Touching
+pub mod Turns
+pub mod Normalising

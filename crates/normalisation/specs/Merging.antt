@@ -1,0 +1,75 @@
+-- Normalisation in n log n: the records sorted by displacement, merged in one pass, and sorted by first. Assumes nothing.
+use mathlib.Core.Bool.{cond}
+use mathlib.Core.List.{List, [], _∷_, map}
+use Prim.Native.Nat.{ℕ, _^_}
+use lib.IntN.{ℤ, pos}
+use lib.Signed.{_≤ℤ_, _<ℤ_}
+use Rattle.lists.specs.Lists.{_∈_}
+use Rattle.sorting.specs.declared.Row.{Row}
+use Rattle.sorting.specs.Rows.{rowsOf, sorted}
+use Rattle.model.specs.Bitmapping.{Record}
+use Rattle.model.specs.Runs.{touch, hull}
+
+-- ---- records as rows
+
+-- the record as a row that is ordered by displacement, then first
+abbrev pub byDisplacement : Record → Row
+byDisplacement s = record { first = s .displacement; second = s .first; third = s .last }
+
+-- the record of such a row
+abbrev pub ofDisplacement : Row → Record
+ofDisplacement r = record { first = r .second; last = r .third; displacement = r .first }
+
+-- the record as a row that is ordered by first, then displacement
+abbrev pub byFirst : Record → Row
+byFirst s = record { first = s .first; second = s .displacement; third = s .last }
+
+-- the record of such a row
+abbrev pub ofFirst : Row → Record
+ofFirst r = record { first = r .first; last = r .third; displacement = r .second }
+
+-- the record as a row of a bitmapping list
+abbrev pub asListed : Record → Row
+asListed s = record { first = s .first; second = s .last; third = s .displacement }
+
+-- the records whose rows, ordered by displacement, the first n rows of the flat list t are
+abbrev pub recordsOf : List ℤ → ℕ → List Record
+recordsOf t n = map ofDisplacement (rowsOf t n)
+
+-- a record that has a bit, and whose bits lie below 2^62: one more than its last bit is a number of 64 bits
+pub record Small (s : Record) : Type 0 where
+  pub full : s .first ≤ℤ s .last
+  pub high : s .last <ℤ pos (2 ^ 62)
+
+-- every record of the list is small
+abbrev pub AllSmall : List Record → Type 0
+AllSmall l = (s : Record) → s ∈ l → Small s
+
+-- ---- merging
+
+-- the current record joined with those that follow while it touches the next; the first that it does not touch is then the current one
+unfoldable pub mergeInto : Record → List Record → List Record
+mergeInto current [] = current ∷ []
+mergeInto current (s ∷ t) =
+    let wider = mergeInto (hull current s) t in
+    let later = current ∷ mergeInto s t in
+    cond (touch current s) wider later
+
+-- each record joined with those that follow it, while they touch
+unfoldable pub merged : List Record → List Record
+merged [] = []
+merged (s ∷ t) = mergeInto s t
+
+-- ---- normalisation
+
+-- the records sorted by displacement, then first, then last
+unfoldable pub sortedByDisplacement : List Record → List Record
+sortedByDisplacement l = map ofDisplacement (sorted (map byDisplacement l))
+
+-- the records sorted by first, then displacement, then last
+unfoldable pub sortedByFirst : List Record → List Record
+sortedByFirst l = map ofFirst (sorted (map byFirst l))
+
+-- records of one displacement that touch are next to each other once sorted by displacement, so that one pass joins them
+unfoldable pub fastNormal : List Record → List Record
+fastNormal l = sortedByFirst (merged (sortedByDisplacement l))

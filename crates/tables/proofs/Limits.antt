@@ -1,0 +1,143 @@
+-- What the tests on the numbers of a row say, and that the bits of a row within its limits are numbers of 64 bits.
+use mathlib.Core.Path.{_≡_, refl, sym, _∙_}
+use mathlib.Core.Bool.{Bool, true, false, _&&_}
+use Prim.Native.Nat.{_^_}
+use native.Mathlib.Omega.{arith}
+use lib.Dec.{ltb}
+use lib.IntN.{ℤ, pos, negℤ, natAbs, _+ℤ_, _-ℤ_, _*ℤ_}
+use lib.Signed.{leZ, _≤ℤ_, yes-nonNeg, pos-natAbs}
+use lib.ListN.{length}
+use Rattle.integers.proofs.Linear.{ints, sum, diff, neg}
+use Rattle.integers.proofs.Products.{times-bound}
+use Rattle.integers.proofs.Tests.{test-of, of-test, is-true, is-false, T-true, and-out}
+use Rattle.lists.proofs.Decisions.{Decides, decides-as, decides-and, decides-le, decides-lt}
+use Rattle.model.specs.Limits.{maxUnits, lastAddress}
+use Rattle.model.specs.Rows.{Node, Edge}
+use Rattle.model.specs.Graph.{Graph, NodeRow, firstBit, lastBit}
+use Rattle.model.specs.Quantities.{Addable, Scalable, Movable}
+use Rattle.model.specs.Refusals.{BadNode, AddressUnit}
+use Rattle.model.specs.Checks.{isKind, isUnit, goodNode, isRow, goodEdge}
+use Rattle.model.proofs.GraphChecks.{isRow?}
+use Rattle.model.proofs.Taken.{node-bounds, unit-size, parts-within, bounds-full, bounds-address}
+use Rattle.tables.specs.Tables.{goodExtent, goodOffset}
+
+-- ---- tests that decide
+
+-- a test that decides what holds passes
+pub decides-true : {P : Type 0} {t : Bool} → Decides P t → P → true ≡ t
+decides-true {t} d p = sym (is-true t (of-test d (λ n. n p)))
+
+-- a test that decides what does not hold fails
+pub decides-false : {P : Type 0} {t : Bool} → Decides P t → (P → ⊥) → false ≡ t
+decides-false {t} d n = sym (is-false t (λ h. n (test-of d h)))
+
+-- two tests that decide the same are the same
+pub decides-same : {P : Type 0} {a b : Bool} → Decides P a → Decides P b → a ≡ b
+decides-same {a = true} d e = decides-true e (test-of d tt)
+decides-same {a = false} d e = decides-false e (λ p. of-test d (λ n. n p))
+
+-- ---- tests on the numbers of a row
+
+-- the test on base and range
+pub extent? : (base range : ℤ) → Decides (((pos 0 ≤ℤ base) × (pos 1 ≤ℤ range)) × ((base +ℤ range) ≤ℤ pos maxUnits)) (goodExtent base range)
+unfolding goodExtent
+extent? base range = decides-and (decides-and (decides-le (pos 0) base) (decides-le (pos 1) range)) (decides-le (base +ℤ range) (pos maxUnits))
+
+-- the test on an offset
+pub offset? : (offset : ℤ) → Decides ((negℤ (pos maxUnits) ≤ℤ offset) × (offset ≤ℤ pos maxUnits)) (goodOffset offset)
+unfolding goodOffset
+offset? offset = decides-and (decides-le (negℤ (pos maxUnits)) offset) (decides-le offset (pos maxUnits))
+
+and-assoc : (a b c : Bool) → a && b && c ≡ a && (b && c)
+and-assoc true b c = refl
+and-assoc false b c = refl
+
+-- the test on a node row is that on its kind and unit, then that on base and range
+pub node-parts : (n : Node) → goodNode n ≡ isKind (n .kind) && isUnit (n .unit) && goodExtent (n .base) (n .range)
+unfolding goodNode goodExtent
+node-parts n = simp and-assoc
+
+-- the test on an edge row is that on its two ends, then that on its offset
+pub edge-parts : (g : Graph) (e : Edge) → goodEdge g e ≡ isRow g (e .from) && isRow g (e .to) && goodOffset (e .offset)
+unfolding goodEdge goodOffset
+edge-parts g e = and-assoc (isRow g (e .from) && isRow g (e .to)) (leZ (negℤ (pos maxUnits)) (e .offset)) (leZ (e .offset) (pos maxUnits))
+
+-- where neither is too low, base and range keep their limits exactly where range is at most what base leaves of the highest end
+pub extent-rest : (base range : ℤ) → pos 0 ≤ℤ base → pos 1 ≤ℤ range → leZ range (pos maxUnits -ℤ base) ≡ goodExtent base range
+extent-rest base range low some =
+    let rest = diff (pos maxUnits) base in
+    let end = sum base range in
+    decides-same
+    (decides-as (λ h. ((low, some), omega (arith, ints, rest, end)), λ h. omega (arith, ints, h .1, rest, end)) (decides-le range (pos maxUnits -ℤ base)))
+    (extent? base range)
+
+-- a number that is not negative is a row exactly where it is below the number of rows
+pub row-below : (g : Graph) (v : ℤ) → pos 0 ≤ℤ v → ltb (natAbs v) (length (g .nodes)) ≡ isRow g v
+row-below g v low =
+    let e = pos-natAbs v (yes-nonNeg low) in
+    let below = decides-lt (natAbs v) (length (g .nodes)) in
+    decides-same (decides-as (λ h. record { low = low; high = omega (arith, ints, e) }, λ r. omega (arith, ints, e, r .high)) below) (isRow? g v)
+
+-- an edge within its limits leaves a node row
+pub edge-from-row : (g : Graph) (e : Edge) → goodEdge g e ≡ true → NodeRow g (e .from)
+edge-from-row g e h =
+    let from = isRow g (e .from) in
+    let to = isRow g (e .to) in
+    let ends = and-out (from && to) (goodOffset (e .offset)) (T-true (from && to && goodOffset (e .offset)) (sym (edge-parts g e) ∙ h)) .0 in
+    test-of (isRow? g (e .from)) (and-out from to ends .0)
+
+-- ---- bits
+
+-- a count of units within the limits is scaled by an address unit
+pub units-scalable : (x u : ℤ) → negℤ (pos maxUnits) ≤ℤ x → x ≤ℤ pos maxUnits → AddressUnit u → Scalable x u
+units-scalable x u low high a =
+    let s = unit-size a in
+    let parts = parts-within maxUnits x low high in
+    let most = times-bound maxUnits 128 x u (parts .0) (parts .1) (s .sign) (s .most) in
+    record { low = omega (arith, ints, most .1, neg (pos (2 ^ 62))); high = omega (arith, ints, most .0) }
+
+-- the numbers of a node row within its limits
+module _ {n : Node} (good : BadNode n → ⊥) where
+  -- the first bit is a bit address
+  pub first-address : (pos 0 ≤ℤ firstBit n) × (firstBit n ≤ℤ lastAddress)
+  first-address =
+      let b = node-bounds good in
+      bounds-address b (record { above = omega (arith, ints); below = bounds-full b })
+
+  -- the last bit is a bit address
+  pub last-address : (pos 0 ≤ℤ lastBit n) × (lastBit n ≤ℤ lastAddress)
+  last-address =
+      let b = node-bounds good in
+      bounds-address b (record { above = bounds-full b; below = omega (arith, ints) })
+
+  -- base is scaled
+  pub base-scalable : Scalable (n .base) (n .unit)
+  unfolding firstBit
+  base-scalable = record { low = omega (arith, ints, first-address .0, neg (pos (2 ^ 62))); high = omega (arith, ints, first-address .1) }
+
+  -- range is added to base
+  pub end-addable : Addable (n .base) (n .range)
+  end-addable =
+      let b = node-bounds good in
+      record { low = omega (arith, ints, b .base, b .range, neg (pos (2 ^ 62)), sum (n .base) (n .range)); high = omega (arith, ints, b .end) }
+
+  -- the bit after the last
+  end-address : (pos 0 ≤ℤ ((n .base +ℤ n .range) *ℤ n .unit)) × (((n .base +ℤ n .range) *ℤ n .unit) ≤ℤ pos (2 ^ 55))
+  unfolding lastBit
+  end-address =
+      let after = diff ((n .base +ℤ n .range) *ℤ n .unit) (pos 1) in
+      (omega (arith, ints, last-address .0, after), omega (arith, ints, last-address .1, after))
+
+  -- the sum is scaled
+  pub end-scalable : Scalable (n .base +ℤ n .range) (n .unit)
+  end-scalable = record { low = omega (arith, ints, end-address .0, neg (pos (2 ^ 62))); high = omega (arith, ints, end-address .1) }
+
+  -- the bit after the last has one before it
+  pub end-movable : Movable ((n .base +ℤ n .range) *ℤ n .unit) (pos 1)
+  end-movable =
+      record {
+        low = end-address .0;
+        high = omega (arith, ints, end-address .1);
+        offsetLow = omega (arith, ints, neg (pos (2 ^ 62)));
+        offsetHigh = omega (arith, ints);
+      }

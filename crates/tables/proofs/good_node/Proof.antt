@@ -1,0 +1,75 @@
+-- Each call's answer is one part of the test on the row.
+use mathlib.Core.Bool.{true}
+use mathlib.Core.Path.{_≡_, sym, _∙_}
+use borrow.Author.Needs.{needs}
+use borrow.Author.Tests.{not-true, not-false}
+use mir.Syntax.{w64}
+use mir.Val.{SFits}
+use mir.Facts.{toZ-ofZ}
+use Rattle.model.specs.Checks.{isKind, isUnit}
+use Rattle.tables.specs.Tables.{goodExtent}
+use Rattle.tables.proofs.Limits.{node-parts}
+use Rattle.tables.proofs.good_node.Statement.{statement}
+use Rattle.tables.proofs.good_node.Tie as tie
+
+kind-test : (c : tie.After-is-kind) → isKind (c .before .before .before .before .args .n .kind) ≡ c .is-kind .result
+kind-test c =
+    let f : SFits w64 (c .before .before .before .before .args .n .kind) = search needs in
+    sym (simp (toZ-ofZ, f) at (c .is-kind .ensures))
+
+kind-good : (c : tie.Else1) → isKind (c .before .before .before .before .before .args .n .kind) ≡ true
+kind-good c = kind-test (c .before) ∙ not-false _ (c .if1 .left)
+
+unit-test : (c : tie.After-is-unit) → isUnit (c .before .before .before .before .before .before .before .args .n .unit) ≡ c .is-unit .result
+unit-test c =
+    let f : SFits w64 (c .before .before .before .before .before .before .before .args .n .unit) = search needs in
+    sym (simp (toZ-ofZ, f) at (c .is-unit .ensures))
+
+unit-good : (c : tie.Else2) → isUnit (c .before .before .before .before .before .before .before .before .args .n .unit) ≡ true
+unit-good c = unit-test (c .before) ∙ not-false _ (c .if2 .left)
+
+extent-test : (c : tie.After-good-extent)
+    → goodExtent (c .before .before .before .before .before .before .before .before .before .before .before .args .n .base .0)
+    (c .before .before .before .before .before .before .before .before .before .before .before .args .n .range .0) ≡ c .good-extent .result
+extent-test c =
+    let n = c .before .before .before .before .before .before .before .before .before .before .before .args .n in
+    let f : SFits w64 (n .base .0) = search needs in
+    let g : SFits w64 (n .range .0) = search needs in
+    sym (simp (toZ-ofZ, f, g) at (c .good-extent .ensures))
+
+is-kind-requires : tie.Need-is-kind-requires
+is-kind-requires c κs = search needs
+
+returns : tie.Need-returns
+returns c = simp (node-parts, kind-test (c .before) ∙ not-true _ (c .if1 .taken))
+
+is-unit-requires : tie.Need-is-unit-requires
+is-unit-requires c κs = search needs
+
+returns-2 : tie.Need-returns-2
+returns-2 c = simp (node-parts, kind-good (c .before .before .before), unit-test (c .before) ∙ not-true _ (c .if2 .taken))
+
+good-extent-requires : tie.Need-good-extent-requires
+good-extent-requires c κs = search needs
+
+returns-3 : tie.Need-returns-3
+returns-3 c =
+    let s = c .before .before .before .before in
+    simp (node-parts, kind-good (s .before .before .before), unit-good s, extent-test (c .before) ∙ not-true _ (c .if3 .taken))
+
+returns-4 : tie.Need-returns-4
+returns-4 c =
+    let s = c .before .before .before .before in
+    simp (node-parts, kind-good (s .before .before .before), unit-good s, extent-test (c .before) ∙ not-false _ (c .if3 .left))
+
+pub good-node-spec : {M : Type 1} → statement M
+good-node-spec =
+    tie.close
+    (tie.spec
+    is-kind-requires
+    returns
+    is-unit-requires
+    returns-2
+    good-extent-requires
+    returns-3
+    returns-4)

@@ -1,0 +1,32 @@
+-- Each way out is the outcome of the two tests.
+use native.Mathlib.Omega.{arith}
+use borrow.Author.Needs.{needs}
+use lib.IntN.{pos, negℤ}
+use lib.Signed.{_≤ℤ_}
+use mir.Facts.{toZ-ofZ}
+use Rattle.integers.proofs.Linear.{ints}
+use Rattle.integers.proofs.Range.{ltZ-true, ltZ-false}
+use Rattle.lists.proofs.Decisions.{decides-as, decides-le}
+use Rattle.model.specs.Limits.{maxUnits}
+use Rattle.tables.proofs.Limits.{decides-false, decides-same, offset?}
+use Rattle.tables.proofs.good_offset.Statement.{statement}
+use Rattle.tables.proofs.good_offset.Tie as tie
+
+sub-if1 : tie.Need-sub-if1
+sub-if1 c = search needs
+
+returns : tie.Need-returns
+returns c =
+    let o = c .before .args .offset in
+    let h = ltZ-true o (negℤ (pos maxUnits)) (simp (toZ-ofZ, c .before .fits .offset) at (c .if1 .taken)) in
+    decides-false (offset? o) (λ g. omega (arith, ints, h, g .0))
+
+returns-2 : tie.Need-returns-2
+returns-2 c =
+    let o = c .before .args .offset in
+    let low : negℤ (pos maxUnits) ≤ℤ c .before .args .offset = ltZ-false o (negℤ (pos maxUnits)) (simp (toZ-ofZ, c .before .fits .offset) at (c .if1 .left)) in
+    simp (toZ-ofZ, c .before .fits .offset)
+    (decides-same (decides-as (λ h. (low, h), λ h. h .1) (decides-le o (pos maxUnits))) (offset? o))
+
+pub good-offset-spec : {M : Type 1} → statement M
+good-offset-spec = tie.close (tie.spec sub-if1 returns returns-2)

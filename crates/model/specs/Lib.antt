@@ -16,6 +16,7 @@ pub mod Demands
 pub mod Answers
 pub mod Bytes
 pub mod MapFile
+pub mod FileRules
 pub mod Reader
 pub mod Report
 pub mod TextCheck

@@ -47,14 +47,9 @@ textGives text buffer = lengthOf (reportOf (textAnswer (length buffer) text))
 unfoldable pub textAfter : Bytes → Bytes → Bytes
 textAfter text buffer = bufferAfter (reportOf (textAnswer (length buffer) text)) buffer
 
--- the conditions on what was read: those of the comparison, then 11
-unfoldable pub readConditions : ℕ → Answer Tables → List Condition
-readConditions room (refused r) = []
-readConditions room (full t) = compareConditions t next outputConditions (length (report (findings t))) room
-
--- the conditions of the text check, in order: text, tables, output
-unfoldable pub textConditions : ℕ → Bytes → List Condition
-textConditions room text = fileConditions text next readConditions room (readMap text)
+-- the conditions of the text check, in order: text, tables, output. t are the tables of the text (FileRules.TablesOf)
+unfoldable pub textConditions : ℕ → Bytes → Tables → List Condition
+textConditions room text t = fileConditions text next compareConditions t next outputConditions (length (report (findings t))) room
 
 -- ---- the answer through C linkage: the report's length, or −(number × 100,000,000 + table × 10,000,000 + row)
 

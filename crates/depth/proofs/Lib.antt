@@ -1,0 +1,10 @@
+pub mod Keeping
+pub mod Rounds
+pub mod ChainChecks
+pub mod Order
+pub mod Stores
+pub mod Stamps
+pub mod Splits
+pub mod Peeling
+pub mod GraphCheck
+pub mod Reading

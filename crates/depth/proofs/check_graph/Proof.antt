@@ -1,0 +1,19 @@
+-- The answer is that of the check with a buffer for the order, whose tables are 0 and 1.
+use Rattle.model.specs.Calls.{checkAnswer}
+use borrow.Author.Needs.{needs}
+use Rattle.depth.proofs.check_graph.Statement.{statement}
+use Rattle.depth.proofs.check_graph.Tie as tie
+
+slice-aggregate-check-graph-with : tie.Need-slice-aggregate-check-graph-with
+slice-aggregate-check-graph-with c = search needs
+
+check-graph-with-requires : tie.Need-check-graph-with-requires
+check-graph-with-requires c κs = search needs
+
+returns : tie.Need-returns
+unfolding checkAnswer
+returns c = c .before .check-graph-with .ensures .answers
+
+pub check-graph-spec : {M : Type 1} → statement M
+check-graph-spec =
+    tie.close (tie.spec slice-aggregate-check-graph-with check-graph-with-requires returns)

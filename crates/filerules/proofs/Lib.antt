@@ -1,0 +1,13 @@
+pub mod Options
+pub mod Numerals
+pub mod Splits
+pub mod Fields
+pub mod Lines
+pub mod Words
+pub mod Names
+pub mod Values
+pub mod Text
+pub mod Refusals
+pub mod TableLines
+pub mod Tables
+pub mod TextCheck

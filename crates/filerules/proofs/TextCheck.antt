@@ -1,0 +1,86 @@
+-- The text check answers exactly: it refuses with the refusal of the first condition that holds, text, tables, output, and reports
+-- exactly when none holds.
+use mathlib.Core.Path.{_≡_, refl, sym, ap, subst, _∙_}
+use mathlib.Core.List.{List}
+use mathlib.Core.Option.{Option, none, some}
+use Prim.Native.Nat.{ℕ}
+use lib.ListN.{length}
+use Rattle.model.specs.Bytes.{Bytes}
+use Rattle.model.specs.MapFile.{fileConditions}
+use Rattle.model.specs.FileRules.{TablesOf}
+use Rattle.model.specs.Compare.{Tables, findings}
+use Rattle.model.specs.Refusals.{Refusal, Condition, _next_, compareConditions, outputConditions}
+use Rattle.model.specs.Checks.{_then_, checkTables, checkOutput}
+use Rattle.model.specs.Calls.{Answer, refused, full, answer}
+use Rattle.model.specs.Report.{report}
+use Rattle.model.specs.Reader.{readMap}
+use Rattle.model.specs.TextCheck.{Reported, reportedOf, checkRead, textAnswer, textConditions}
+use Rattle.model.proofs.Settled.{Settled, settled-next, Exact}
+use Rattle.model.proofs.SingleChecks.{output-settled}
+use Rattle.model.proofs.Pairing.{compare-settled}
+use Rattle.filerules.proofs.Refusals.{refusalIn, read-settles, settled-answers}
+use Rattle.filerules.proofs.Tables.{read-keeps}
+
+answer-refusal : {A : Type 0} (c : Option Refusal) (x : A) → refusalIn (answer c x) ≡ c
+unfolding answer
+answer-refusal none x = refl
+answer-refusal (some r) x = refl
+
+answer-only : {A : Type 0} (c : Option Refusal) (a x : A) → answer c a ≡ full x → x ≡ a
+unfolding answer
+answer-only none a x e = cc
+answer-only (some r) a x e = cc
+
+-- the check of tables that were read, with room for so many bytes of report, and its conditions
+checkReported : ℕ → Tables → Option Refusal
+checkReported room t = checkTables t then checkOutput (length (report (findings t))) room
+
+reportedConditions : ℕ → Tables → List Condition
+reportedConditions room t = compareConditions t next outputConditions (length (report (findings t))) room
+
+reported-settles : (room : ℕ) (t : Tables) → Settled (checkReported room t) (reportedConditions room t)
+unfolding checkReported reportedConditions
+reported-settles room t =
+    let size = length (report (findings t)) in
+    settled-next (checkTables t) (checkOutput size room) (compareConditions t) (outputConditions size room) (compare-settled t) (λ h. output-settled size room)
+
+-- what was read, refused or not, with the conditions of the file before
+read-next : (room : ℕ) (t : Tables) (given : Answer Tables) → ((u : Tables) → given ≡ full u → u ≡ t) → (cs : List Condition)
+    → Settled (refusalIn given) cs → Settled (refusalIn (checkRead room given)) (cs next reportedConditions room t)
+unfolding checkRead _then_ checkReported
+read-next room t (refused r) same cs s = settled-next (some r) (checkReported room t) cs (reportedConditions room t) s (λ h. reported-settles room t)
+read-next room t (full u) same cs s =
+    let all = settled-next none (checkReported room t) cs (reportedConditions room t) s (λ h. reported-settles room t) in
+    let e : refusalIn (checkRead room (full u)) ≡ checkReported room t =
+    answer-refusal (checkReported room u) (reportedOf (findings u)) ∙ ap (checkReported room) (same u refl) in
+    subst (λ (c : Option Refusal). Settled c (cs next reportedConditions room t)) (sym e) all
+
+module _ (room : ℕ) (text : Bytes) (t : Tables) (tables : TablesOf text t) where
+  -- what the reader gives are the tables of the text
+  read-tables : (u : Tables) → readMap text ≡ full u → u ≡ t
+  read-tables u e = tables u (read-keeps text u .0 e)
+
+  -- the text check settles its conditions
+  pub text-settles : Settled (refusalIn (textAnswer room text)) (textConditions room text t)
+  unfolding textAnswer textConditions reportedConditions
+  text-settles = read-next room t (readMap text) read-tables (fileConditions text) (read-settles text)
+
+  -- where the answer is full, it is the report on the tables of the text
+  full-reported : (given : Answer Tables) → ((u : Tables) → given ≡ full u → u ≡ t) → (x : Reported) → checkRead room given ≡ full x → x ≡ reportedOf (findings t)
+  unfolding checkRead checkReported
+  full-reported (refused r) same x e = cc
+  full-reported (full u) same x e = answer-only (checkReported room u) (reportedOf (findings u)) x e ∙ ap (λ (w : Tables). reportedOf (findings w)) (same u refl)
+
+  -- the text check refuses exactly with the refusal of the first condition that holds, and gives the report on the tables of the text
+  -- exactly when none holds
+  pub text-exact : Exact (textAnswer room text) (reportedOf (findings t)) (textConditions room text t)
+  unfolding textAnswer
+  text-exact =
+      let both = settled-answers (textAnswer room text) (textConditions room text t) text-settles in
+      record {
+        refuses = both .refuses;
+        gives = (
+          λ e. both .gives .0 (reportedOf (findings t), e),
+          λ h. let w = both .gives .1 h in w .1 ∙ ap full (full-reported (readMap text) read-tables (w .0) (w .1)),
+        );
+      }

@@ -1,3 +1,4 @@
+pub mod Quantities
 pub mod Steps
 pub mod Paths
 pub mod Walks

@@ -4,10 +4,10 @@ use Prim.Native.Nat.{ℕ, _^_}
 use lib.IntN.{ℤ, pos, negℤ, _+ℤ_, _*ℤ_}
 use lib.Signed.{_≤ℤ_, _<ℤ_}
 
--- units + more lies within ±2^62
-pub record Addable (units more : ℤ) : Type 0 where
-  pub low : negℤ (pos (2 ^ 62)) ≤ℤ (units +ℤ more)
-  pub high : (units +ℤ more) ≤ℤ pos (2 ^ 62)
+-- number + more lies within ±2^62
+pub record Addable (number more : ℤ) : Type 0 where
+  pub low : negℤ (pos (2 ^ 62)) ≤ℤ (number +ℤ more)
+  pub high : (number +ℤ more) ≤ℤ pos (2 ^ 62)
 
 -- units × unit lies within ±2^62
 pub record Scalable (units unit : ℤ) : Type 0 where

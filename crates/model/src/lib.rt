@@ -37,6 +37,21 @@ impl Units {
 }
 
 impl Bits {
+    // A bit address as the caller of a walk gives it.
+    pub fn of(address: i64) -> Bits
+        ensures { λ r. ⌜ r .0 ≡ address ⌝ }
+    {
+        Bits(address)
+    }
+
+    // The bit address so many bits further up.
+    pub fn plus(self, more: Bits) -> Bits
+        requires { ⌜ Addable (self .0) (more .0) ⌝ }
+        ensures { λ r. ⌜ r .0 ≡ self .0 +ℤ more .0 ⌝ }
+    {
+        Bits(self.0 + more.0)
+    }
+
     // The bit address after a walk over an edge with this bit offset.
     pub fn less(self, offset: Bits) -> Bits
         requires { ⌜ Movable (self .0) (offset .0) ⌝ }

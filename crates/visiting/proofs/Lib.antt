@@ -1,0 +1,5 @@
+pub mod Rearranging
+pub mod Keys
+pub mod Result
+pub mod Refusal
+pub mod Turns

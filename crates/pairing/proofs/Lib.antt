@@ -1,0 +1,4 @@
+pub mod Classes
+pub mod Pairs
+pub mod Marks
+pub mod Pairing

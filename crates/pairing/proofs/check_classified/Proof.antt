@@ -1,0 +1,35 @@
+-- The answers of the two calls are joined in their order.
+use mathlib.Core.Path.{sym, ap, _∙_}
+use borrow.Author.Needs.{needs}
+use Rattle.model.specs.Answers.{checkedAnswer}
+use Rattle.tables.proofs.Checks.{then-on, then-stops}
+use Rattle.pairing.specs.Pairs.{checkClassified}
+use Rattle.pairing.proofs.check_classified.Statement.{statement}
+use Rattle.pairing.proofs.check_classified.Tie as tie
+
+check-pairs-requires : tie.Need-check-pairs-requires
+check-pairs-requires c κs = search needs
+
+enum-known-c : tie.Need-enum-known-c
+enum-known-c c = search needs
+
+returns : tie.Need-returns
+unfolding checkClassified
+returns c = then-stops _ _ (ap checkedAnswer (sym (c .before .c .given .1)) ∙ c .before .before .before .check-pairs .ensures)
+
+enum-told : tie.Need-enum-told
+enum-told c = search needs
+
+check-pairs-requires-2 : tie.Need-check-pairs-requires-2
+check-pairs-requires-2 c κs = search needs
+
+returns-2 : tie.Need-returns-2
+unfolding checkClassified
+returns-2 c =
+    let k = c .before .before .before in
+    c .check-pairs2 .ensures ∙ sym (then-on _ _ (ap checkedAnswer (sym (c .before .enum-told .given .1)) ∙ k .check-pairs .ensures))
+
+pub check-classified-spec : {M : Type 1} → statement M
+check-classified-spec =
+    tie.close
+    (tie.spec check-pairs-requires enum-known-c returns enum-told check-pairs-requires-2 returns-2)

@@ -1,0 +1,102 @@
+-- The check of the sizes is the first part; the classes of all nodes stand in front of the two arrays, and the check by them is the second.
+use mathlib.Core.Path.{_≡_, sym, ap, _∙_}
+use Prim.Native.Nat.{_/_}
+use borrow.Author.Needs.{needs}
+use lib.ListN.{length, take}
+use Rattle.model.specs.Graph.{graphOf}
+use Rattle.model.specs.Answers.{checkedAnswer}
+use Rattle.tables.proofs.Checks.{checked, then-on, then-stops}
+use Rattle.pairing.specs.Classes.{classesOf}
+use Rattle.pairing.specs.Pairs.{tablesOf}
+use Rattle.pairing.proofs.Classes.{classes-room, classes-size, classes-front}
+use Rattle.pairing.proofs.Pairing.{check-pairing-classified}
+use Rattle.pairing.proofs.check_pairing.Statement.{statement}
+use Rattle.pairing.proofs.check_pairing.Tie as tie
+
+spec-found : (c : tie.After-classify) → let a = c .before .before .before .before .before .args in
+    take (length (a .spec-nodes .now) / 4) (c .classify .last .1 .1 .0) ≡ classesOf (graphOf (a .spec-nodes .now) (a .spec-edges .now))
+spec-found c =
+    let a = c .before .before .before .before .before .args in
+    ap (take (length (a .spec-nodes .now) / 4)) (c .classify .ensures) ∙ classes-front (a .spec-nodes .now) (a .spec-edges .now) _
+
+impl-found : (c : tie.After-classify2) → let a = c .before .before .before .before .before .before .before .before .args in
+    take (length (a .impl-nodes .now) / 4) (c .classify2 .last .1 .1 .0) ≡ classesOf (graphOf (a .impl-nodes .now) (a .impl-edges .now))
+impl-found c =
+    let a = c .before .before .before .before .before .before .before .before .args in
+    ap (take (length (a .impl-nodes .now) / 4)) (c .classify2 .ensures) ∙ classes-front (a .impl-nodes .now) (a .impl-edges .now) _
+
+check-sizes-requires : tie.Need-check-sizes-requires
+check-sizes-requires c κs = search needs
+
+enum-known-c : tie.Need-enum-known-c
+enum-known-c c = search needs
+
+returns : tie.Need-returns
+returns c =
+    then-stops _ _ (ap checkedAnswer (sym (c .before .c .given .1)) ∙ c .before .before .before .check-sizes .ensures)
+    ∙ ap checked (sym (check-pairing-classified (tablesOf _ _ _ _ _ _)))
+
+enum-told : tie.Need-enum-told
+enum-told c = search needs
+
+slice-aggregate-classify : tie.Need-slice-aggregate-classify
+slice-aggregate-classify c = search needs
+
+classify-requires : tie.Need-classify-requires
+classify-requires c κs = classes-room _ _ (c .before .before .before .before .pre .0)
+
+slice-aggregate-classify-2 : tie.Need-slice-aggregate-classify-2
+slice-aggregate-classify-2 c = search needs
+
+classify-requires-2 : tie.Need-classify-requires-2
+classify-requires-2 c κs = classes-room _ _ (c .before .before .before .before .before .before .before .pre .1)
+
+array-share-prefix-spec-class : tie.Need-array-share-prefix-spec-class
+array-share-prefix-spec-class c = search needs
+
+slice-aggregate-check-classified : tie.Need-slice-aggregate-check-classified
+slice-aggregate-check-classified c =
+    let k = c .before .before .before .before .before in
+    classes-size _ _ (k .before .before .before .before .before .pre .0) (spec-found k) .0
+
+array-share-prefix-impl-class : tie.Need-array-share-prefix-impl-class
+array-share-prefix-impl-class c = search needs
+
+slice-aggregate-check-classified-2 : tie.Need-slice-aggregate-check-classified-2
+slice-aggregate-check-classified-2 c =
+    let k = c .before .before .before in
+    classes-size _ _ (k .before .before .before .before .before .before .before .before .pre .1) (impl-found k) .0
+
+check-classified-requires : tie.Need-check-classified-requires
+check-classified-requires c κs =
+    let k = c .before .before .before in
+    let s = k .before .before .before .before .before .before .before .before in
+    (classes-size _ _ (s .pre .0) (spec-found (k .before .before .before)) .1, classes-size _ _ (s .pre .1) (impl-found k) .1)
+
+returns-2 : tie.Need-returns-2
+returns-2 c =
+    let k = c .before .before .before .before in
+    let j = k .before .before .before in
+    let told = j .before .before in
+    rw (spec-found j, impl-found k) at (c .check-classified .ensures)
+    ∙ sym (then-on _ _ (ap checkedAnswer (sym (told .enum-told .given .1)) ∙ told .before .before .check-sizes .ensures))
+    ∙ ap checked (sym (check-pairing-classified (tablesOf _ _ _ _ _ _)))
+
+pub check-pairing-spec : {M : Type 1} → statement M
+check-pairing-spec =
+    tie.close
+    (tie.spec
+    check-sizes-requires
+    enum-known-c
+    returns
+    enum-told
+    slice-aggregate-classify
+    classify-requires
+    slice-aggregate-classify-2
+    classify-requires-2
+    array-share-prefix-spec-class
+    slice-aggregate-check-classified
+    array-share-prefix-impl-class
+    slice-aggregate-check-classified-2
+    check-classified-requires
+    returns-2)

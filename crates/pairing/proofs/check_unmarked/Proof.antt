@@ -1,0 +1,172 @@
+-- Invariant: the rows before k are not refused, and exactly their nodes are marked (Passed). The measure is what is left of the length.
+use mathlib.Core.Path.{_≡_, sym, _∙_}
+use mathlib.Core.Bool.{true, _&&_}
+use Prim.Native.Nat.{_-_, _<_}
+use native.Mathlib.Omega.{arith}
+use borrow.Author.Tests.{not-true, not-false}
+use lib.ListN.{length}
+use Rattle.pairing.specs.Classes.{hasClass}
+use Rattle.pairing.specs.Pairs.{pairAt}
+use Rattle.pairing.proofs.Marks.{Passed, passed-start, passed-end, passed-refused, spec-classed, impl-classed, nodes-marked, passed-before, passed-next}
+use Rattle.pairing.proofs.check_unmarked.Statement.{statement}
+use Rattle.pairing.proofs.check_unmarked.Tie as tie
+
+abbrev Inv-loop : tie.InvT-loop
+Inv-loop pairs table spec-class impl-class wanted spec-marks₀ impl-marks₀ k₀ spec-marks impl-marks k = Passed pairs table wanted spec-class impl-class spec-marks₀ impl-marks₀ spec-marks impl-marks k
+
+abbrev μ-loop : tie.MeasureT-loop
+μ-loop pairs table spec-class impl-class wanted spec-marks₀ impl-marks₀ k₀ spec-marks impl-marks k = length pairs - k
+
+loop-holds : tie.Need-loop-holds Inv-loop μ-loop
+loop-holds c = let s = c .before .before .before .before in passed-start (s .args .pairs .now) (s .args .table) (s .args .wanted) (s .args .spec-class .now) (s .args .impl-class .now) (s .pre .0) (s .pre .1)
+
+mul-loop : tie.Need-mul-loop Inv-loop μ-loop
+mul-loop c = omega (arith, c .loop .inv .within)
+
+add-loop : tie.Need-add-loop Inv-loop μ-loop
+add-loop c = omega (arith, c .loop .inv .within)
+
+both-have-class-requires : tie.Need-both-have-class-requires Inv-loop μ-loop
+both-have-class-requires c κs = c .loop-test .taken
+
+same-length : tie.Need-same-length Inv-loop μ-loop
+same-length c = c .before .before .before .loop .inv .specSize
+
+same-length-2 : tie.Need-same-length-2 Inv-loop μ-loop
+same-length-2 c = c .before .before .before .loop .inv .implSize
+
+returns : tie.Need-returns Inv-loop μ-loop
+returns c =
+    let t = c .before .before in
+    passed-refused (t .before .loop .inv) (t .loop-test .taken) (sym (c .before .both-have-class .ensures) ∙ not-true _ (c .if1 .taken))
+
+-- both nodes of the row of a turn have the wanted class
+row-good : (c : tie.Else1 Inv-loop μ-loop) → let a = c .before .before .before .before .before .before .before .before .args in
+    let k = c .before .before .before .loop .k in
+    hasClass (a .spec-class .now) (a .wanted) (pairAt (a .pairs .now) k .spec) && hasClass (a .impl-class .now) (a .wanted) (pairAt (a .pairs .now) k .impl) ≡ true
+row-good c = sym (c .before .both-have-class .ensures) ∙ not-false _ (c .if1 .left)
+
+mul-index-at : tie.Need-mul-index-at Inv-loop μ-loop
+mul-index-at c = omega (arith, c .before .before .loop-test .taken)
+
+index-at-requires : tie.Need-index-at-requires Inv-loop μ-loop
+index-at-requires c κs = let t = c .before .before in (omega (arith, t .loop-test .taken), spec-classed (t .before .loop .inv) (t .loop-test .taken) (row-good c) .0)
+
+mul-index-at-2 : tie.Need-mul-index-at-2 Inv-loop μ-loop
+mul-index-at-2 c = omega (arith, c .before .before .before .loop-test .taken)
+
+add-index-at : tie.Need-add-index-at Inv-loop μ-loop
+add-index-at c = omega (arith, c .before .before .before .loop-test .taken)
+
+index-at-requires-2 : tie.Need-index-at-requires-2 Inv-loop μ-loop
+index-at-requires-2 c κs = let t = c .before .before .before in (omega (arith, t .loop-test .taken), impl-classed (t .before .loop .inv) (t .loop-test .taken) (row-good (c .before)) .0)
+
+-- both nodes have a mark
+row-marked : (c : tie.After-index-at2 Inv-loop μ-loop) → let l = c .before .before .before .before .before in
+    (c .before .index-at .result < length (l .loop .spec-marks)) × (c .index-at2 .result < length (l .loop .impl-marks))
+row-marked c =
+    let e = c .before .before in
+    let t = e .before .before in
+    nodes-marked (t .before .loop .inv) (t .loop-test .taken) (row-good e) (c .before .index-at .result) (c .index-at2 .result) (c .before .index-at .ensures)
+    (c .index-at2 .ensures)
+
+mul-one-marked : tie.Need-mul-one-marked Inv-loop μ-loop
+mul-one-marked c = omega (arith, row-marked c)
+
+slice-read-one-marked : tie.Need-slice-read-one-marked Inv-loop μ-loop
+slice-read-one-marked c = row-marked (c .before) .0
+
+mul-one-marked-2 : tie.Need-mul-one-marked-2 Inv-loop μ-loop
+mul-one-marked-2 c = omega (arith, row-marked (c .before))
+
+slice-read-one-marked-2 : tie.Need-slice-read-one-marked-2 Inv-loop μ-loop
+slice-read-one-marked-2 c = row-marked (c .before .before) .1
+
+one-marked-requires : tie.Need-one-marked-requires Inv-loop μ-loop
+one-marked-requires c κs = tt
+
+same-length-3 : tie.Need-same-length-3 Inv-loop μ-loop
+same-length-3 c = c .before .before .before .before .before .before .before .before .before .loop .inv .specSize
+
+same-length-4 : tie.Need-same-length-4 Inv-loop μ-loop
+same-length-4 c = c .before .before .before .before .before .before .before .before .before .loop .inv .implSize
+
+returns-2 : tie.Need-returns-2 Inv-loop μ-loop
+returns-2 c =
+    let x = c .before .before .before .before in
+    let e = x .before .before in
+    let t = e .before .before in
+    passed-before (t .before .loop .inv) (t .loop-test .taken) (row-good e) (x .before .index-at .result) (x .index-at2 .result) (x .before .index-at .ensures)
+    (x .index-at2 .ensures) (sym (c .before .one-marked .ensures) ∙ c .if2 .taken)
+
+mul-spec-marks : tie.Need-mul-spec-marks Inv-loop μ-loop
+mul-spec-marks c = omega (arith, row-marked (c .before .before .before .before))
+
+slice-write-spec-marks : tie.Need-slice-write-spec-marks Inv-loop μ-loop
+slice-write-spec-marks c = row-marked (c .before .before .before .before) .0
+
+mul-impl-marks : tie.Need-mul-impl-marks Inv-loop μ-loop
+mul-impl-marks c = omega (arith, row-marked (c .before .before .before .before))
+
+slice-write-impl-marks : tie.Need-slice-write-impl-marks Inv-loop μ-loop
+slice-write-impl-marks c = row-marked (c .before .before .before .before) .1
+
+add-k : tie.Need-add-k Inv-loop μ-loop
+add-k c = omega arith
+
+loop-less : tie.Need-loop-less Inv-loop μ-loop
+loop-less c = omega arith
+
+loop-again : tie.Need-loop-again Inv-loop μ-loop
+loop-again c =
+    let x = c .before .before .before .before in
+    let e = x .before .before in
+    let t = e .before .before in
+    passed-next (t .before .loop .inv) (t .loop-test .taken) (row-good e) (x .before .index-at .result) (x .index-at2 .result) (x .before .index-at .ensures)
+    (x .index-at2 .ensures) (sym (c .before .one-marked .ensures) ∙ c .if2 .left)
+
+same-length-5 : tie.Need-same-length-5 Inv-loop μ-loop
+same-length-5 c = c .before .loop .inv .specSize
+
+same-length-6 : tie.Need-same-length-6 Inv-loop μ-loop
+same-length-6 c = c .before .loop .inv .implSize
+
+returns-3 : tie.Need-returns-3 Inv-loop μ-loop
+returns-3 c = passed-end (c .before .loop .inv) (c .loop-test .left)
+
+pub check-unmarked-spec : {M : Type 1} → statement M
+check-unmarked-spec =
+    tie.close
+    (tie.spec
+    Inv-loop
+    μ-loop
+    loop-holds
+    mul-loop
+    add-loop
+    both-have-class-requires
+    same-length
+    same-length-2
+    returns
+    mul-index-at
+    index-at-requires
+    mul-index-at-2
+    add-index-at
+    index-at-requires-2
+    mul-one-marked
+    slice-read-one-marked
+    mul-one-marked-2
+    slice-read-one-marked-2
+    one-marked-requires
+    same-length-3
+    same-length-4
+    returns-2
+    mul-spec-marks
+    slice-write-spec-marks
+    mul-impl-marks
+    slice-write-impl-marks
+    add-k
+    loop-less
+    loop-again
+    same-length-5
+    same-length-6
+    returns-3)

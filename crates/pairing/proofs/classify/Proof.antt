@@ -1,0 +1,35 @@
+-- The two passes leave the class of each node.
+use mathlib.Core.Path.{ap, _∙_}
+use native.Mathlib.Omega.{arith}
+use borrow.Author.Needs.{needs}
+use Rattle.model.specs.Rows.{edgeRows}
+use Rattle.pairing.specs.Classes.{enteredBy}
+use Rattle.pairing.proofs.Classes.{enters-within, classes-found}
+use Rattle.pairing.proofs.classify.Statement.{statement}
+use Rattle.pairing.proofs.classify.Tie as tie
+
+classify-kinds-requires : tie.Need-classify-kinds-requires
+classify-kinds-requires c κs = search needs
+
+enter-edges-requires : tie.Need-enter-edges-requires
+enter-edges-requires c κs =
+    let k = c .before .before .before in
+    let s = k .before .before .before in
+    enters-within (s .args .nodes .now) (s .args .edges .now) (s .pre .tables) (k .classify-kinds .last .1 .0)
+    (omega (arith, s .pre .room, k .classify-kinds .kept .1 .0))
+
+same-length : tie.Need-same-length
+same-length c = search needs
+
+returns : tie.Need-returns
+returns c =
+    let e = c .before .before in
+    let k = e .before .before .before .before in
+    let s = k .before .before .before in
+    e .enter-edges .ensures
+    ∙ ap (enteredBy (edgeRows (s .args .edges .now))) (k .classify-kinds .ensures)
+    ∙ classes-found (s .args .nodes .now) (s .args .edges .now) (s .pre .tables) (s .args .class .now) (s .pre .room)
+
+pub classify-spec : {M : Type 1} → statement M
+classify-spec =
+    tie.close (tie.spec classify-kinds-requires enter-edges-requires same-length returns)

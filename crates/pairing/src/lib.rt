@@ -1,0 +1,301 @@
+// The check of a pairing: shapes, empty tables, and the rows one by one, but for the paths between paired nodes.
+ghost use mathlib.Core.Path.{_≡_};
+ghost use mathlib.Core.Bool.{_&&_, _||_};
+ghost use Prim.Native.Nat.{_+_, _*_, _≤_, _<_};
+ghost use lib.IntN.{pos};
+ghost use lib.Signed.{_≤ℤ_};
+ghost use lib.ListN.{length, getD};
+ghost use Rattle.model.specs.Limits.{maxNodes};
+ghost use Rattle.model.specs.Rows.{nodeRows, edgeRows};
+ghost use Rattle.model.specs.Graph.{graphOf};
+ghost use Rattle.model.specs.Taken.{TakenTables};
+ghost use Rattle.model.specs.Calls.{answer};
+ghost use Rattle.model.specs.Answers.{checkedAnswer};
+ghost use Rattle.pairing.specs.Classes.{Classifiable, classesOver, kindClass, kindsOver, enteredClass, enteredBy, EntersWithin, hasClass};
+ghost use Rattle.pairing.specs.Pairs.{pairAt, checkPairs, checkSome, checkSizes, checkClassified, checkPairingRows, isMarked, Unmarked, tablesOf};
+use model::Checked;
+use model::Reason;
+use tables::check_shape;
+use tables::edge_to;
+
+// Numbers of a node row, an edge row and a pair row.
+const NODE_WIDTH: usize = 4;
+
+const EDGE_WIDTH: usize = 3;
+
+const PAIR_WIDTH: usize = 2;
+
+// Rows of a table at most.
+const MAX_NODES: usize = 2000;
+
+const MAX_PAIRS: usize = 1000;
+
+// The tables of root pairs and of leaf pairs.
+const ROOT_PAIRS: usize = 4;
+
+const LEAF_PAIRS: usize = 5;
+
+// The kind of a block.
+const BLOCK: i64 = 2;
+
+// Classes of nodes.
+const OTHER: usize = 0;
+
+const ROOT: usize = 1;
+
+const LEAF: usize = 2;
+
+// Marks of nodes.
+const UNSEEN: usize = 0;
+
+const SEEN: usize = 1;
+
+// The class of a node of this kind that no edge enters.
+fn kind_class(kind: i64) -> usize
+    ensures { λ r. ⌜ r ≡ kindClass kind ⌝ }
+{
+    if kind == BLOCK {
+        return LEAF;
+    }
+    ROOT
+}
+
+// The class of a node that an edge enters, which had this class.
+fn entered_class(class: usize) -> usize
+    ensures { λ r. ⌜ r ≡ enteredClass class ⌝ }
+{
+    if class == ROOT {
+        return OTHER;
+    }
+    class
+}
+
+// Sets class[v], for each node v, to the class of a node of its kind that no edge enters.
+fn classify_kinds(nodes: &[i64], class: &mut [usize])
+    requires { ⌜ length (nodeRows (now nodes)) ≤ length (now class) ⌝ }
+    ensures { λ _. ⌜ now (class .exit) ≡ kindsOver (now (nodes .entry)) (now (class .entry)) ⌝ }
+{
+    let mut v: usize = 0;
+    while NODE_WIDTH * v + NODE_WIDTH <= nodes.len() {
+        class[v] = kind_class(nodes[NODE_WIDTH * v]);
+        v += 1;
+    }
+}
+
+// Sets class[v] to OTHER for each root v that an edge enters.
+fn enter_edges(edges: &[i64], class: &mut [usize])
+    requires { ⌜ EntersWithin (now edges) (now class) ⌝ }
+    ensures { λ _. ⌜ now (class .exit) ≡ enteredBy (edgeRows (now (edges .entry))) (now (class .entry)) ⌝ }
+{
+    let mut e: usize = 0;
+    while EDGE_WIDTH * e + EDGE_WIDTH <= edges.len() {
+        let to = edge_to(edges, e);
+        class[to] = entered_class(class[to]);
+        e += 1;
+    }
+}
+
+// Sets class[v], for each node v, to ROOT, LEAF or OTHER. One pass over the nodes and one over the edges.
+pub fn classify(nodes: &[i64], edges: &[i64], class: &mut [usize])
+    requires { ⌜ Classifiable (now nodes) (now edges) (now class) ⌝ }
+    ensures { λ _. ⌜ now (class .exit) ≡ classesOver (graphOf (now (nodes .entry)) (now (edges .entry))) (now (class .entry)) ⌝ }
+{
+    classify_kinds(nodes, class);
+    enter_edges(edges, class);
+}
+
+// Whether v is a node with this class.
+fn has_class(v: i64, class: &[usize], wanted: usize) -> bool
+    ensures { λ r. ⌜ r ≡ hasClass (now (class .entry)) wanted v ⌝ }
+{
+    if v < 0 {
+        return false;
+    }
+    let i = v as usize;
+    if class.len() <= i {
+        return false;
+    }
+    class[i] == wanted
+}
+
+// The number at this place of a table, as an index.
+fn index_at(t: &[i64], place: usize) -> usize
+    requires { ⌜ (place < length (now t)) × (pos 0 ≤ℤ getD (now t) place (pos 0)) ⌝ }
+    ensures { λ r. ⌜ pos r ≡ getD (now (t .entry)) place (pos 0) ⌝ }
+{
+    t[place] as usize
+}
+
+// Whether both nodes of pair row k have the wanted class.
+fn both_have_class(
+    pairs: &[i64],
+    k: usize,
+    spec_class: &[usize],
+    impl_class: &[usize],
+    wanted: usize,
+) -> bool
+    requires { ⌜ 2 * k + 2 ≤ length (now pairs) ⌝ }
+    ensures { λ r. ⌜
+        r
+        ≡ hasClass (now («spec_class» .entry)) wanted (pairAt (now (pairs .entry)) k .spec)
+        && hasClass (now («impl_class» .entry)) wanted (pairAt (now (pairs .entry)) k .impl) ⌝ }
+{
+    if !has_class(pairs[PAIR_WIDTH * k], spec_class, wanted) {
+        return false;
+    }
+    has_class(pairs[PAIR_WIDTH * k + 1], impl_class, wanted)
+}
+
+// Whether one of two marks is set.
+fn one_marked(spec_mark: usize, impl_mark: usize) -> bool
+    ensures { λ r. ⌜ r ≡ isMarked «spec_mark» || isMarked «impl_mark» ⌝ }
+{
+    if spec_mark != UNSEEN {
+        return true;
+    }
+    impl_mark != UNSEEN
+}
+
+// Refusals 7 and 8 of a pair table. The marks say which nodes earlier rows have; none is set at the start.
+fn check_unmarked(
+    pairs: &[i64],
+    table: usize,
+    spec_class: &[usize],
+    impl_class: &[usize],
+    wanted: usize,
+    spec_marks: &mut [usize],
+    impl_marks: &mut [usize],
+) -> Checked
+    requires { ⌜ Unmarked (length (now «spec_class»)) (now «spec_marks») × Unmarked (length (now «impl_class»)) (now «impl_marks») ⌝ }
+    ensures { λ r. ⌜
+        checkedAnswer r
+        ≡ answer (checkPairs table (hasClass (now («spec_class» .entry)) wanted) (hasClass (now («impl_class» .entry)) wanted) (now (pairs .entry))) tt ⌝ }
+{
+    let mut k: usize = 0;
+    while PAIR_WIDTH * k + PAIR_WIDTH <= pairs.len() {
+        if !both_have_class(pairs, k, spec_class, impl_class, wanted) {
+            return Checked::Refused(Reason::NotRootOrLeaf {
+                table: table,
+                row: k,
+            });
+        }
+        let spec_node = index_at(pairs, PAIR_WIDTH * k);
+        let impl_node = index_at(pairs, PAIR_WIDTH * k + 1);
+        if one_marked(spec_marks[spec_node], impl_marks[impl_node]) {
+            return Checked::Refused(Reason::PairedBefore {
+                table: table,
+                row: k,
+            });
+        }
+        spec_marks[spec_node] = SEEN;
+        impl_marks[impl_node] = SEEN;
+        k += 1;
+    }
+    Checked::Taken
+}
+
+// Refusals 7 and 8: the first row with a node that has not the wanted class, or that an earlier row has on the same side. One pass over the rows.
+pub fn check_pairs(
+    pairs: &[i64],
+    table: usize,
+    spec_class: &[usize],
+    impl_class: &[usize],
+    wanted: usize,
+) -> Checked
+    requires { ⌜ (length (now «spec_class») ≤ maxNodes) × (length (now «impl_class») ≤ maxNodes) ⌝ }
+    ensures { λ r. ⌜
+        checkedAnswer r
+        ≡ answer (checkPairs table (hasClass (now («spec_class» .entry)) wanted) (hasClass (now («impl_class» .entry)) wanted) (now (pairs .entry))) tt ⌝ }
+{
+    let mut spec_marks = [UNSEEN; MAX_NODES];
+    let mut impl_marks = [UNSEEN; MAX_NODES];
+    check_unmarked(
+        pairs,
+        table,
+        spec_class,
+        impl_class,
+        wanted,
+        &mut spec_marks,
+        &mut impl_marks,
+    )
+}
+
+// Refusal 9: the pair table has no row.
+fn check_some(pairs: &[i64], table: usize) -> Checked
+    ensures { λ r. ⌜ checkedAnswer r ≡ answer (checkSome table (now (pairs .entry))) tt ⌝ }
+{
+    if pairs.len() < PAIR_WIDTH {
+        return Checked::Refused(Reason::NoPair { table: table });
+    }
+    Checked::Taken
+}
+
+// Refusals 1 and 9 of the two pair tables.
+fn check_sizes(root_pairs: &[i64], leaf_pairs: &[i64]) -> Checked
+    ensures { λ r. ⌜ checkedAnswer r ≡ answer (checkSizes (now («root_pairs» .entry)) (now («leaf_pairs» .entry))) tt ⌝ }
+{
+    let c = check_shape(root_pairs, PAIR_WIDTH, MAX_PAIRS, ROOT_PAIRS);
+    if let Checked::Refused(r) = c {
+        return Checked::Refused(r);
+    }
+    let c = check_shape(leaf_pairs, PAIR_WIDTH, MAX_PAIRS, LEAF_PAIRS);
+    if let Checked::Refused(r) = c {
+        return Checked::Refused(r);
+    }
+    let c = check_some(root_pairs, ROOT_PAIRS);
+    if let Checked::Refused(r) = c {
+        return Checked::Refused(r);
+    }
+    check_some(leaf_pairs, LEAF_PAIRS)
+}
+
+// Refusals 7 and 8 of the two pair tables, by the classes of all nodes.
+fn check_classified(
+    root_pairs: &[i64],
+    leaf_pairs: &[i64],
+    spec_class: &[usize],
+    impl_class: &[usize],
+) -> Checked
+    requires { ⌜ (length (now «spec_class») ≤ maxNodes) × (length (now «impl_class») ≤ maxNodes) ⌝ }
+    ensures { λ r. ⌜
+        checkedAnswer r
+        ≡ answer (checkClassified (now («spec_class» .entry)) (now («impl_class» .entry)) (now («root_pairs» .entry)) (now («leaf_pairs» .entry))) tt ⌝ }
+{
+    let c = check_pairs(root_pairs, ROOT_PAIRS, spec_class, impl_class, ROOT);
+    if let Checked::Refused(r) = c {
+        return Checked::Refused(r);
+    }
+    check_pairs(leaf_pairs, LEAF_PAIRS, spec_class, impl_class, LEAF)
+}
+
+// Refusals 1, 9, 7 and 8 of the pairing of two taken graphs.
+pub fn check_pairing(
+    spec_nodes: &[i64],
+    spec_edges: &[i64],
+    impl_nodes: &[i64],
+    impl_edges: &[i64],
+    root_pairs: &[i64],
+    leaf_pairs: &[i64],
+) -> Checked
+    requires { ⌜ TakenTables (now «spec_nodes») (now «spec_edges») × TakenTables (now «impl_nodes») (now «impl_edges») ⌝ }
+    ensures { λ r. ⌜
+        checkedAnswer r
+        ≡ answer (checkPairingRows (tablesOf (now («spec_nodes» .entry)) (now («spec_edges» .entry)) (now («impl_nodes» .entry)) (now («impl_edges» .entry)) (now («root_pairs» .entry)) (now («leaf_pairs» .entry)))) tt ⌝ }
+{
+    let c = check_sizes(root_pairs, leaf_pairs);
+    if let Checked::Refused(r) = c {
+        return Checked::Refused(r);
+    }
+    let mut spec_class = [OTHER; MAX_NODES];
+    let mut impl_class = [OTHER; MAX_NODES];
+    classify(spec_nodes, spec_edges, &mut spec_class);
+    classify(impl_nodes, impl_edges, &mut impl_class);
+    let specs = spec_nodes.len() / NODE_WIDTH;
+    let impls = impl_nodes.len() / NODE_WIDTH;
+    check_classified(
+        root_pairs,
+        leaf_pairs,
+        &spec_class[..specs],
+        &impl_class[..impls],
+    )
+}

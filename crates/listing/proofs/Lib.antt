@@ -1,0 +1,7 @@
+pub mod Appending
+pub mod Passing
+pub mod Runs
+pub mod Arrivals
+pub mod Once
+pub mod Small
+pub mod Pairs

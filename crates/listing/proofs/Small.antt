@@ -1,0 +1,109 @@
+-- Small runs: their records are computed with numbers of 64 bits, and every run that a small run becomes along a path of a taken graph is small.
+use mathlib.Core.Path.{_≡_, sym, subst}
+use mathlib.Core.Bool.{not}
+use mathlib.Core.List.{List, _∷_, map}
+use Prim.Native.Nat.{_^_}
+use native.Mathlib.Omega.{arith}
+use lib.Dec.{T, not-T, T-not}
+use lib.IntN.{ℤ, pos, _+ℤ_, _-ℤ_}
+use lib.Signed.{_<ℤ_}
+use Rattle.integers.proofs.Linear.{ints, sum, diff, neg}
+use Rattle.lists.proofs.Membership.{map-out}
+use Rattle.model.specs.Rows.{Node, Edge}
+use Rattle.model.specs.Graph.{Graph, NodeRow, node, firstBit}
+use Rattle.model.specs.Refusals.{BadNode}
+use Rattle.model.specs.Paths.{Way, stay, over}
+use Rattle.model.specs.Quantities.{Addable, Movable}
+use Rattle.model.specs.Runs.{Run, empty, across, along, runs, recordOf}
+use Rattle.model.specs.Taken.{Taken}
+use Rattle.model.proofs.Steps.{along-empty, empty-none}
+use Rattle.model.proofs.Paths.{paths-sound}
+use Rattle.model.proofs.Walks.{runs-out}
+use Rattle.normalisation.specs.Merging.{Small, AllSmall}
+use Rattle.tables.proofs.Limits.{first-address}
+use Rattle.steps.specs.Steps.{SmallRun, SmallAddress}
+use Rattle.steps.proofs.Bounds.{across-small, whole-small}
+use Rattle.listing.specs.Listing.{runRow}
+
+-- ---- the row of a run
+
+module _ {r : Run} (s : SmallRun r) where
+  -- it has a bit
+  pub small-some : T (not (empty r))
+  small-some = not-T (empty r) (λ t. empty-none r (r .low) t (record { above = omega (arith, ints); below = s .full }))
+
+  -- its low end is a small address
+  pub low-small : SmallAddress (r .low)
+  low-small = record { low = s .low; high = omega (arith, ints, s .full, s .high) }
+
+  -- its root bit lies below 2^62
+  root-small : r .root <ℤ pos (2 ^ 62)
+  root-small = omega (arith, ints, s .full, s .last, diff (r .high) (r .low), sum (r .root) (r .high -ℤ r .low))
+
+  -- the root bit less the leaf bit of the low end
+  pub displacement-movable : (n : Node) → (BadNode n → ⊥) → {bit : ℤ} → bit ≡ r .low -ℤ firstBit n → Movable (r .root) bit
+  displacement-movable n good e =
+      let first = first-address good in
+      let apart = diff (r .low) (firstBit n) in
+      let low = low-small in
+      record {
+        low = s .root;
+        high = root-small;
+        offsetLow = omega (arith, ints, e, apart, low .low, first .1, neg (pos (2 ^ 62)));
+        offsetHigh = omega (arith, ints, e, apart, low .high, first .0);
+      }
+
+  -- the high end less the low end
+  pub size-movable : Movable (r .high) (r .low)
+  size-movable =
+      let low = low-small in
+      record {
+        low = omega (arith, ints, s .low, s .full);
+        high = s .high;
+        offsetLow = omega (arith, ints, low .low, neg (pos (2 ^ 62)));
+        offsetHigh = omega (arith, ints, low .high);
+      }
+
+  -- the root bit and the size
+  pub last-addable : {size : ℤ} → size ≡ r .high -ℤ r .low → Addable (r .root) size
+  last-addable {size} e =
+      let apart = diff (r .high) (r .low) in
+      let last = sum (r .root) size in
+      let before = sum (r .root) (r .high -ℤ r .low) in
+      record {
+        low = omega (arith, ints, e, s .root, s .full, neg (pos (2 ^ 62)));
+        high = omega (arith, ints, e, s .last);
+      }
+
+  -- its record is small
+  record-small : (n : Node) → Small (recordOf n r)
+  unfolding recordOf
+  record-small n =
+      record { full = omega (arith, ints, s .full, diff (r .high) (r .low), sum (r .root) (r .high -ℤ r .low)); high = s .last }
+
+-- the row by its numbers
+pub row-numbers : (n : Node) (r : Run) {bit displacement size last : ℤ} → bit ≡ r .low -ℤ firstBit n → displacement ≡ r .root -ℤ bit
+    → size ≡ r .high -ℤ r .low → last ≡ r .root +ℤ size
+    → record { first = displacement; second = r .root; third = last } ≡ runRow n r
+unfolding recordOf
+row-numbers n r a b c d = cc
+
+-- ---- runs along paths
+
+-- a small run of which bits are left along a way is small at its end: bits were left at each edge, since from an empty run none come
+along-small : {g : Graph} {v w : ℤ} {p : List Edge} {r : Run} → Taken g → Way g v p w → SmallRun r → T (not (empty (along g p r)))
+    → SmallRun (along g p r)
+unfolding along
+along-small taken stay s t = s
+along-small {g} {p = d ∷ p} {r} taken (over e m q y) s t =
+    let entered = not-T (empty (across g e r)) (λ h. T-not (empty (along g p (across g e r))) t (along-empty g p (across g e r) h)) in
+    along-small taken y (across-small taken m s entered) t
+
+-- the records of all runs of a root of a taken graph are small
+pub runs-small : {g : Graph} {r : ℤ} (l : ℤ) → Taken g → NodeRow g r → AllSmall (map (recordOf (node g l)) (runs g r l))
+runs-small {g} {r} l taken row s m =
+    let u = map-out (recordOf (node g l)) (runs g r l) m in
+    let p = runs-out g r l (u .1) in
+    let some = subst (λ (x : Run). T (not (empty x))) (p .2) (p .3) in
+    let small = along-small taken (paths-sound (p .1)) (whole-small (node g r) (taken .good r row)) some in
+    subst Small (sym (u .2)) (record-small (subst SmallRun (sym (p .2)) small) (node g l))

@@ -1,0 +1,19 @@
+-- The first number is the leaf bit that was computed.
+use mathlib.Core.Path.{refl}
+use borrow.Author.Needs.{needs}
+use mir.Syntax.{w64}
+use mir.Val.{SFits}
+use mir.Facts.{toZ-ofZ}
+use Rattle.listing.proofs.arrival_row.Statement.{statement}
+use Rattle.listing.proofs.arrival_row.Tie as tie
+
+leaf-bit-requires : tie.Need-leaf-bit-requires
+leaf-bit-requires c κs = search needs
+
+returns : tie.Need-returns
+returns c es =
+    let f : SFits w64 (c .leaf-bit .result) = search needs in
+    rw (toZ-ofZ f, c .leaf-bit .ensures es) refl
+
+pub arrival-row-spec : {M : Type 1} → statement M
+arrival-row-spec = tie.close (tie.spec leaf-bit-requires returns)

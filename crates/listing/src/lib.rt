@@ -1,0 +1,267 @@
+// The walk of one bit address and the listing of the runs of all paths, from a root to a leaf. Both recurse over the edges that can still reach the
+// leaf, with the remaining chain length falling at each call.
+ghost use mathlib.Core.Path.{_≡_};
+ghost use mathlib.Core.List.{List, [], _∷_};
+ghost use Prim.Native.Nat.{_+_, _*_, _≤_, _<_};
+ghost use lib.IntN.{ℤ, pos};
+ghost use lib.ListN.{length, getD, take};
+ghost use Rattle.model.specs.Graph.{graphOf, NodeRow, node};
+ghost use Rattle.model.specs.Runs.{listOf};
+ghost use Rattle.model.specs.Calls.{numbersOf, leafBits};
+ghost use Rattle.sorting.specs.Rows.{rowsOf};
+ghost use Rattle.reach.specs.Links.{Linked};
+ghost use Rattle.steps.specs.Steps.{runOf, SmallRun, SmallAddress, GoodRow};
+ghost use Rattle.listing.specs.Listing.{LinkedTo, Ready, Appended, runRow, runRows, arrivalRow, arrivalRows, once, firstsOf};
+use model::Bits;
+use sorting::Row;
+use steps::Clipped;
+use steps::Run;
+
+// Numbers of an edge row.
+const EDGE_WIDTH: usize = 3;
+
+// Edges of a chain at most.
+const MAX_CHAIN: usize = 64;
+
+// The row of a run at the leaf: displacement, first and last bit of its record.
+fn run_row(nodes: &[i64], leaf: usize, run: Run) -> Row
+    requires { ⌜ GoodRow (now nodes) leaf × SmallRun (runOf run) ⌝ }
+    ensures { λ r. ⌜ ((es : List ℤ) → r ≡ runRow (node (graphOf (now (nodes .entry)) es) (pos leaf)) (runOf run)) ⌝ }
+{
+    let root = run.root;
+    let low = run.low;
+    let high = run.high;
+    let bit = Bits::of(steps::leaf_bit(nodes, leaf, low));
+    let displacement = root.less(bit);
+    let last = root.plus(high.less(low));
+    Row {
+        first: displacement.0,
+        second: root.0,
+        third: last.0,
+    }
+}
+
+// The row of a bit address at the leaf: its leaf bit, and 0 twice.
+fn arrival_row(nodes: &[i64], leaf: usize, a: Bits) -> Row
+    requires { ⌜ GoodRow (now nodes) leaf × SmallAddress (a .0) ⌝ }
+    ensures { λ r. ⌜ ((es : List ℤ) → r ≡ arrivalRow (node (graphOf (now (nodes .entry)) es) (pos leaf)) (a .0)) ⌝ }
+{
+    Row {
+        first: steps::leaf_bit(nodes, leaf, a),
+        second: 0,
+        third: 0,
+    }
+}
+
+// Stores a row behind the first n rows of `out`. Returns how many rows stand there then.
+fn append_row(out: &mut [i64], n: usize, row: Row) -> usize
+    requires { ⌜ 3 * n + 3 ≤ length (now out) ⌝ }
+    ensures { λ r. ⌜ Appended (row ∷ []) (now (out .entry)) (now (out .exit)) n r ⌝ }
+{
+    sorting::put_row(out, n, row);
+    n + 1
+}
+
+// The edge that a pass along the links goes on with behind edge e.
+fn edge_behind(next: &[usize], e: usize) -> usize
+    requires { ⌜ e < length (now next) ⌝ }
+    ensures { λ r. ⌜ r ≡ getD (now (next .entry)) e 0 ⌝ }
+{
+    let link = next[e];
+    link
+}
+
+// Lists the runs at the leaf of a run at node v, over at most `left` edges: a row each, behind the first n rows of `out`. Returns how many rows
+// stand there then. Goes over the linked edges alone, and over those that some bit of the run crosses.
+pub fn list_from(
+    nodes: &[i64],
+    edges: &[i64],
+    head: &[usize],
+    next: &[usize],
+    leaf: usize,
+    v: usize,
+    run: Run,
+    left: usize,
+    out: &mut [i64],
+    n: usize,
+) -> usize
+    requires { ⌜
+        LinkedTo (now nodes) (now edges) leaf (now head) (now next)
+        × NodeRow (graphOf (now nodes) (now edges)) (pos v)
+        × SmallRun (runOf run)
+        × (3 * (n + length (runRows left (graphOf (now nodes) (now edges)) (pos v) (pos leaf) (runOf run))) ≤ length (now out)) ⌝ }
+    ensures { λ r. ⌜
+        Appended (runRows left (graphOf (now (nodes .entry)) (now (edges .entry))) (pos v) (pos leaf) (runOf run))
+        (now (out .entry)) (now (out .exit)) n r ⌝ }
+{
+    if v == leaf {
+        return append_row(out, n, run_row(nodes, leaf, run));
+    }
+    if left == 0 {
+        return n;
+    }
+    let mut m = n;
+    let mut e = head[v];
+    while e < edges.len() / EDGE_WIDTH {
+        let crossed = steps::cross(nodes, edges, e, run);
+        if let Clipped::Left(entered) = crossed {
+            let to = tables::edge_to(edges, e);
+            m = list_from(
+                nodes,
+                edges,
+                head,
+                next,
+                leaf,
+                to,
+                entered,
+                left - 1,
+                out,
+                m,
+            );
+        }
+        e = edge_behind(next, e);
+    }
+    m
+}
+
+// Walks bit address a at node v to the leaf, over at most `left` edges: a row for each arrival, its leaf bit and 0 twice, behind the first n rows
+// of `out`. Returns how many rows stand there then. From an address outside the node there is none.
+pub fn walk_from(
+    nodes: &[i64],
+    edges: &[i64],
+    head: &[usize],
+    next: &[usize],
+    leaf: usize,
+    v: usize,
+    a: Bits,
+    left: usize,
+    out: &mut [i64],
+    n: usize,
+) -> usize
+    requires { ⌜
+        LinkedTo (now nodes) (now edges) leaf (now head) (now next)
+        × NodeRow (graphOf (now nodes) (now edges)) (pos v)
+        × (3 * (n + length (arrivalRows left (graphOf (now nodes) (now edges)) (pos v) (pos leaf) (a .0))) ≤ length (now out)) ⌝ }
+    ensures { λ r. ⌜
+        Appended (arrivalRows left (graphOf (now (nodes .entry)) (now (edges .entry))) (pos v) (pos leaf) (a .0))
+        (now (out .entry)) (now (out .exit)) n r ⌝ }
+{
+    if !steps::stands(nodes, v, a) {
+        return n;
+    }
+    if v == leaf {
+        return append_row(out, n, arrival_row(nodes, leaf, a));
+    }
+    if left == 0 {
+        return n;
+    }
+    let mut m = n;
+    let mut e = head[v];
+    while e < edges.len() / EDGE_WIDTH {
+        let to = tables::edge_to(edges, e);
+        let moved = steps::moved(nodes, edges, e, a);
+        m = walk_from(nodes, edges, head, next, leaf, to, moved, left - 1, out, m);
+        e = edge_behind(next, e);
+    }
+    m
+}
+
+// Lists the bitmapping list of a root and a leaf in n log n steps for n paths, each of at most MAX_CHAIN edges: its records stand in front of
+// `work`, first, last and displacement of each. Returns how many they are. What stands behind them, and in `spare`, is space that was worked in.
+pub fn list_pair(
+    nodes: &[i64],
+    edges: &[i64],
+    root: usize,
+    leaf: usize,
+    counts: &[usize],
+    head: &mut [usize],
+    next: &mut [usize],
+    work: &mut [i64],
+    spare: &mut [i64],
+) -> usize
+    requires { ⌜ Ready (now nodes) (now edges) root leaf (now counts) (now head) (now next) (now work) (now spare) ⌝ }
+    ensures { λ r. ⌜ r ≡ length (listOf (graphOf (now (nodes .entry)) (now (edges .entry))) (pos root) (pos leaf)) ⌝ }
+    ensures { λ r. ⌜ take (3 * r) (now (work .exit)) ≡ numbersOf (listOf (graphOf (now (nodes .entry)) (now (edges .entry))) (pos root) (pos leaf)) ⌝ }
+    ensures { λ _. ⌜
+        Linked (now (counts .entry)) (graphOf (now (nodes .entry)) (now (edges .entry)))
+        (now (head .entry)) (now (next .entry)) (now (head .exit)) (now (next .exit)) ⌝ }
+{
+    reach::link_edges(nodes, edges, counts, head, next);
+    let run = steps::whole(nodes, root);
+    let n = list_from(
+        nodes,
+        edges,
+        head,
+        next,
+        leaf,
+        root,
+        run,
+        MAX_CHAIN,
+        work,
+        0,
+    );
+    normalisation::normalise(work, n, spare)
+}
+
+// Keeps the first number of each of n rows once, where equal ones stand next to each other: in front of `work`. Returns how many they are.
+fn keep_once(work: &mut [i64], n: usize) -> usize
+    requires { ⌜ 3 * n ≤ length (now work) ⌝ }
+    ensures { λ r. ⌜ r ≡ length (once (firstsOf (rowsOf (now (work .entry)) n))) ⌝ }
+    ensures { λ r. ⌜ take r (now (work .exit)) ≡ once (firstsOf (rowsOf (now (work .entry)) n)) ⌝ }
+{
+    if n == 0 {
+        return 0;
+    }
+    let mut last = sorting::row_at(work, 0);
+    let mut k: usize = 1;
+    let mut i: usize = 1;
+    while i < n {
+        let row = sorting::row_at(work, i);
+        i += 1;
+        if row.first != last.first {
+            let bit = row.first;
+            work[k] = bit;
+            k += 1;
+            last = row;
+        }
+    }
+    k
+}
+
+// Walks a bit address from a root to a leaf: the distinct leaf bits, ascending, stand in front of `work`. Returns how many they are. What stands
+// behind them, and in `spare`, is space that was worked in.
+pub fn walk_pair(
+    nodes: &[i64],
+    edges: &[i64],
+    root: usize,
+    leaf: usize,
+    address: i64,
+    counts: &[usize],
+    head: &mut [usize],
+    next: &mut [usize],
+    work: &mut [i64],
+    spare: &mut [i64],
+) -> usize
+    requires { ⌜ Ready (now nodes) (now edges) root leaf (now counts) (now head) (now next) (now work) (now spare) ⌝ }
+    ensures { λ r. ⌜ r ≡ length (leafBits (graphOf (now (nodes .entry)) (now (edges .entry))) (pos root) (pos leaf) address) ⌝ }
+    ensures { λ r. ⌜ take r (now (work .exit)) ≡ leafBits (graphOf (now (nodes .entry)) (now (edges .entry))) (pos root) (pos leaf) address ⌝ }
+    ensures { λ _. ⌜
+        Linked (now (counts .entry)) (graphOf (now (nodes .entry)) (now (edges .entry)))
+        (now (head .entry)) (now (next .entry)) (now (head .exit)) (now (next .exit)) ⌝ }
+{
+    reach::link_edges(nodes, edges, counts, head, next);
+    let n = walk_from(
+        nodes,
+        edges,
+        head,
+        next,
+        leaf,
+        root,
+        Bits::of(address),
+        MAX_CHAIN,
+        work,
+        0,
+    );
+    sorting::sort_rows(work, n, spare);
+    keep_once(work, n)
+}

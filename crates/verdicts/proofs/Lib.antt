@@ -1,0 +1,4 @@
+pub mod Records
+pub mod Tests
+pub mod Turns
+pub mod OnePass

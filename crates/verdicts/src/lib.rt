@@ -1,0 +1,237 @@
+// The verdict on two lists of records, and the lowest address at which they differ. A list is a flat slice of numbers, three a record: first,
+// last, displacement.
+ghost use mathlib.Core.Path.{_≡_};
+ghost use Prim.Native.Nat.{_+_, _*_, _≤_};
+ghost use lib.ListN.{length};
+ghost use Rattle.model.specs.Verdicts.{sameRecord, sameList, contained, verdict, lowest};
+ghost use Rattle.model.specs.Answers.{verdictNumber};
+ghost use Rattle.verdicts.specs.Records.{asRecord, recordAt, recordsOf, recordsFrom, SmallRecord, SmallList, NormalList};
+ghost use Rattle.verdicts.specs.Records.{spanWithin, rootBits, leafBits, someContains, allContained};
+ghost use Rattle.verdicts.specs.OnePass as pass;
+use model::Bits;
+use model::Verdict;
+
+// Root bits first .. last reach leaf bits that stand displacement below them.
+pub struct Record {
+    pub first: i64,
+    pub last: i64,
+    pub displacement: i64,
+}
+
+// The bits first .. last.
+pub struct Span {
+    pub first: i64,
+    pub last: i64,
+}
+
+// Record i of the list t.
+pub fn record_at(t: &[i64], i: usize) -> Record
+    requires { ⌜ 3 * i + 3 ≤ length (now t) ⌝ }
+    ensures { λ r. ⌜ asRecord r ≡ recordAt (now (t .entry)) i ⌝ }
+{
+    let row = sorting::row_at(t, i);
+    Record {
+        first: row.first,
+        last: row.second,
+        displacement: row.third,
+    }
+}
+
+// Whether two records begin alike: at one bit, with one displacement.
+fn begin_alike(r: Record, s: Record) -> bool
+    ensures { λ b. ⌜ b ≡ pass.aligned (asRecord r) (asRecord s) ⌝ }
+{
+    if r.first != s.first {
+        return false;
+    }
+    r.displacement == s.displacement
+}
+
+// Whether two records are the same.
+fn same_records(r: Record, s: Record) -> bool
+    ensures { λ b. ⌜ b ≡ sameRecord (asRecord r) (asRecord s) ⌝ }
+{
+    if begin_alike(r, s) {
+        return r.last == s.last;
+    }
+    false
+}
+
+// Whether na records of a are nb records of b, in one pass.
+pub fn same_lists(a: &[i64], na: usize, b: &[i64], nb: usize) -> bool
+    requires { ⌜ (3 * na ≤ length (now a)) × (3 * nb ≤ length (now b)) ⌝ }
+    ensures { λ r. ⌜ r ≡ sameList (recordsOf (now (a .entry)) na) (recordsOf (now (b .entry)) nb) ⌝ }
+{
+    if na != nb {
+        return false;
+    }
+    let mut i: usize = 0;
+    while i < na {
+        if same_records(record_at(a, i), record_at(b, i)) {
+            i += 1;
+        } else {
+            return false;
+        }
+    }
+    true
+}
+
+// Whether the bits of s lie among those of t.
+fn span_within(s: Span, t: Span) -> bool
+    ensures { λ b. ⌜ b ≡ spanWithin s t ⌝ }
+{
+    if t.first <= s.first {
+        return s.last <= t.last;
+    }
+    false
+}
+
+// The root bits of a record.
+fn root_bits(r: Record) -> Span
+    ensures { λ s. ⌜ s ≡ rootBits (asRecord r) ⌝ }
+{
+    Span {
+        first: r.first,
+        last: r.last,
+    }
+}
+
+// The leaf bits of a record.
+fn leaf_bits(r: Record) -> Span
+    requires { ⌜ SmallRecord (asRecord r) ⌝ }
+    ensures { λ s. ⌜ s ≡ leafBits (asRecord r) ⌝ }
+{
+    Span {
+        first: r.first - r.displacement,
+        last: r.last - r.displacement,
+    }
+}
+
+// Whether r is contained in record i of t: its root bits among the root bits there, and its leaf bits among the leaf bits there.
+pub fn contained_in(r: Record, t: &[i64], i: usize) -> bool
+    requires { ⌜ (3 * i + 3 ≤ length (now t)) × SmallRecord (asRecord r) × SmallRecord (recordAt (now t) i) ⌝ }
+    ensures { λ b. ⌜ b ≡ contained (asRecord r) (recordAt (now (t .entry)) i) ⌝ }
+{
+    if span_within(root_bits(r), root_bits(record_at(t, i))) {
+        return span_within(leaf_bits(r), leaf_bits(record_at(t, i)));
+    }
+    false
+}
+
+// Whether one of the first n records of t contains r.
+pub fn some_contains(t: &[i64], n: usize, r: Record) -> bool
+    requires { ⌜ SmallList (now t) n × SmallRecord (asRecord r) ⌝ }
+    ensures { λ b. ⌜ b ≡ someContains (recordsOf (now (t .entry)) n) (asRecord r) ⌝ }
+{
+    let mut i: usize = 0;
+    while i < n {
+        if contained_in(r, t, i) {
+            return true;
+        }
+        i += 1;
+    }
+    false
+}
+
+// Whether each of the ni records of imp is contained in one of the ns records of spec.
+pub fn all_contained(spec: &[i64], ns: usize, imp: &[i64], ni: usize) -> bool
+    requires { ⌜ SmallList (now spec) ns × SmallList (now imp) ni ⌝ }
+    ensures { λ b. ⌜ b ≡ allContained (recordsOf (now (spec .entry)) ns) (recordsOf (now (imp .entry)) ni) ⌝ }
+{
+    let mut i: usize = 0;
+    while i < ni {
+        if some_contains(spec, ns, record_at(imp, i)) {
+            i += 1;
+        } else {
+            return false;
+        }
+    }
+    true
+}
+
+// The verdict on the ns records of the specification and the ni records of the implementation.
+pub fn verdict_of(spec: &[i64], ns: usize, imp: &[i64], ni: usize) -> Verdict
+    requires { ⌜ SmallList (now spec) ns × SmallList (now imp) ni ⌝ }
+    ensures { λ v. ⌜ verdictNumber v ≡ verdict (recordsOf (now (spec .entry)) ns) (recordsOf (now (imp .entry)) ni) ⌝ }
+{
+    if same_lists(spec, ns, imp, ni) {
+        return Verdict::Equal;
+    }
+    if ni == 0 {
+        return Verdict::Different;
+    }
+    if all_contained(spec, ns, imp, ni) {
+        return Verdict::Partial;
+    }
+    Verdict::Different
+}
+
+// The lower of an address found before, -1 where there is none, and the next.
+fn lower(least: Bits, next: i64) -> Bits
+    ensures { λ b. ⌜ b .0 ≡ pass.lower (least .0) next ⌝ }
+{
+    if least.0 < 0 {
+        return Bits(next);
+    }
+    if least.0 <= next {
+        return least;
+    }
+    Bits(next)
+}
+
+// The same, where the next is past the end of the shorter of two records, if one is shorter.
+fn lower_end(least: Bits, r: Record, s: Record) -> Bits
+    requires { ⌜ SmallRecord (asRecord r) × SmallRecord (asRecord s) ⌝ }
+    ensures { λ b. ⌜ b .0 ≡ pass.lowestFrom (least .0) (pass.ends (asRecord r) (asRecord s)) ⌝ }
+{
+    if r.last < s.last {
+        return lower(least, r.last + 1);
+    }
+    if s.last < r.last {
+        return lower(least, s.last + 1);
+    }
+    least
+}
+
+// The same, where the next is the first bit of record i of t, if there is one.
+fn lower_start(least: Bits, t: &[i64], n: usize, i: usize) -> Bits
+    requires { ⌜ 3 * n ≤ length (now t) ⌝ }
+    ensures { λ b. ⌜ b .0 ≡ pass.lowestFrom (least .0) (pass.starts (recordsFrom (now (t .entry)) i n)) ⌝ }
+{
+    if i < n {
+        let r = record_at(t, i);
+        return lower(least, r.first);
+    }
+    least
+}
+
+// Whether both lists have a record i, and these two begin alike.
+fn alike_at(spec: &[i64], ns: usize, imp: &[i64], ni: usize, i: usize) -> bool
+    requires { ⌜ (3 * ns ≤ length (now spec)) × (3 * ni ≤ length (now imp)) ⌝ }
+    ensures { λ b. ⌜ b ≡ pass.headsAligned (recordsFrom (now (spec .entry)) i ns) (recordsFrom (now (imp .entry)) i ni) ⌝ }
+{
+    if ns <= i {
+        return false;
+    }
+    if ni <= i {
+        return false;
+    }
+    begin_alike(record_at(spec, i), record_at(imp, i))
+}
+
+// The lowest bit address at which the leaf bits by the two lists differ, -1 where they differ nowhere. In one pass: while records begin alike,
+// past the end of the shorter; then where either list goes on.
+pub fn lowest_of(spec: &[i64], ns: usize, imp: &[i64], ni: usize) -> i64
+    requires { ⌜ NormalList (now spec) ns × NormalList (now imp) ni ⌝ }
+    ensures { λ b. ⌜ b ≡ lowest (recordsOf (now (spec .entry)) ns) (recordsOf (now (imp .entry)) ni) ⌝ }
+{
+    let mut least = Bits(-1);
+    let mut i: usize = 0;
+    while alike_at(spec, ns, imp, ni, i) {
+        least = lower_end(least, record_at(spec, i), record_at(imp, i));
+        i += 1;
+    }
+    least = lower_start(least, spec, ns, i);
+    least = lower_start(least, imp, ni, i);
+    least.0
+}

@@ -1,4 +1,4 @@
--- The bitmapping list, computed: paths, the run of each path by shift and clip, and normalisation. Assumes nothing.
+-- The bitmapping list, computed: shift and clip, the run of a path, the runs of all paths, and normalisation. Assumes nothing.
 use mathlib.Core.Bool.{Bool, not, cond, _&&_, _||_}
 use mathlib.Core.List.{List, [], _∷_, map, flatMap}
 use Prim.Native.Nat.{ℕ, zero, suc}
@@ -10,22 +10,6 @@ use Rattle.model.specs.Limits.{maxChain}
 use Rattle.model.specs.Rows.{Node, Edge}
 use Rattle.model.specs.Graph.{Graph, node, firstBit, lastBit, bitOffset}
 use Rattle.model.specs.Bitmapping.{Record}
-
--- ---- paths (000, Algorithm 3)
-
--- the edges that leave v
-unfoldable pub leaving : Graph → ℤ → List Edge
-leaving g v = keep (λ e. eqZ (e .from) v) (g .edges)
-
--- the paths from v to the leaf l over at most k edges. They end at l: no edge leaves a block
-unfoldable pub pathsWithin : ℕ → Graph → ℤ → ℤ → List (List Edge)
-pathsWithin zero g v l = cond (eqZ v l) ([] ∷ []) []
-pathsWithin (suc k) g v l =
-    let onward = flatMap (λ e. map (λ p. e ∷ p) (pathsWithin k g (e .to) l)) (leaving g v) in cond (eqZ v l) ([] ∷ []) onward
-
--- the paths from a root to a leaf
-unfoldable pub paths : Graph → ℤ → ℤ → List (List Edge)
-paths g r l = pathsWithin maxChain g r l
 
 -- ---- runs (000, 2.15 to 2.19)
 
@@ -60,6 +44,24 @@ across g e r = clip (node g (e .to)) (shift (bitOffset g e) r)
 unfoldable pub along : Graph → List Edge → Run → Run
 along g [] r = r
 along g (e ∷ p) r = along g p (across g e r)
+
+-- ---- paths (000, Algorithm 3)
+
+-- the edges that leave v
+unfoldable pub leaving : Graph → ℤ → List Edge
+leaving g v = keep (λ e. eqZ (e .from) v) (g .edges)
+
+-- the paths from v to the leaf l over at most k edges. They end at l: no edge leaves a block
+unfoldable pub pathsWithin : ℕ → Graph → ℤ → ℤ → List (List Edge)
+pathsWithin zero g v l = cond (eqZ v l) ([] ∷ []) []
+pathsWithin (suc k) g v l =
+    let onward = flatMap (λ e. map (λ p. e ∷ p) (pathsWithin k g (e .to) l)) (leaving g v) in cond (eqZ v l) ([] ∷ []) onward
+
+-- the paths from a root to a leaf
+unfoldable pub paths : Graph → ℤ → ℤ → List (List Edge)
+paths g r l = pathsWithin maxChain g r l
+
+-- ---- the runs of all paths
 
 -- the runs of all paths from a root to a leaf, but for the empty ones
 unfoldable pub runs : Graph → ℤ → ℤ → List Run

@@ -1,0 +1,5 @@
+pub mod Roots
+pub mod Copying
+pub mod Answers
+pub mod Counts
+pub mod Promises

@@ -1,0 +1,49 @@
+-- What the checks of a named root and leaf ask and leave, and what is copied into a lent buffer. Assumes nothing.
+use mathlib.Core.Path.{_≡_}
+use mathlib.Core.Bool.{cond}
+use mathlib.Core.List.{List, _++_, map}
+use mathlib.Core.Option.{Option}
+use Prim.Native.Nat.{ℕ, _≤_}
+use lib.Dec.{ltb}
+use lib.IntN.{ℤ, negsuc}
+use lib.ListN.{length, take, drop}
+use Rattle.model.specs.Rows.{nodeRows, edgeRows}
+use Rattle.model.specs.Graph.{Graph, graphOf, node}
+use Rattle.model.specs.Refusals.{Refusal}
+use Rattle.model.specs.Checks.{isRow, _then_, checkGraph, checkNamed}
+use Rattle.model.specs.Calls.{answer}
+use Rattle.model.specs.Answers.{checkedAnswer}
+use Rattle.model.specs.Taken.{TakenTables}
+use Rattle.model.specs.declared.Checked.{Checked}
+use Rattle.model.specs.declared.Checked.the-variants.{Taken}
+use Rattle.depth.specs.Order.{edgeOrder}
+use Rattle.reach.specs.Counting.{countsOver}
+
+-- the kind of node v, or −1 where v is no node row
+unfoldable pub kindOf : Graph → ℤ → ℤ
+kindOf g v = cond (isRow g v) (node g v .kind) (negsuc 0)
+
+-- what the checks of a named root and leaf start from: tables whose graph is taken, their edge rows in backward order in front of `order`, and
+-- room for a count for each node
+pub record Nameable (ns es : List ℤ) (order counts : List ℕ) : Type 0 where
+  pub tables : TakenTables ns es
+  pub backward : take (length (edgeRows es)) order ≡ map (λ e. e .row) (edgeOrder (edgeRows es))
+  pub room : length (nodeRows ns) ≤ length counts
+
+-- what a check of the graph with a leaf leaves: its answer and, where it takes them, the counts of the paths to the leaf
+pub record Counted (check : Option Refusal) (ns es : List ℤ) (leaf : ℤ) (old : List ℕ) (given : Checked) (new : List ℕ) : Type 0 where
+  pub answers : checkedAnswer given ≡ answer check tt
+  pub counted : given ≡ Taken → new ≡ countsOver (graphOf ns es) leaf old
+
+-- the refusals of list and walk, but for that of a long output
+unfoldable pub checkAsked : List ℤ → List ℤ → ℤ → ℤ → Option Refusal
+checkAsked ns es root leaf = checkGraph 0 ns es then checkNamed (graphOf ns es) root leaf
+
+-- how many of n numbers go into a buffer with so much room: all, or none where they do not fit
+unfoldable pub fitting : ℕ → ℕ → ℕ
+fitting n room = cond (ltb room n) 0 n
+
+-- n numbers of `from` copied to the front of a buffer that held `old`, where they fit
+pub record Copied (from : List ℤ) (n : ℕ) (old : List ℤ) (size : ℕ) (new : List ℤ) : Type 0 where
+  pub count : size ≡ fitting n (length old)
+  pub front : new ≡ take size from ++ drop size old

@@ -1,0 +1,257 @@
+// The bitmapping list of a root and a leaf of one graph, and the walk of one bit address.
+ghost use mathlib.Core.Path.{_≡_};
+ghost use mathlib.Core.List.{List, _++_};
+ghost use Prim.Native.Nat.{_≤_};
+ghost use lib.IntN.{ℤ};
+ghost use lib.ListN.{length, take, drop};
+ghost use Rattle.integers.specs.Integers.{eqZ};
+ghost use Rattle.lists.specs.Lists.{any};
+ghost use Rattle.model.specs.Limits.{maxNodes, maxEdges};
+ghost use Rattle.model.specs.Rows.{edgeRows};
+ghost use Rattle.model.specs.Graph.{graphOf};
+ghost use Rattle.model.specs.Checks.{isRoot, isLeaf, checkNamed};
+ghost use Rattle.bitmapping.specs.Promises.{ListPromise, WalkPromise};
+ghost use Rattle.bitmapping.specs.Checking.{kindOf, Nameable, Counted, checkAsked, Copied};
+use model::Checked;
+use model::Reason;
+use model::Written;
+
+// Numbers of a node row, of an edge row and of a record.
+const NODE_WIDTH: usize = 4;
+
+const EDGE_WIDTH: usize = 3;
+
+const RECORD_WIDTH: usize = 3;
+
+// Rows of a table at most.
+const MAX_NODES: usize = 2000;
+
+const MAX_EDGES: usize = 2600;
+
+// The most paths from a root to a leaf, and the numbers of as many rows of three.
+const MAX_PATHS: usize = 1024;
+
+const MAX_NUMBERS: usize = 3072;
+
+// Kinds of nodes.
+const SPACE: i64 = 0;
+
+const SEGMENT: i64 = 1;
+
+const BLOCK: i64 = 2;
+
+const NO_KIND: i64 = -1;
+
+// Tables as refusals name them: the edges of a single graph, roots and leaves.
+const EDGES: usize = 1;
+
+const ROOTS: usize = 4;
+
+const LEAVES: usize = 5;
+
+// Whether some edge of the table enters v.
+fn entered(edges: &[i64], v: i64) -> bool
+    ensures { λ r. ⌜ r ≡ any (λ e. eqZ (e .to) v) (edgeRows (now (edges .entry))) ⌝ }
+{
+    let mut e: usize = 0;
+    while EDGE_WIDTH * e + EDGE_WIDTH <= edges.len() {
+        let to = edges[EDGE_WIDTH * e + 1];
+        if to == v {
+            return true;
+        }
+        e += 1;
+    }
+    false
+}
+
+// The kind of node v, or NO_KIND where v is no node row.
+fn kind_at(nodes: &[i64], v: i64) -> i64
+    ensures { λ r. ⌜ ((es : List ℤ) → r ≡ kindOf (graphOf (now (nodes .entry)) es) v) ⌝ }
+{
+    if tables::is_row(v, nodes.len() / NODE_WIDTH) {
+        let row = v as usize;
+        return nodes[NODE_WIDTH * row];
+    }
+    NO_KIND
+}
+
+// Whether v is the row of a root: a space or segment that no edge enters.
+pub fn is_root(nodes: &[i64], edges: &[i64], v: i64) -> bool
+    ensures { λ r. ⌜ r ≡ isRoot (graphOf (now (nodes .entry)) (now (edges .entry))) v ⌝ }
+{
+    let kind = kind_at(nodes, v);
+    if kind != SPACE {
+        if kind != SEGMENT {
+            return false;
+        }
+    }
+    !entered(edges, v)
+}
+
+// Whether v is the row of a leaf: a block.
+pub fn is_leaf(nodes: &[i64], v: i64) -> bool
+    ensures { λ r. ⌜ ((es : List ℤ) → r ≡ isLeaf (graphOf (now (nodes .entry)) es) v) ⌝ }
+{
+    let kind = kind_at(nodes, v);
+    kind == BLOCK
+}
+
+// Refusals 7 and 10 of a root and a leaf of a graph that is taken. Counts the paths to the leaf.
+fn check_named(
+    nodes: &[i64],
+    edges: &[i64],
+    order: &[usize],
+    root: i64,
+    leaf: i64,
+    counts: &mut [usize],
+) -> Checked
+    requires { ⌜ Nameable (now nodes) (now edges) (now order) (now counts) ⌝ }
+    ensures { λ r. ⌜
+        Counted (checkNamed (graphOf (now (nodes .entry)) (now (edges .entry))) root leaf)
+        (now (nodes .entry)) (now (edges .entry)) leaf (now (counts .entry)) r (now (counts .exit)) ⌝ }
+{
+    if !is_root(nodes, edges, root) {
+        return Checked::Refused(Reason::NotRootOrLeaf {
+            table: ROOTS,
+            row: 0,
+        });
+    }
+    if !is_leaf(nodes, leaf) {
+        return Checked::Refused(Reason::NotRootOrLeaf {
+            table: LEAVES,
+            row: 0,
+        });
+    }
+    reach::count_paths(nodes, edges, order, leaf as usize, counts);
+    let from = root as usize;
+    let paths = counts[from];
+    if paths > MAX_PATHS {
+        return Checked::Refused(Reason::ManyPaths {
+            table: EDGES,
+            row: 0,
+        });
+    }
+    Checked::Taken
+}
+
+// Refusals 1 to 7 and 10 of a root and a leaf of a graph. Orders its edges, and counts the paths to the leaf.
+fn check_asked(
+    nodes: &[i64],
+    edges: &[i64],
+    root: i64,
+    leaf: i64,
+    order: &mut [usize],
+    counts: &mut [usize],
+) -> Checked
+    requires { ⌜ (maxEdges ≤ length (now order)) × (maxNodes ≤ length (now counts)) ⌝ }
+    ensures { λ r. ⌜
+        Counted (checkAsked (now (nodes .entry)) (now (edges .entry)) root leaf)
+        (now (nodes .entry)) (now (edges .entry)) leaf (now (counts .entry)) r (now (counts .exit)) ⌝ }
+{
+    let checked = depth::check_graph_with(nodes, edges, 0, order);
+    if let Checked::Refused(reason) = checked {
+        return Checked::Refused(reason);
+    }
+    check_named(nodes, edges, order, root, leaf, counts)
+}
+
+// Copies the first n numbers of `from` to the front of `to`.
+fn copy_numbers(from: &[i64], n: usize, to: &mut [i64])
+    requires { ⌜ (n ≤ length (now from)) × (n ≤ length (now to)) ⌝ }
+    ensures { λ _. ⌜ now (to .exit) ≡ take n (now (from .entry)) ++ drop n (now (to .entry)) ⌝ }
+{
+    let mut k: usize = 0;
+    while k < n {
+        let x = from[k];
+        to[k] = x;
+        k += 1;
+    }
+}
+
+// Copies the first n numbers of `from` to the front of `out`, or none where they do not fit. Gives how many it copies.
+fn put_numbers(from: &[i64], n: usize, out: &mut [i64]) -> usize
+    requires { ⌜ n ≤ length (now from) ⌝ }
+    ensures { λ r. ⌜ Copied (now (from .entry)) n (now (out .entry)) r (now (out .exit)) ⌝ }
+{
+    let room = out.len();
+    let mut size = n;
+    if room < n {
+        size = 0;
+    }
+    copy_numbers(from, size, out);
+    size
+}
+
+// The bitmapping list of a root and a leaf: its records in order, three numbers each, in the front of `out`, and how many they are. Where the
+// tables, root, leaf or the length of `out` are not as they should be, the first refusal, with `out` untouched.
+pub fn list(nodes: &[i64], edges: &[i64], root: i64, leaf: i64, out: &mut [i64]) -> Written
+    ensures { λ r. ⌜ ListPromise (now (nodes .entry)) (now (edges .entry)) root leaf (now (out .entry)) r (now (out .exit)) ⌝ }
+{
+    let mut order = [0usize; MAX_EDGES];
+    let mut counts = [0usize; MAX_NODES];
+    let checked = check_asked(nodes, edges, root, leaf, &mut order, &mut counts);
+    if let Checked::Refused(reason) = checked {
+        return Written::Refused(reason);
+    }
+    let mut head = [0usize; MAX_NODES];
+    let mut next = [0usize; MAX_EDGES];
+    let mut work = [0i64; MAX_NUMBERS];
+    let mut spare = [0i64; MAX_NUMBERS];
+    let records = listing::list_pair(
+        nodes,
+        edges,
+        root as usize,
+        leaf as usize,
+        &counts,
+        &mut head,
+        &mut next,
+        &mut work,
+        &mut spare,
+    );
+    let numbers = RECORD_WIDTH * records;
+    if put_numbers(&work, numbers, out) < numbers {
+        return Written::Refused(Reason::LongOutput);
+    }
+    Written::Count(records)
+}
+
+// The distinct leaf bits that a bit address at the root reaches, ascending, in the front of `out`, and how many they are: none for an address
+// outside the root. Else the first refusal, with `out` untouched.
+pub fn walk(
+    nodes: &[i64],
+    edges: &[i64],
+    root: i64,
+    leaf: i64,
+    address: i64,
+    out: &mut [i64],
+) -> Written
+    ensures { λ r. ⌜
+        WalkPromise (now (nodes .entry)) (now (edges .entry)) root leaf address (now (out .entry)) r (now (out .exit)) ⌝ }
+{
+    let mut order = [0usize; MAX_EDGES];
+    let mut counts = [0usize; MAX_NODES];
+    let checked = check_asked(nodes, edges, root, leaf, &mut order, &mut counts);
+    if let Checked::Refused(reason) = checked {
+        return Written::Refused(reason);
+    }
+    let mut head = [0usize; MAX_NODES];
+    let mut next = [0usize; MAX_EDGES];
+    let mut work = [0i64; MAX_NUMBERS];
+    let mut spare = [0i64; MAX_NUMBERS];
+    let bits = listing::walk_pair(
+        nodes,
+        edges,
+        root as usize,
+        leaf as usize,
+        address,
+        &counts,
+        &mut head,
+        &mut next,
+        &mut work,
+        &mut spare,
+    );
+    if put_numbers(&work, bits, out) < bits {
+        return Written::Refused(Reason::LongOutput);
+    }
+    Written::Count(bits)
+}

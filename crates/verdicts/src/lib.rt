@@ -8,7 +8,6 @@ ghost use Rattle.model.specs.Answers.{verdictNumber};
 ghost use Rattle.verdicts.specs.Records.{asRecord, recordAt, recordsOf, recordsFrom, SmallRecord, SmallList, NormalList};
 ghost use Rattle.verdicts.specs.Records.{spanWithin, rootBits, leafBits, someContains, allContained};
 ghost use Rattle.verdicts.specs.OnePass as pass;
-use model::Bits;
 use model::Verdict;
 
 // Root bits first .. last reach leaf bits that stand displacement below them.
@@ -23,6 +22,9 @@ pub struct Span {
     pub first: i64,
     pub last: i64,
 }
+
+// The lowest address found so far, -1 where there is none.
+pub struct Least(pub i64);
 
 // Record i of the list t.
 pub fn record_at(t: &[i64], i: usize) -> Record
@@ -167,20 +169,20 @@ pub fn verdict_of(spec: &[i64], ns: usize, imp: &[i64], ni: usize) -> Verdict
 }
 
 // The lower of an address found before, -1 where there is none, and the next.
-fn lower(least: Bits, next: i64) -> Bits
+fn lower(least: Least, next: i64) -> Least
     ensures { λ b. ⌜ b .0 ≡ pass.lower (least .0) next ⌝ }
 {
     if least.0 < 0 {
-        return Bits(next);
+        return Least(next);
     }
     if least.0 <= next {
         return least;
     }
-    Bits(next)
+    Least(next)
 }
 
 // The same, where the next is past the end of the shorter of two records, if one is shorter.
-fn lower_end(least: Bits, r: Record, s: Record) -> Bits
+fn lower_end(least: Least, r: Record, s: Record) -> Least
     requires { ⌜ SmallRecord (asRecord r) × SmallRecord (asRecord s) ⌝ }
     ensures { λ b. ⌜ b .0 ≡ pass.lowestFrom (least .0) (pass.ends (asRecord r) (asRecord s)) ⌝ }
 {
@@ -194,7 +196,7 @@ fn lower_end(least: Bits, r: Record, s: Record) -> Bits
 }
 
 // The same, where the next is the first bit of record i of t, if there is one.
-fn lower_start(least: Bits, t: &[i64], n: usize, i: usize) -> Bits
+fn lower_start(least: Least, t: &[i64], n: usize, i: usize) -> Least
     requires { ⌜ 3 * n ≤ length (now t) ⌝ }
     ensures { λ b. ⌜ b .0 ≡ pass.lowestFrom (least .0) (pass.starts (recordsFrom (now (t .entry)) i n)) ⌝ }
 {
@@ -225,7 +227,7 @@ pub fn lowest_of(spec: &[i64], ns: usize, imp: &[i64], ni: usize) -> i64
     requires { ⌜ NormalList (now spec) ns × NormalList (now imp) ni ⌝ }
     ensures { λ b. ⌜ b ≡ lowest (recordsOf (now (spec .entry)) ns) (recordsOf (now (imp .entry)) ni) ⌝ }
 {
-    let mut least = Bits(-1);
+    let mut least = Least(-1);
     let mut i: usize = 0;
     while alike_at(spec, ns, imp, ni, i) {
         least = lower_end(least, record_at(spec, i), record_at(imp, i));

@@ -11,18 +11,19 @@ use Rattle.model.specs.Graph.{graphOf}
 use Rattle.model.specs.Walk.{Reached}
 use Rattle.model.specs.Bitmapping.{Record, IsBitmappingList}
 use Rattle.model.specs.Runs.{listOf}
-use Rattle.model.specs.Calls.{refused, full, answer, lengthOf, bufferAfter, leafBits, walkAnswer, walkGives, walkAfter}
+use Rattle.model.specs.Calls.{Answer, refused, full, answer, lengthOf, bufferAfter, leafBits, walkAnswer, walkGives, walkAfter}
 use Rattle.model.specs.Calls.{numbersOf, listAnswer, numbersAnswer, listGives, listAfter}
-use Rattle.model.specs.Answers.{refusalOf}
+use Rattle.model.specs.Answers.{refusalOf, writtenAnswer}
 use Rattle.model.specs.declared.Reason.{Reason}
 use Rattle.model.specs.declared.Reason.the-variants.{LongOutput}
+use Rattle.model.specs.declared.Written.{Written}
 use Rattle.model.specs.declared.Written.the-variants as written
 use Rattle.model.proofs.Taken.{taken-fit}
 use Rattle.model.proofs.ListLaw.{list-of-reached}
 use Rattle.model.proofs.WalkCall.{nil, cons, leafBits-reached, leafBits-ascending}
 use Rattle.model.proofs.WalkCall as call
 use Rattle.tables.proofs.Checks.{checked}
-use Rattle.bitmapping.specs.Promises.{ListPromise, Ascending, none, more, WalkPromise}
+use Rattle.bitmapping.specs.Promises.{ListStands, ListPromise, Ascending, none, more, WalkStands, WalkPromise}
 use Rattle.bitmapping.specs.Checking.{checkAsked, Copied}
 use Rattle.bitmapping.proofs.Copying.{copied-none, copied-all}
 use Rattle.bitmapping.proofs.Answers.{asked-tables, asked-leaf, single-refused, single-long, single-full, single-given}
@@ -45,11 +46,22 @@ module _ (ns es : List ℤ) (r l : ℤ) where
       subst (IsBitmappingList g r l) (given .1) (list-of-reached (taken-fit (asked-tables ns es r l (given .0) .graph) (asked-leaf ns es r l (given .0))))
 
   module _ (old : List ℤ) where
+    -- what the answer and the buffer are fixes what stands there
+    list-promise : (given : Written) (new : List ℤ) → writtenAnswer given ≡ listGives ns es r l old → new ≡ listAfter ns es r l old
+        → ListPromise ns es r l old given new
+    unfolding listGives listAfter lengthOf bufferAfter numbersAnswer
+    list-promise given new a b = record { answer = a; buffer = b; reached = λ n e. go n (listAnswer ns es r l (length old)) refl (sym a ∙ e) b }
+      where
+        go : (n : ℕ) (x : Answer (List Record)) → listAnswer ns es r l (length old) ≡ x → lengthOf x ≡ full n → new ≡ bufferAfter (numbersAnswer x) old
+            → ListStands (graphOf ns es) r l n old new
+        go n (refused q) h k c = let z : _≡_ {A = ℕ} 0 1 = cc in absurd (omega arith)
+        go n (full records) h k c = record { records = records; count = cc; stands = c; reached = list-given (length old) records h }
+
     -- the outcome of a refusal
     list-stops : (reason : Reason) → listAnswer ns es r l (length old) ≡ refused (refusalOf reason) → ListPromise ns es r l old (written.Refused reason) old
     unfolding listGives listAfter lengthOf bufferAfter numbersAnswer
     list-stops reason e =
-        record { answer = sym (ap lengthOf e); buffer = sym (ap (λ a. bufferAfter (numbersAnswer a) old) e); reached = list-given (length old) }
+        list-promise (written.Refused reason) old (sym (ap lengthOf e)) (sym (ap (λ a. bufferAfter (numbersAnswer a) old) e))
 
     -- what it is asked for is refused
     pub list-refused : (reason : Reason) → refused (refusalOf reason) ≡ checked (checkAsked ns es r l) → ListPromise ns es r l old (written.Refused reason) old
@@ -79,12 +91,9 @@ module _ (ns es : List ℤ) (r l : ℤ) where
             let all = copied-all copied h in
             let long : 3 * records ≡ length (numbersOf out) = omega (arith, numbers-length out) in
             let e = single-full out ns es r l (length (numbersOf out)) (length old) taken (omega (arith, all .0)) in
-            record {
-              answer = ap full count ∙ sym (ap lengthOf e);
-              buffer = all .1 ∙ ap (λ t. t ++ drop (3 * records) old) front ∙ ap (λ n. numbersOf out ++ drop n old) long
-                  ∙ sym (ap (λ a. bufferAfter (numbersAnswer a) old) e);
-              reached = list-given (length old);
-            }
+            list-promise (written.Count records) new (ap full count ∙ sym (ap lengthOf e))
+            (all .1 ∙ ap (λ t. t ++ drop (3 * records) old) front ∙ ap (λ n. numbersOf out ++ drop n old) long
+            ∙ sym (ap (λ a. bufferAfter (numbersAnswer a) old) e))
 
 -- ---- walk
 
@@ -112,16 +121,23 @@ module _ (ns es : List ℤ) (r l x : ℤ) where
       subst Ascending (given .1) (ascending-same (leafBits-ascending g r l x))
 
   module _ (old : List ℤ) where
+    -- what the answer and the buffer are fixes what stands there
+    walk-promise : (given : Written) (new : List ℤ) → writtenAnswer given ≡ walkGives ns es r l x old → new ≡ walkAfter ns es r l x old
+        → WalkPromise ns es r l x old given new
+    unfolding walkGives walkAfter lengthOf bufferAfter
+    walk-promise given new a b = record { answer = a; buffer = b; reached = λ n e. go n (walkAnswer ns es r l x (length old)) refl (sym a ∙ e) b }
+      where
+        go : (n : ℕ) (w : Answer (List ℤ)) → walkAnswer ns es r l x (length old) ≡ w → lengthOf w ≡ full n → new ≡ bufferAfter w old
+            → WalkStands (graphOf ns es) r l x n old new
+        go n (refused q) h k c = let z : _≡_ {A = ℕ} 0 1 = cc in absurd (omega arith)
+        go n (full bits) h k c =
+            record { bits = bits; count = cc; stands = c; reached = walk-given (length old) bits h; ascending = walk-ascending (length old) bits h }
+
     -- the outcome of a refusal
     walk-stops : (reason : Reason) → walkAnswer ns es r l x (length old) ≡ refused (refusalOf reason) → WalkPromise ns es r l x old (written.Refused reason) old
     unfolding walkGives walkAfter lengthOf bufferAfter
     walk-stops reason e =
-        record {
-          answer = sym (ap lengthOf e);
-          buffer = sym (ap (λ a. bufferAfter a old) e);
-          reached = walk-given (length old);
-          ascending = walk-ascending (length old);
-        }
+        walk-promise (written.Refused reason) old (sym (ap lengthOf e)) (sym (ap (λ a. bufferAfter a old) e))
 
     -- what it is asked for is refused
     pub walk-refused : (reason : Reason) → refused (refusalOf reason) ≡ checked (checkAsked ns es r l)
@@ -149,9 +165,5 @@ module _ (ns es : List ℤ) (r l x : ℤ) where
             let out = leafBits (graphOf ns es) r l x in
             let all = copied-all copied h in
             let e = single-full out ns es r l (length out) (length old) taken (omega (arith, all .0)) in
-            record {
-              answer = ap full count ∙ sym (ap lengthOf e);
-              buffer = all .1 ∙ ap (λ t. t ++ drop bits old) front ∙ ap (λ n. out ++ drop n old) count ∙ sym (ap (λ a. bufferAfter a old) e);
-              reached = walk-given (length old);
-              ascending = walk-ascending (length old);
-            }
+            walk-promise (written.Count bits) new (ap full count ∙ sym (ap lengthOf e))
+            (all .1 ∙ ap (λ t. t ++ drop bits old) front ∙ ap (λ n. out ++ drop n old) count ∙ sym (ap (λ a. bufferAfter a old) e))

@@ -1,0 +1,759 @@
+//! Seeded maps for tests and benchmarks: pairs of small graphs of many habits that
+//! come out equal, partial and different, the same as texts, damaged texts, and
+//! maps at both sides of every limit.
+
+use crate::reference::{refusal, Refusal, Tables, BLOCK, MAX_UNITS, UNITS};
+use crate::reference::{EDGE_NAMES, NODE_NAMES, PAIR_NAMES, WIDTHS};
+use crate::reference::{IMPL_EDGES, IMPL_NODES, LEAF_PAIRS, ROOT_PAIRS, SPEC_EDGES, SPEC_NODES};
+
+pub const SPACE: i64 = 0;
+pub const SEGMENT: i64 = 1;
+
+/// A xorshift generator.
+pub struct Random(u64);
+
+impl Random {
+    pub fn new(seed: u64) -> Random {
+        let mut random = Random(seed.wrapping_mul(0x9E37_79B9_7F4A_7C15) | 1);
+        // Seeds that lie close together start out alike.
+        (0..8).for_each(|_| _ = random.draw());
+        random
+    }
+
+    pub fn draw(&mut self) -> u64 {
+        self.0 ^= self.0 << 13;
+        self.0 ^= self.0 >> 7;
+        self.0 ^= self.0 << 17;
+        self.0.wrapping_mul(0x2545_F491_4F6C_DD1D) >> 16
+    }
+
+    pub fn below(&mut self, limit: usize) -> usize {
+        (self.draw() % limit as u64) as usize
+    }
+
+    pub fn between(&mut self, low: i64, high: i64) -> i64 {
+        low + (self.draw() % (high - low + 1) as u64) as i64
+    }
+
+    pub fn chance(&mut self, percent: usize) -> bool {
+        self.below(100) < percent
+    }
+
+    pub fn pick<T: Copy>(&mut self, choices: &[T]) -> T {
+        choices[self.below(choices.len())]
+    }
+
+    pub fn shuffle<T>(&mut self, items: &mut [T]) {
+        for end in (1..items.len()).rev() {
+            items.swap(end, self.below(end + 1));
+        }
+    }
+
+    pub fn shuffled(&mut self, count: usize) -> Vec<usize> {
+        let mut order: Vec<usize> = (0..count).collect();
+        self.shuffle(&mut order);
+        order
+    }
+}
+
+// Drafts of graphs
+
+#[derive(Clone, Copy)]
+pub struct Node {
+    pub kind: i64,
+    pub base: i64,
+    pub range: i64,
+    pub unit: i64,
+}
+
+impl Node {
+    fn first(&self) -> i64 {
+        self.base * self.unit
+    }
+
+    fn bits(&self) -> i64 {
+        self.range * self.unit
+    }
+}
+
+#[derive(Clone, Copy)]
+pub struct Edge {
+    pub from: usize,
+    pub to: usize,
+    pub offset: i64,
+}
+
+/// A graph with the nodes that a pairing names, pair row by pair row.
+#[derive(Clone, Default)]
+pub struct Draft {
+    pub nodes: Vec<Node>,
+    pub edges: Vec<Edge>,
+    pub roots: Vec<usize>,
+    pub leaves: Vec<usize>,
+}
+
+impl Draft {
+    pub fn node(&mut self, kind: i64, base: i64, range: i64, unit: i64) -> usize {
+        self.nodes.push(Node { kind, base, range, unit });
+        self.nodes.len() - 1
+    }
+
+    pub fn root(&mut self, base: i64, range: i64, unit: i64) -> usize {
+        let root = self.node(SPACE, base, range, unit);
+        self.roots.push(root);
+        root
+    }
+
+    pub fn leaf(&mut self, base: i64, range: i64, unit: i64) -> usize {
+        let leaf = self.node(BLOCK, base, range, unit);
+        self.leaves.push(leaf);
+        leaf
+    }
+
+    pub fn join(&mut self, from: usize, to: usize, offset: i64) {
+        self.edges.push(Edge { from, to, offset });
+    }
+
+    /// Joins two nodes with an offset that mostly lets some addresses live.
+    fn fit(&mut self, random: &mut Random, from: usize, to: usize) {
+        let (source, target) = (self.nodes[from], self.nodes[to]);
+        let slide = match random.below(4) {
+            0 => 0,
+            1 => random.between(-target.bits(), source.bits()),
+            _ => random.between(-target.bits() / 2, source.bits() / 2),
+        };
+        let bit_offset = source.first() - target.first() + slide;
+        self.join(from, to, bit_offset.div_euclid(target.unit));
+    }
+
+    pub fn node_table(&self) -> Vec<i64> {
+        self.nodes.iter().flat_map(|node| [node.kind, node.base, node.range, node.unit]).collect()
+    }
+
+    pub fn edge_table(&self) -> Vec<i64> {
+        let row = |edge: &Edge| [edge.from as i64, edge.to as i64, edge.offset];
+        self.edges.iter().flat_map(row).collect()
+    }
+
+    /// The same graph with node `row` at row `places[row]`.
+    pub fn renumbered(&self, places: &[usize]) -> Draft {
+        let mut draft = self.clone();
+        for (row, node) in self.nodes.iter().enumerate() {
+            draft.nodes[places[row]] = *node;
+        }
+        for edge in &mut draft.edges {
+            (edge.from, edge.to) = (places[edge.from], places[edge.to]);
+        }
+        for row in draft.roots.iter_mut().chain(&mut draft.leaves) {
+            *row = places[*row];
+        }
+        draft
+    }
+
+    /// Rows as drawn up, against the direction of the edges, or shuffled.
+    fn mixed(&self, random: &mut Random) -> Draft {
+        let count = self.nodes.len();
+        let mut draft = match random.below(3) {
+            0 => self.clone(),
+            1 => self.renumbered(&(0..count).rev().collect::<Vec<_>>()),
+            _ => self.renumbered(&random.shuffled(count)),
+        };
+        random.shuffle(&mut draft.edges);
+        draft
+    }
+}
+
+/// The tables of two drafts whose roots and leaves are paired in order.
+pub fn tables(spec: &Draft, implementation: &Draft) -> Tables {
+    let pairs = |left: &[usize], right: &[usize]| {
+        left.iter().zip(right).flat_map(|(l, r)| [*l as i64, *r as i64]).collect()
+    };
+    [
+        spec.node_table(),
+        spec.edge_table(),
+        implementation.node_table(),
+        implementation.edge_table(),
+        pairs(&spec.roots, &implementation.roots),
+        pairs(&spec.leaves, &implementation.leaves),
+    ]
+}
+
+// Habits of small graphs
+
+fn small_node(random: &mut Random) -> (i64, i64, i64) {
+    let unit = random.pick(&[8, 8, 16, 16, 32, 64, 128]);
+    let base = if random.chance(50) { 0 } else { random.between(1, 9) };
+    (base, random.between(1, 256 / unit.max(32)), unit)
+}
+
+/// Nodes of any size, each entered from some earlier ones; dead ends stay.
+fn scattered(random: &mut Random) -> Draft {
+    let mut draft = Draft::default();
+    for _ in 0..random.between(1, 3) {
+        let (base, range, unit) = small_node(random);
+        draft.root(base, range * 2, unit);
+    }
+    for _ in 0..random.below(5) {
+        let (base, range, unit) = small_node(random);
+        let segment = draft.node(random.pick(&[SPACE, SEGMENT]), base, range, unit);
+        for _ in 0..random.between(1, 2) {
+            let from = random.below(segment);
+            draft.fit(random, from, segment);
+        }
+    }
+    let inner = draft.nodes.len();
+    for _ in 0..random.between(1, 3) {
+        let (base, range, unit) = small_node(random);
+        let leaf = draft.leaf(base, range, unit);
+        for _ in 0..random.pick(&[0, 1, 1, 2, 3]) {
+            let from = random.below(inner);
+            draft.fit(random, from, leaf);
+        }
+    }
+    draft
+}
+
+/// Diamonds one behind the other, with arms of like or unlike displacement.
+fn ladder(random: &mut Random) -> Draft {
+    let mut draft = Draft::default();
+    let mut top = draft.root(random.between(0, 3), random.between(8, 40), 8);
+    for _ in 0..random.between(1, 4) {
+        let foot = draft.node(SEGMENT, 0, random.between(8, 60), 8);
+        for _ in 0..2 {
+            let unit = random.pick(&UNITS[..3]);
+            let arm = draft.node(SEGMENT, random.between(0, 2), random.between(2, 20), unit);
+            let shift = random.between(-1, 1);
+            let unlike = if random.chance(30) { random.between(-1, 1) } else { 0 };
+            draft.join(top, arm, shift);
+            draft.join(arm, foot, -shift * unit / 8 + unlike);
+        }
+        top = foot;
+    }
+    let leaf = draft.leaf(random.between(0, 4), random.between(1, 20), 8);
+    draft.fit(random, top, leaf);
+    draft
+}
+
+/// A long chain that drifts and is clipped now and then.
+fn chain(random: &mut Random) -> Draft {
+    let mut draft = Draft::default();
+    let unit = random.pick(&UNITS[..3]);
+    let mut last = draft.root(random.between(0, 5), random.between(10, 30), unit);
+    let mut address = 0;
+    for _ in 1..random.between(2, 63) {
+        let shift = random.between(-2, 2).min(address);
+        address -= shift;
+        let (base, range) = if random.chance(90) { (0, 99) } else { (2, address + 12) };
+        let next = draft.node(SEGMENT, base, range, unit);
+        draft.join(last, next, shift);
+        last = next;
+    }
+    let leaf = draft.leaf(random.between(0, 9), random.between(1, 30), unit);
+    draft.join(last, leaf, random.between(-9, 4) + address);
+    draft
+}
+
+/// Parallel edges, whose runs touch, overlap or leave a unit open.
+fn parallel(random: &mut Random) -> Draft {
+    let mut draft = Draft::default();
+    let unit = random.pick(&UNITS);
+    let (base, range) = (random.between(0, 4), random.between(1, 4));
+    let root = draft.root(random.between(0, 2), random.between(4, 20), 32);
+    let leaf = draft.leaf(base, range, unit);
+    let mut offset = -base;
+    for _ in 0..random.between(1, 9) {
+        draft.join(root, leaf, offset);
+        offset += random.pick(&[0, range - 1, range, range + 1]);
+    }
+    draft
+}
+
+/// Segments side by side in front of one leaf: their windows touch, overlap or
+/// leave a unit open, and lead on with like or unlike displacement.
+fn windows(random: &mut Random) -> Draft {
+    let mut draft = Draft::default();
+    let unit = random.pick(&UNITS[..3]);
+    let root = draft.root(0, random.between(8, 30), unit);
+    let leaf = draft.leaf(random.between(0, 3), random.between(2, 30), unit);
+    let offset = random.between(-4, 4);
+    let mut base = random.between(0, 3);
+    for _ in 0..random.between(1, 8) {
+        let range = random.between(1, 5);
+        let segment = draft.node(SEGMENT, base, range, unit);
+        let unlike = if random.chance(25) { random.pick(&[-1, 1]) } else { 0 };
+        draft.join(root, segment, 0);
+        draft.join(segment, leaf, offset + unlike);
+        base += range + random.pick(&[-1, 0, 0, 1]);
+    }
+    draft
+}
+
+/// Several roots and leaves around one hub.
+fn fan(random: &mut Random) -> Draft {
+    let mut draft = Draft::default();
+    let hub = draft.node(SEGMENT, 0, random.between(8, 40), 16);
+    for _ in 0..random.between(1, 4) {
+        let (base, range, unit) = small_node(random);
+        let root = draft.root(base, range, unit);
+        draft.fit(random, root, hub);
+    }
+    for _ in 0..random.between(1, 4) {
+        let (base, range, unit) = small_node(random);
+        let leaf = draft.leaf(base, range, unit);
+        draft.fit(random, hub, leaf);
+    }
+    draft
+}
+
+pub fn draft(random: &mut Random) -> Draft {
+    match random.below(8) {
+        0 => ladder(random),
+        1 => chain(random),
+        2 => parallel(random),
+        3 => windows(random),
+        4 => fan(random),
+        _ => scattered(random),
+    }
+}
+
+// Implementations of a specification
+
+/// Puts a segment into an edge that clips nothing and adds no displacement.
+fn insert_segment(random: &mut Random, draft: &mut Draft, edge: usize) {
+    let Edge { from, to, offset } = draft.edges[edge];
+    let (source, unit) = (draft.nodes[from], draft.nodes[to].unit);
+    let up = random.between(0, 3);
+    let range = source.first() / unit + source.bits() / unit + up + 2;
+    let segment = draft.node(SEGMENT, 0, range, unit);
+    draft.edges[edge] = Edge { from, to: segment, offset: -up };
+    draft.join(segment, to, offset + up);
+}
+
+/// Puts two segments in the place of one, the window cut between them.
+fn split_segment(random: &mut Random, draft: &mut Draft, segment: usize) {
+    let Node { kind, base, range, unit } = draft.nodes[segment];
+    if kind != SEGMENT || range < 2 {
+        return;
+    }
+    let cut = random.between(1, range - 1);
+    draft.nodes[segment].range = cut;
+    let upper = draft.node(kind, base + cut, range - cut, unit);
+    for edge in draft.edges.clone() {
+        if edge.from == segment {
+            draft.join(upper, edge.to, edge.offset);
+        } else if edge.to == segment {
+            draft.join(edge.from, upper, edge.offset);
+        }
+    }
+}
+
+/// Counts a node in smaller units.
+fn refine(random: &mut Random, draft: &mut Draft, node: usize) {
+    let unit = draft.nodes[node].unit;
+    let smaller = random.pick(&UNITS).min(unit);
+    let factor = unit / smaller;
+    draft.nodes[node].unit = smaller;
+    draft.nodes[node].base *= factor;
+    draft.nodes[node].range *= factor;
+    for edge in draft.edges.iter_mut().filter(|edge| edge.to == node) {
+        edge.offset *= factor;
+    }
+}
+
+/// Moves a leaf's base and the edges that enter it by the same amount.
+fn move_leaf(random: &mut Random, draft: &mut Draft, leaf: usize) {
+    let up = random.between(0, 5);
+    draft.nodes[leaf].base += up;
+    for edge in draft.edges.iter_mut().filter(|edge| edge.to == leaf) {
+        edge.offset -= up;
+    }
+}
+
+/// A change that keeps every reached set.
+fn keep(random: &mut Random, draft: &mut Draft) {
+    let leaf = random.pick(&draft.leaves);
+    let node = random.below(draft.nodes.len());
+    if draft.edges.is_empty() {
+        return move_leaf(random, draft, leaf);
+    }
+    let edge = random.below(draft.edges.len());
+    match random.below(6) {
+        0 => draft.edges.push(draft.edges[edge]),
+        1 if draft.nodes.len() < 40 => insert_segment(random, draft, edge),
+        2 => split_segment(random, draft, node),
+        3 => refine(random, draft, node),
+        4 => move_leaf(random, draft, leaf),
+        _ => {
+            let dead_end = draft.node(SEGMENT, 0, 9, 8);
+            draft.join(draft.edges[edge].from, dead_end, 0);
+        }
+    }
+}
+
+/// A change that takes addresses away: a window cut at either end, or an edge less.
+fn shrink(random: &mut Random, draft: &mut Draft) {
+    if draft.edges.len() > 1 && random.chance(20) {
+        draft.edges.swap_remove(random.below(draft.edges.len()));
+    }
+    for Edge { from, to, .. } in draft.edges.clone() {
+        let node = random.pick(&[from, to]);
+        let Node { kind, range, .. } = draft.nodes[node];
+        if random.chance(40) && range > 1 {
+            let cut = random.between(1, (range - 1).min(3));
+            draft.nodes[node].range -= cut;
+            if kind != BLOCK && random.chance(50) {
+                draft.nodes[node].base += cut;
+            }
+        }
+    }
+}
+
+/// A change of an offset or of a base alone.
+fn displace(random: &mut Random, draft: &mut Draft) {
+    if draft.edges.is_empty() || random.chance(20) {
+        let leaf = random.pick(&draft.leaves);
+        draft.nodes[leaf].base += 1;
+    } else {
+        let edge = random.below(draft.edges.len());
+        draft.edges[edge].offset += random.pick(&[-2, -1, 1, 2]);
+    }
+}
+
+fn implementation(random: &mut Random, spec: &Draft) -> Draft {
+    let mut implementation = spec.clone();
+    for _ in 0..random.below(4) {
+        keep(random, &mut implementation);
+    }
+    match random.below(10) {
+        0..=1 => (),
+        2..=7 => shrink(random, &mut implementation),
+        8 => displace(random, &mut implementation),
+        _ => implementation = draft(random),
+    }
+    implementation
+}
+
+/// Takes the pairing in any order and sometimes leaves roots or leaves out.
+fn mix_pairs(random: &mut Random, left: &mut Vec<usize>, right: &mut Vec<usize>) {
+    let mut pairs: Vec<_> = left.iter().copied().zip(right.iter().copied()).collect();
+    random.shuffle(&mut pairs);
+    if random.chance(20) {
+        pairs.truncate(random.between(1, 3) as usize);
+    }
+    (*left, *right) = pairs.into_iter().unzip();
+}
+
+/// A pair of small graphs with few paths, none of which a refusal concerns.
+pub fn small_map(random: &mut Random) -> Tables {
+    let spec = draft(random);
+    let implementation = implementation(random, &spec);
+    let mut spec = spec.mixed(random);
+    let mut implementation = implementation.mixed(random);
+    mix_pairs(random, &mut spec.roots, &mut implementation.roots);
+    mix_pairs(random, &mut spec.leaves, &mut implementation.leaves);
+    tables(&spec, &implementation)
+}
+
+// Texts
+
+/// The rows of two tables with the number that tells them apart before each.
+fn tagged_rows(first: &[i64], second: &[i64], width: usize) -> Vec<Vec<i64>> {
+    let tag = |tag: i64, row: &[i64]| [&[tag], row].concat();
+    let zeros = first.chunks(width).map(|row| tag(0, row));
+    zeros.chain(second.chunks(width).map(|row| tag(1, row))).collect()
+}
+
+/// Interleaves the rows of both tags, each tag's rows in their order.
+fn interleave(random: &mut Random, rows: &[Vec<i64>]) -> Vec<Vec<i64>> {
+    let mut tags: Vec<i64> = rows.iter().map(|row| row[0]).collect();
+    random.shuffle(&mut tags);
+    let mut left = [0, 1].map(|tag| rows.iter().filter(move |row| row[0] == tag));
+    tags.into_iter().filter_map(|tag| left[tag as usize].next().cloned()).collect()
+}
+
+fn table_text(names: &[&str], rows: &[Vec<i64>], columns: &[usize]) -> String {
+    let line = |fields: Vec<String>| fields.join(" ") + "\n";
+    let mut text = line(columns.iter().map(|&column| names[column].to_string()).collect());
+    for row in rows {
+        text += &line(columns.iter().map(|&column| row[column].to_string()).collect());
+    }
+    text
+}
+
+fn text_by(
+    tables: &Tables, mut arrange: impl FnMut(usize, Vec<Vec<i64>>) -> (Vec<usize>, Vec<Vec<i64>>),
+) -> Vec<u8> {
+    let parts: [(&[&str], usize, usize); 3] = [
+        (&NODE_NAMES, SPEC_NODES, IMPL_NODES),
+        (&EDGE_NAMES, SPEC_EDGES, IMPL_EDGES),
+        (&PAIR_NAMES, ROOT_PAIRS, LEAF_PAIRS),
+    ];
+    let texts = parts.map(|(names, first, second)| {
+        let rows = tagged_rows(&tables[first], &tables[second], WIDTHS[first]);
+        let (columns, rows) = arrange(names.len(), rows);
+        table_text(names, &rows, &columns)
+    });
+    texts.join("\n").into_bytes()
+}
+
+/// The text with the columns in the document's order and side 0, role 0 first.
+pub fn plain_text(tables: &Tables) -> Vec<u8> {
+    text_by(tables, |columns, rows| ((0..columns).collect(), rows))
+}
+
+/// The text with columns in any order, sides and roles interleaved.
+pub fn mixed_text(random: &mut Random, tables: &Tables) -> Vec<u8> {
+    text_by(tables, |columns, rows| (random.shuffled(columns), interleave(random, &rows)))
+}
+
+// Damage
+
+/// Parted by single spaces; the first is empty.
+const WRONG_FIELDS: &str = " - -0 00 01 -01 --1 1- 1-1 a side x1 -1 2 3 24 129 2000 \
+    999999999999999999 1000000000000000000 -999999999999999999 -1000000000000000000 \
+    9223372036854775808 18446744073709551617 281474976710656 281474976710657 \
+    -281474976710656 -281474976710657";
+
+const ALLOWED: &[u8] = b"abcdefghijklmnopqrstuvwxyz0123456789- \n";
+const NOT_ALLOWED: &[u8] = b"\t\r\0+*()ASZ_.,\x7f\x80\xff`{/:";
+
+fn damage_bytes(random: &mut Random, text: &mut Vec<u8>) {
+    let place = random.below(text.len() + 1);
+    let bytes = if random.chance(85) { ALLOWED } else { NOT_ALLOWED };
+    let byte = random.pick(bytes);
+    match random.below(5) {
+        0 | 1 => text.insert(place, byte),
+        2 => _ = (place < text.len()).then(|| text.remove(place)),
+        3 => text.truncate(place),
+        _ => text.iter_mut().skip(place).take(1).for_each(|old| *old = byte),
+    }
+}
+
+fn damage_lines(random: &mut Random, text: &[u8]) -> Vec<u8> {
+    let mut lines: Vec<&[u8]> = text.split_inclusive(|&byte| byte == b'\n').collect();
+    if lines.is_empty() {
+        return b"\n".to_vec();
+    }
+    let (one, other) = (random.below(lines.len()), random.below(lines.len()));
+    match random.below(6) {
+        0 => _ = lines.remove(one),
+        1 => lines.insert(one, lines[other]),
+        2 => lines.swap(one, other),
+        3 => lines.insert(one, b"\n"),
+        4 => lines.push(b"\n"),
+        _ => lines.truncate(one),
+    }
+    lines.concat()
+}
+
+fn damage_field(random: &mut Random, text: &[u8]) -> Vec<u8> {
+    let mut lines: Vec<Vec<u8>> = text.split(|&byte| byte == b'\n').map(<[u8]>::to_vec).collect();
+    let line = random.below(lines.len());
+    let mut fields: Vec<&[u8]> = lines[line].split(|&byte| byte == b' ').collect();
+    let field = random.below(fields.len());
+    let wrong: Vec<&str> = WRONG_FIELDS.split(' ').collect();
+    match random.below(8) {
+        0 => fields.insert(field, b""),
+        1 => fields.push(b""),
+        2 => _ = fields.remove(field),
+        3 => fields.push(fields[field]),
+        4 => fields[field] = fields[random.below(fields.len())],
+        _ => fields[field] = random.pick(&wrong).as_bytes(),
+    }
+    lines[line] = fields.join(&b' ');
+    lines.join(&b'\n')
+}
+
+/// A text with one fault, often with more; some faults leave it valid.
+pub fn damaged(random: &mut Random, text: &[u8]) -> Vec<u8> {
+    let mut text = text.to_vec();
+    for _ in 0..random.pick(&[1, 1, 1, 2, 2, 3]) {
+        match random.below(10) {
+            0 => _ = text.pop(),
+            1 | 2 => damage_bytes(random, &mut text),
+            3 | 4 => text = damage_lines(random, &text),
+            _ => text = damage_field(random, &text),
+        }
+    }
+    text
+}
+
+/// Tables with wrong numbers, rows or counts; as text they stay within the file rules.
+pub fn disturbed(random: &mut Random, tables: &Tables) -> Tables {
+    const SMALL: [i64; 12] = [-1, 0, 1, 2, 3, 4, 5, 8, 24, 32, 999, 2_000];
+    const LARGE: [i64; 4] = [MAX_UNITS, MAX_UNITS + 1, -MAX_UNITS, -MAX_UNITS - 1];
+    let mut tables = tables.clone();
+    for _ in 0..random.pick(&[1, 1, 2, 3]) {
+        let number = random.below(6);
+        let (table, width) = (&mut tables[number], WIDTHS[number]);
+        if table.is_empty() {
+            continue;
+        }
+        let place = random.below(table.len());
+        let row = table[place - place % width..][..width].to_vec();
+        match random.below(40) {
+            0 => table.clear(),
+            1 => table.truncate(table.len() - width),
+            2 => table.extend(row.repeat([2_001, 2_601, 2_001, 2_601, 1_001, 1_001][number])),
+            3 if width == 3 => table.extend(row.repeat(random.pick(&[1_022, 1_023, 1_024]))),
+            4..=9 => table.extend(row),
+            10..=15 => table[place] = random.pick(&LARGE),
+            _ => table[place] = random.pick(&SMALL),
+        }
+    }
+    tables
+}
+
+// Limits
+
+/// A map at one side of a limit, with the refusal that it meets there.
+pub struct Limit {
+    pub name: String,
+    pub tables: Tables,
+    pub expected: Option<Refusal>,
+}
+
+/// One root above one leaf, joined by that many parallel edges.
+pub fn joined(edges: usize) -> Draft {
+    let mut draft = Draft::default();
+    let root = draft.root(0, 64, 8);
+    let leaf = draft.leaf(0, 16, 8);
+    (0..edges).for_each(|_| draft.join(root, leaf, 4));
+    draft
+}
+
+/// A chain of that many edges from the root to the leaf.
+pub fn chained(edges: usize) -> Draft {
+    let mut draft = Draft::default();
+    let mut last = draft.root(0, 64, 8);
+    for _ in 1..edges {
+        let next = draft.node(SEGMENT, 0, 64, 8);
+        draft.join(last, next, 0);
+        last = next;
+    }
+    let leaf = draft.leaf(0, 16, 8);
+    draft.join(last, leaf, 4);
+    draft
+}
+
+fn with_node(base: i64, range: i64) -> Draft {
+    let mut draft = joined(1);
+    draft.node(SEGMENT, base, range, 128);
+    draft
+}
+
+fn with_offset(offset: i64) -> Draft {
+    let mut draft = joined(1);
+    let dead_end = draft.node(SEGMENT, 0, 1, 128);
+    draft.join(draft.roots[0], dead_end, offset);
+    draft
+}
+
+/// One joined pair, filled up with unpaired nodes and with edges into one of them.
+fn filled(nodes: usize, edges: usize) -> Draft {
+    let mut draft = joined(1);
+    let dead_end = draft.node(SEGMENT, 0, 1, 8);
+    (3..nodes).for_each(|_| _ = draft.node(BLOCK, 0, 1, 8));
+    (1..edges).for_each(|_| draft.join(draft.roots[0], dead_end, 0));
+    draft
+}
+
+pub fn unjoined(roots: usize, leaves: usize) -> Draft {
+    let mut draft = Draft::default();
+    (0..roots).for_each(|_| _ = draft.root(0, 1, 8));
+    (0..leaves).for_each(|_| _ = draft.leaf(0, 1, 8));
+    draft
+}
+
+/// Three roots joined with three leaves, one of the pairs by 1,025 edges.
+fn crowded(root: usize, leaf: usize) -> Draft {
+    let mut draft = unjoined(3, 3);
+    for (from, to) in (0..3).flat_map(|from| (3..6).map(move |to| (from, to))) {
+        let edges = if (from, to) == (root, 3 + leaf) { 1_025 } else { 1 };
+        (0..edges).for_each(|_| draft.join(from, to, 0));
+    }
+    draft
+}
+
+/// Each limit from both sides, in the specification and in the implementation.
+pub fn limits() -> Vec<Limit> {
+    let graphs = [
+        ("2,000 nodes", filled(2_000, 1), None),
+        ("2,001 nodes", filled(2_001, 1), Some((1, 0, 0))),
+        ("2,600 edges", filled(3, 2_600), None),
+        ("2,601 edges", filled(3, 2_601), Some((1, 1, 0))),
+        ("base + range at 2^48", with_node(1, MAX_UNITS - 1), None),
+        ("base + range above 2^48", with_node(1, MAX_UNITS), Some((2, 0, 2))),
+        ("base at 2^48", with_node(MAX_UNITS, 1), Some((2, 0, 2))),
+        ("offset at 2^48", with_offset(MAX_UNITS), None),
+        ("offset above 2^48", with_offset(MAX_UNITS + 1), Some((3, 1, 1))),
+        ("offset at -2^48", with_offset(-MAX_UNITS), None),
+        ("offset below -2^48", with_offset(-MAX_UNITS - 1), Some((3, 1, 1))),
+        ("chain of 64", chained(64), None),
+        ("chain of 65", chained(65), Some((6, 0, 0))),
+        ("1,024 paths", joined(1_024), None),
+        ("1,025 paths", joined(1_025), Some((10, 1, 0))),
+        ("no edge", joined(0), None),
+        ("2,000 nodes, 2,600 edges", filled(2_000, 2_600), None),
+    ];
+    let mut limits = Vec::new();
+    for (name, draft, expected) in graphs {
+        for side in 0..2 {
+            let other = joined(1);
+            let (spec, implementation) =
+                if side == 0 { (&draft, &other) } else { (&other, &draft) };
+            let tables = tables(spec, implementation);
+            let expected =
+                expected.map(|(number, table, row)| refusal(number, table + 2 * side, row));
+            limits.push(Limit { name: format!("{name}, side {side}"), tables, expected });
+        }
+    }
+    let pairings = [
+        (1_000, 1_000, None),
+        (1_001, 2, Some(refusal(1, ROOT_PAIRS, 0))),
+        (2, 1_001, Some(refusal(1, LEAF_PAIRS, 0))),
+        (0, 1_001, Some(refusal(1, LEAF_PAIRS, 0))),
+        (0, 1, Some(refusal(9, ROOT_PAIRS, 0))),
+        (1, 0, Some(refusal(9, LEAF_PAIRS, 0))),
+        (0, 0, Some(refusal(9, ROOT_PAIRS, 0))),
+    ];
+    for (roots, leaves, expected) in pairings {
+        let draft = unjoined(roots, leaves);
+        let name = format!("{roots} root pairs, {leaves} leaf pairs");
+        limits.push(Limit { name, tables: tables(&draft, &draft), expected });
+    }
+    let paths = [
+        ("1,025 paths on both sides", [(1, 2), (1, 2)], refusal(10, SPEC_EDGES, 1_002)),
+        ("1,025 paths, implementation earlier", [(2, 0), (1, 2)], refusal(10, IMPL_EDGES, 1_002)),
+        ("1,025 paths, specification earlier", [(1, 1), (2, 2)], refusal(10, SPEC_EDGES, 1_001)),
+    ];
+    for (name, pairs, expected) in paths {
+        let [spec, implementation] = pairs.map(|(root, leaf)| crowded(root, leaf));
+        let tables = tables(&spec, &implementation);
+        limits.push(Limit { name: name.to_string(), tables, expected: Some(expected) });
+    }
+    limits
+}
+
+/// A valid text of exactly that many bytes in which nothing is connected: bases
+/// of roots and leaves are made longer digit by digit.
+pub fn text_of_length(length: usize) -> Vec<u8> {
+    const LONGEST: i64 = 100_000_000_000_000;
+    let mut draft = unjoined(1_000, 1_000);
+    let mut missing = length - plain_text(&tables(&draft, &draft)).len();
+    // Both sides share the draft, so a digit counts twice; one side may have one more.
+    let implementation_extra = missing % 2;
+    missing /= 2;
+    for node in &mut draft.nodes {
+        while missing > 0 && node.base < LONGEST {
+            // The base 0 takes one byte already.
+            node.base = if node.base == 0 { 10 } else { node.base * 10 };
+            missing -= 1;
+        }
+    }
+    let mut implementation = draft.clone();
+    if implementation_extra == 1 {
+        implementation.nodes[1_999].base = 10;
+    }
+    plain_text(&tables(&draft, &implementation))
+}

@@ -1,0 +1,678 @@
+//! Address map graphs in the straightforward way: adjacency lists, a depth-first
+//! listing of the paths, sort and merge. All calls of the document are here; a
+//! call on tables takes flat slices of numbers, which may hold anything.
+
+use std::mem::take;
+
+pub const MAX_NODES: usize = 2_000;
+pub const MAX_EDGES: usize = 2_600;
+pub const MAX_PAIRS: usize = 1_000;
+pub const MAX_CHAIN: usize = 64;
+pub const MAX_PATHS: u32 = 1_024;
+pub const MAX_TEXT: usize = 65_536;
+pub const MAX_UNITS: i64 = 1 << 48;
+pub const MAX_TALLY: u64 = (1 << 63) - 1;
+pub const REPORT_ROOM: usize = 65_536;
+
+pub const BLOCK: i64 = 2;
+pub const UNITS: [i64; 5] = [8, 16, 32, 64, 128];
+
+/// Numbers of the tables, as a refusal names them.
+pub const SPEC_NODES: usize = 0;
+pub const SPEC_EDGES: usize = 1;
+pub const IMPL_NODES: usize = 2;
+pub const IMPL_EDGES: usize = 3;
+pub const ROOT_PAIRS: usize = 4;
+pub const LEAF_PAIRS: usize = 5;
+pub const TEXT: usize = 6;
+pub const OUTPUT: usize = 7;
+
+/// Numbers in a row of each of the six tables.
+pub const WIDTHS: [usize; 6] = [4, 3, 4, 3, 2, 2];
+
+pub const NODE_NAMES: [&str; 5] = ["side", "kind", "base", "range", "unit"];
+pub const EDGE_NAMES: [&str; 4] = ["side", "from", "to", "offset"];
+pub const PAIR_NAMES: [&str; 3] = ["role", "spec", "impl"];
+
+/// The six flat tables of a comparison, in the order of their numbers.
+pub type Tables = [Vec<i64>; 6];
+
+#[derive(Clone, Copy, Debug, PartialEq, Eq)]
+pub struct Refusal {
+    pub number: i64,
+    pub table: i64,
+    pub row: i64,
+}
+
+pub fn refusal(number: i64, table: usize, row: usize) -> Refusal {
+    Refusal { number, table: table as i64, row: row as i64 }
+}
+
+/// A maximal run of root bits of one displacement (root bit - leaf bit).
+#[derive(Clone, Copy, Debug, PartialEq, Eq)]
+pub struct Record {
+    pub first: i64,
+    pub last: i64,
+    pub displacement: i64,
+}
+
+/// A pair with a record on either side: its rows, its verdict, both list lengths.
+#[derive(Clone, Copy, Debug, PartialEq, Eq)]
+pub struct PairLine {
+    pub root: usize,
+    pub leaf: usize,
+    pub verdict: i64,
+    pub spec: usize,
+    pub implementation: usize,
+}
+
+/// Counts of the verdicts by verdict, the whole verdict, and root row, leaf row
+/// and lowest differing address of the first unequal pair (-1 each if none).
+#[derive(Clone, Debug, PartialEq, Eq)]
+pub struct Outcome {
+    pub whole: i64,
+    pub counts: [i64; 3],
+    pub root: i64,
+    pub leaf: i64,
+    pub address: i64,
+}
+
+#[derive(Clone, Debug, PartialEq, Eq)]
+pub struct Comparison {
+    pub outcome: Outcome,
+    pub lines: Vec<PairLine>,
+}
+
+// Graphs
+
+/// A node's kind and its first and last bit.
+struct Node {
+    kind: i64,
+    first: i64,
+    last: i64,
+}
+
+/// An edge as its start holds it: where it goes, and its offset in bits.
+struct Edge {
+    to: usize,
+    offset: i64,
+}
+
+/// A graph that passed refusals 1 to 6.
+struct Graph {
+    nodes: Vec<Node>,
+    leaving: Vec<Vec<Edge>>,
+    entered: Vec<bool>,
+    /// Every node, each before all nodes that its edges lead to.
+    order: Vec<usize>,
+}
+
+fn check_shape(table: &[i64], number: usize, limit: usize) -> Result<(), Refusal> {
+    let width = WIDTHS[number];
+    if !table.len().is_multiple_of(width) || table.len() / width > limit {
+        return Err(refusal(1, number, 0));
+    }
+    Ok(())
+}
+
+fn valid_node(node: &[i64]) -> bool {
+    let (kind, base, range, unit) = (node[0], node[1], node[2], node[3]);
+    (0..=BLOCK).contains(&kind)
+        && UNITS.contains(&unit)
+        && base >= 0
+        && range >= 1
+        && base as i128 + range as i128 <= MAX_UNITS as i128
+}
+
+fn valid_edge(edge: &[i64], nodes: usize) -> bool {
+    let rows = 0..nodes as i64;
+    rows.contains(&edge[0])
+        && rows.contains(&edge[1])
+        && (-MAX_UNITS..=MAX_UNITS).contains(&edge[2])
+}
+
+impl Graph {
+    fn new(nodes: &[i64], edges: &[i64], node_table: usize) -> Result<Graph, Refusal> {
+        let edge_table = node_table + 1;
+        check_shape(nodes, node_table, MAX_NODES)?;
+        check_shape(edges, edge_table, MAX_EDGES)?;
+        let mut graph = Graph {
+            nodes: Vec::new(),
+            leaving: Vec::new(),
+            entered: Vec::new(),
+            order: Vec::new(),
+        };
+        for (row, node) in nodes.chunks(4).enumerate() {
+            if !valid_node(node) {
+                return Err(refusal(2, node_table, row));
+            }
+            let (kind, base, range, unit) = (node[0], node[1], node[2], node[3]);
+            let (first, last) = (base * unit, (base + range) * unit - 1);
+            graph.nodes.push(Node { kind, first, last });
+            graph.leaving.push(Vec::new());
+            graph.entered.push(false);
+        }
+        for (row, edge) in edges.chunks(3).enumerate() {
+            if !valid_edge(edge, graph.nodes.len()) {
+                return Err(refusal(3, edge_table, row));
+            }
+            let (from, to) = (edge[0] as usize, edge[1] as usize);
+            if graph.nodes[from].kind == BLOCK {
+                return Err(refusal(4, edge_table, row));
+            }
+            let offset = edge[2] * nodes[to * 4 + 3];
+            graph.leaving[from].push(Edge { to, offset });
+            graph.entered[to] = true;
+        }
+        graph.set_order(node_table)?;
+        Ok(graph)
+    }
+
+    /// Takes nodes away that no remaining edge enters; what stays is on or behind a cycle.
+    fn set_order(&mut self, node_table: usize) -> Result<(), Refusal> {
+        let mut entering = vec![0; self.nodes.len()];
+        for edge in self.leaving.iter().flatten() {
+            entering[edge.to] += 1;
+        }
+        let mut chain = vec![0; self.nodes.len()];
+        let mut order: Vec<usize> = (0..entering.len()).filter(|&n| entering[n] == 0).collect();
+        let mut taken = 0;
+        while taken < order.len() {
+            let node = order[taken];
+            taken += 1;
+            for edge in &self.leaving[node] {
+                chain[edge.to] = chain[edge.to].max(chain[node] + 1);
+                entering[edge.to] -= 1;
+                if entering[edge.to] == 0 {
+                    order.push(edge.to);
+                }
+            }
+        }
+        if order.len() < self.nodes.len() {
+            return Err(refusal(5, node_table, 0));
+        }
+        if chain.iter().any(|&edges| edges > MAX_CHAIN) {
+            return Err(refusal(6, node_table, 0));
+        }
+        self.order = order;
+        Ok(())
+    }
+
+    fn row(&self, row: i64) -> Option<usize> {
+        usize::try_from(row).ok().filter(|&row| row < self.nodes.len())
+    }
+
+    fn root(&self, row: i64) -> Option<usize> {
+        self.row(row).filter(|&row| self.nodes[row].kind != BLOCK && !self.entered[row])
+    }
+
+    fn leaf(&self, row: i64) -> Option<usize> {
+        self.row(row).filter(|&row| self.nodes[row].kind == BLOCK)
+    }
+
+    /// Paths from the root to each node; MAX_PATHS + 1 stands for more than MAX_PATHS.
+    fn path_counts(&self, root: usize) -> Vec<u32> {
+        let mut counts = vec![0; self.nodes.len()];
+        counts[root] = 1;
+        for &node in &self.order {
+            for edge in &self.leaving[node] {
+                counts[edge.to] = (counts[edge.to] + counts[node]).min(MAX_PATHS + 1);
+            }
+        }
+        counts
+    }
+
+    /// Which nodes are one of the leaves or have a path to one.
+    fn leads_to(&self, leaves: &[usize]) -> Vec<bool> {
+        let mut leads = vec![false; self.nodes.len()];
+        for &leaf in leaves {
+            leads[leaf] = true;
+        }
+        for &node in self.order.iter().rev() {
+            leads[node] |= self.leaving[node].iter().any(|edge| leads[edge.to]);
+        }
+        leads
+    }
+
+    /// Lists the paths from a node depth first. The root bits alive so far are
+    /// first..=last; a root bit is `shift` above the address at the node. Each path
+    /// that ends alive at a leaf gives one run to that leaf's entry of `found`.
+    fn collect(
+        &self, node: usize, (first, last, shift): (i64, i64, i64), leads: &[bool],
+        found: &mut [Vec<Record>],
+    ) {
+        let first = first.max(self.nodes[node].first + shift);
+        let last = last.min(self.nodes[node].last + shift);
+        if !leads[node] || first > last {
+            return;
+        }
+        if self.nodes[node].kind == BLOCK {
+            let displacement = self.nodes[node].first + shift;
+            found[node].push(Record { first, last, displacement });
+        }
+        for edge in &self.leaving[node] {
+            if leads[edge.to] {
+                self.collect(edge.to, (first, last, shift + edge.offset), leads, found);
+            }
+        }
+    }
+
+    /// Adds the leaf bits that one address at a node reaches.
+    fn collect_bits(&self, node: usize, address: i64, leads: &[bool], found: &mut Vec<i64>) {
+        let Node { kind, first, last } = self.nodes[node];
+        if !leads[node] || !(first..=last).contains(&address) {
+            return;
+        }
+        if kind == BLOCK {
+            found.push(address - first);
+        }
+        for edge in &self.leaving[node] {
+            self.collect_bits(edge.to, address - edge.offset, leads, found);
+        }
+    }
+
+    /// The root and the leaf that a call on this single graph names.
+    fn named(&self, root: i64, leaf: i64) -> Result<(usize, usize), Refusal> {
+        let root = self.root(root).ok_or(refusal(7, ROOT_PAIRS, 0))?;
+        let leaf = self.leaf(leaf).ok_or(refusal(7, LEAF_PAIRS, 0))?;
+        if self.path_counts(root)[leaf] > MAX_PATHS {
+            return Err(refusal(10, SPEC_EDGES, 0));
+        }
+        Ok((root, leaf))
+    }
+}
+
+/// Check one graph: refusals 1 to 6.
+pub fn check(nodes: &[i64], edges: &[i64]) -> Result<(), Refusal> {
+    Graph::new(nodes, edges, SPEC_NODES).map(|_| ())
+}
+
+/// The distinct leaf bits, ascending, that an address reaches; `room` is how many fit.
+pub fn walk(
+    nodes: &[i64], edges: &[i64], root: i64, leaf: i64, address: i64, room: usize,
+) -> Result<Vec<i64>, Refusal> {
+    let graph = Graph::new(nodes, edges, SPEC_NODES)?;
+    let (root, leaf) = graph.named(root, leaf)?;
+    let mut bits = Vec::new();
+    graph.collect_bits(root, address, &graph.leads_to(&[leaf]), &mut bits);
+    bits.sort_unstable();
+    bits.dedup();
+    if bits.len() > room {
+        return Err(refusal(11, OUTPUT, 0));
+    }
+    Ok(bits)
+}
+
+// Lists
+
+/// Sorts runs and joins those of one displacement that touch or overlap.
+pub fn merge(mut runs: Vec<Record>) -> Vec<Record> {
+    runs.sort_unstable_by_key(|run| (run.displacement, run.first));
+    let mut list: Vec<Record> = Vec::new();
+    for run in runs {
+        match list.last_mut() {
+            Some(open) if open.displacement == run.displacement && run.first <= open.last + 1 => {
+                open.last = open.last.max(run.last);
+            }
+            _ => list.push(run),
+        }
+    }
+    list.sort_unstable_by_key(|record| (record.first, record.displacement));
+    list
+}
+
+/// Whether the listing goes once over the graph for each root, or for each pair.
+/// The lists are the same; the second repeats work that pairs of one root share.
+#[derive(Clone, Copy, PartialEq, Eq)]
+pub enum Listing {
+    ByRoot,
+    ByPair,
+}
+
+/// A graph with the leaves to be listed and the nodes that a listing may enter.
+struct Lister<'a> {
+    graph: &'a Graph,
+    leaves: Vec<usize>,
+    leads: Vec<Vec<bool>>,
+}
+
+impl<'a> Lister<'a> {
+    fn new(graph: &'a Graph, leaves: Vec<usize>, listing: Listing) -> Lister<'a> {
+        let leads = match listing {
+            Listing::ByRoot => vec![graph.leads_to(&leaves)],
+            Listing::ByPair => leaves.iter().map(|&leaf| graph.leads_to(&[leaf])).collect(),
+        };
+        Lister { graph, leaves, leads }
+    }
+
+    /// The list of the root with each of the leaves.
+    fn lists(&self, root: usize) -> Vec<Vec<Record>> {
+        let mut found = vec![Vec::new(); self.graph.nodes.len()];
+        let Node { first, last, .. } = self.graph.nodes[root];
+        for leads in &self.leads {
+            self.graph.collect(root, (first, last, 0), leads, &mut found);
+        }
+        self.leaves.iter().map(|&leaf| merge(take(&mut found[leaf]))).collect()
+    }
+}
+
+/// The list of a root and a leaf; `room` counts numbers, three for each record.
+pub fn list(
+    nodes: &[i64], edges: &[i64], root: i64, leaf: i64, room: usize,
+) -> Result<Vec<Record>, Refusal> {
+    let graph = Graph::new(nodes, edges, SPEC_NODES)?;
+    let (root, leaf) = graph.named(root, leaf)?;
+    let lister = Lister::new(&graph, vec![leaf], Listing::ByPair);
+    let list = lister.lists(root).remove(0);
+    if list.len() * 3 > room {
+        return Err(refusal(11, OUTPUT, 0));
+    }
+    Ok(list)
+}
+
+// Comparing
+
+/// The root bits, and the leaf bits, of `inner` are among those of `outer`.
+fn contained(inner: &Record, outer: &Record) -> bool {
+    let leaf_bits =
+        |record: &Record| (record.first - record.displacement, record.last - record.displacement);
+    let (inner_first, inner_last) = leaf_bits(inner);
+    let (outer_first, outer_last) = leaf_bits(outer);
+    outer.first <= inner.first
+        && inner.last <= outer.last
+        && outer_first <= inner_first
+        && inner_last <= outer_last
+}
+
+pub fn verdict(spec: &[Record], implementation: &[Record]) -> i64 {
+    if spec == implementation {
+        return 0;
+    }
+    let covered = |inner: &Record| spec.iter().any(|outer| contained(inner, outer));
+    if !implementation.is_empty() && implementation.iter().all(covered) {
+        1
+    } else {
+        2
+    }
+}
+
+/// The displacements, ascending, of the records that hold a root bit.
+fn displacements_at(list: &[Record], address: i64) -> Vec<i64> {
+    let mut displacements: Vec<i64> = list
+        .iter()
+        .filter(|record| record.first <= address && address <= record.last)
+        .map(|record| record.displacement)
+        .collect();
+    displacements.sort_unstable();
+    displacements
+}
+
+/// The lowest address from which two lists reach unlike leaf bits. What they reach
+/// changes only where a record begins and right after one ends.
+pub fn lowest_difference(spec: &[Record], implementation: &[Record]) -> Option<i64> {
+    let mut changes: Vec<i64> = Vec::new();
+    for record in spec.iter().chain(implementation) {
+        changes.extend([record.first, record.last + 1]);
+    }
+    changes.sort_unstable();
+    changes.dedup();
+    changes.into_iter().find(|&address| {
+        displacements_at(spec, address) != displacements_at(implementation, address)
+    })
+}
+
+/// Judges the rows of a pair table and gives the node rows of both sides.
+fn check_pairs(
+    pairs: &[i64], table: usize, graphs: [&Graph; 2], role: fn(&Graph, i64) -> Option<usize>,
+) -> Result<[Vec<usize>; 2], Refusal> {
+    let mut rows = [Vec::new(), Vec::new()];
+    let mut seen = graphs.map(|graph| vec![false; graph.nodes.len()]);
+    for (row, pair) in pairs.chunks(2).enumerate() {
+        let spec = role(graphs[0], pair[0]).ok_or(refusal(7, table, row))?;
+        let implementation = role(graphs[1], pair[1]).ok_or(refusal(7, table, row))?;
+        if seen[0][spec] || seen[1][implementation] {
+            return Err(refusal(8, table, row));
+        }
+        seen[0][spec] = true;
+        seen[1][implementation] = true;
+        rows[0].push(spec);
+        rows[1].push(implementation);
+    }
+    Ok(rows)
+}
+
+/// Refusal 10, pair by pair in visiting order, the specification first.
+fn check_paths(
+    graphs: [&Graph; 2], roots: &[Vec<usize>; 2], leaves: &[Vec<usize>; 2],
+) -> Result<(), Refusal> {
+    for (root, (&spec, &implementation)) in roots[0].iter().zip(&roots[1]).enumerate() {
+        let counts = [graphs[0].path_counts(spec), graphs[1].path_counts(implementation)];
+        for leaf in 0..leaves[0].len() {
+            for (side, edge_table) in [SPEC_EDGES, IMPL_EDGES].into_iter().enumerate() {
+                if counts[side][leaves[side][leaf]] > MAX_PATHS {
+                    return Err(refusal(10, edge_table, root * 1_000 + leaf));
+                }
+            }
+        }
+    }
+    Ok(())
+}
+
+/// Compares two graphs: refusals 1 to 10, or the outcome and the report's lines.
+pub fn compare(tables: &Tables) -> Result<Comparison, Refusal> {
+    compare_by(tables, Listing::ByRoot)
+}
+
+pub fn compare_by(tables: &Tables, listing: Listing) -> Result<Comparison, Refusal> {
+    let spec = Graph::new(&tables[SPEC_NODES], &tables[SPEC_EDGES], SPEC_NODES)?;
+    let implementation = Graph::new(&tables[IMPL_NODES], &tables[IMPL_EDGES], IMPL_NODES)?;
+    for table in [ROOT_PAIRS, LEAF_PAIRS] {
+        check_shape(&tables[table], table, MAX_PAIRS)?;
+    }
+    for table in [ROOT_PAIRS, LEAF_PAIRS] {
+        if tables[table].is_empty() {
+            return Err(refusal(9, table, 0));
+        }
+    }
+    let graphs = [&spec, &implementation];
+    let roots = check_pairs(&tables[ROOT_PAIRS], ROOT_PAIRS, graphs, Graph::root)?;
+    let leaves = check_pairs(&tables[LEAF_PAIRS], LEAF_PAIRS, graphs, Graph::leaf)?;
+    check_paths(graphs, &roots, &leaves)?;
+    Ok(judge_pairs(graphs, roots, leaves, listing))
+}
+
+fn judge_pairs(
+    graphs: [&Graph; 2], roots: [Vec<usize>; 2], [spec_leaves, impl_leaves]: [Vec<usize>; 2],
+    listing: Listing,
+) -> Comparison {
+    let spec = Lister::new(graphs[0], spec_leaves, listing);
+    let implementation = Lister::new(graphs[1], impl_leaves, listing);
+    let mut outcome = Outcome { whole: 0, counts: [0; 3], root: -1, leaf: -1, address: -1 };
+    let mut lines = Vec::new();
+    for (root, (&spec_root, &impl_root)) in roots[0].iter().zip(&roots[1]).enumerate() {
+        let lists = spec.lists(spec_root).into_iter().zip(implementation.lists(impl_root));
+        for (leaf, (spec, implementation)) in lists.enumerate() {
+            let verdict = verdict(&spec, &implementation);
+            if verdict != 0 && outcome.whole == 0 {
+                outcome.root = root as i64;
+                outcome.leaf = leaf as i64;
+                outcome.address = lowest_difference(&spec, &implementation).unwrap_or(-1);
+            }
+            outcome.counts[verdict as usize] += 1;
+            outcome.whole = outcome.whole.max(verdict);
+            let (spec, implementation) = (spec.len(), implementation.len());
+            if spec + implementation > 0 {
+                lines.push(PairLine { root, leaf, verdict, spec, implementation });
+            }
+        }
+    }
+    Comparison { outcome, lines }
+}
+
+// Map files
+
+fn check_bytes(text: &[u8]) -> Result<(), Refusal> {
+    if text.len() > MAX_TEXT {
+        return Err(refusal(12, TEXT, 0));
+    }
+    let allowed = |byte: &u8| matches!(byte, b'a'..=b'z' | b'0'..=b'9' | b'-' | b' ' | b'\n');
+    let line_at = |place: usize| 1 + text[..place].iter().filter(|&&byte| byte == b'\n').count();
+    if let Some(place) = text.iter().position(|byte| !allowed(byte)) {
+        return Err(refusal(12, TEXT, line_at(place)));
+    }
+    if text.last().is_some_and(|&byte| byte != b'\n') {
+        return Err(refusal(12, TEXT, line_at(text.len())));
+    }
+    Ok(())
+}
+
+/// A value: 1 to 18 digits, a minus before it if negative, no leading zero, no -0.
+fn value(field: &[u8]) -> Option<i64> {
+    let (negative, digits) = match field {
+        [b'-', digits @ ..] => (true, digits),
+        digits => (false, digits),
+    };
+    let leading_zero = digits.first() == Some(&b'0') && (negative || digits.len() > 1);
+    if digits.is_empty() || digits.len() > 18 || leading_zero {
+        return None;
+    }
+    let mut number = 0;
+    for digit in digits {
+        if !digit.is_ascii_digit() {
+            return None;
+        }
+        number = number * 10 + i64::from(digit - b'0');
+    }
+    Some(if negative { -number } else { number })
+}
+
+/// For each field of a names line, which of the table's names it is.
+fn columns(line: &[u8], names: &[&str]) -> Option<Vec<usize>> {
+    let mut columns = Vec::new();
+    for field in line.split(|&byte| byte == b' ') {
+        let column = names.iter().position(|name| name.as_bytes() == field)?;
+        if columns.contains(&column) {
+            return None;
+        }
+        columns.push(column);
+    }
+    (columns.len() == names.len()).then_some(columns)
+}
+
+/// The values of a line, put into the order of the table's names.
+fn values(line: &[u8], columns: &[usize]) -> Option<Vec<i64>> {
+    let fields: Vec<&[u8]> = line.split(|&byte| byte == b' ').collect();
+    if fields.len() != columns.len() {
+        return None;
+    }
+    let mut row = vec![0; columns.len()];
+    for (field, &column) in fields.iter().zip(columns) {
+        row[column] = value(field)?;
+    }
+    (0..=1).contains(&row[0]).then_some(row)
+}
+
+/// Reads one table from line `next` on into the two tables that its first column
+/// tells apart. Gives the line to go on with.
+fn read_table(
+    lines: &[&[u8]], mut next: usize, names: &[&str], tables: [&mut Vec<i64>; 2],
+    ends_with_empty_line: bool,
+) -> Result<usize, Refusal> {
+    let columns =
+        lines.get(next).and_then(|line| columns(line, names)).ok_or(refusal(13, TEXT, next + 1))?;
+    loop {
+        next += 1;
+        match lines.get(next) {
+            None if ends_with_empty_line => return Err(refusal(13, TEXT, next + 1)),
+            None => return Ok(next),
+            Some(line) if line.is_empty() && ends_with_empty_line => return Ok(next + 1),
+            Some(line) => {
+                let row = values(line, &columns).ok_or(refusal(14, TEXT, next + 1))?;
+                tables[row[0] as usize].extend(&row[1..]);
+            }
+        }
+    }
+}
+
+/// Reads a map file: refusals 12 to 14, or the six tables.
+pub fn parse(text: &[u8]) -> Result<Tables, Refusal> {
+    check_bytes(text)?;
+    let mut lines: Vec<&[u8]> = text.split(|&byte| byte == b'\n').collect();
+    // What follows the last line feed is no line.
+    lines.pop();
+    let mut tables = Tables::default();
+    let [spec_nodes, spec_edges, impl_nodes, impl_edges, roots, leaves] = &mut tables;
+    let next = read_table(&lines, 0, &NODE_NAMES, [spec_nodes, impl_nodes], true)?;
+    let next = read_table(&lines, next, &EDGE_NAMES, [spec_edges, impl_edges], true)?;
+    read_table(&lines, next, &PAIR_NAMES, [roots, leaves], false)?;
+    Ok(tables)
+}
+
+// Reports
+
+pub fn report(comparison: &Comparison) -> Vec<u8> {
+    let mut report = String::from("root leaf verdict spec impl\n");
+    for line in &comparison.lines {
+        let PairLine { root, leaf, verdict, spec, implementation } = line;
+        report += &format!("{root} {leaf} {verdict} {spec} {implementation}\n");
+    }
+    report += "\nverdict equal partial different root leaf address\n";
+    let Outcome { whole, counts: [equal, partial, different], root, leaf, address } =
+        &comparison.outcome;
+    report += &format!("{whole} {equal} {partial} {different} {root} {leaf} {address}\n");
+    report.into_bytes()
+}
+
+pub fn refusal_report(refusal: &Refusal) -> Vec<u8> {
+    let Refusal { number, table, row } = refusal;
+    format!("refusal table row\n{number} {table} {row}\n").into_bytes()
+}
+
+/// The whole verdict and the report of a map file; `room` is the report buffer's length.
+fn judge_text(text: &[u8], room: usize, listing: Listing) -> Result<(i64, Vec<u8>), Refusal> {
+    let comparison = compare_by(&parse(text)?, listing)?;
+    let report = report(&comparison);
+    if report.len() > room {
+        return Err(refusal(11, OUTPUT, 0));
+    }
+    Ok((comparison.outcome.whole, report))
+}
+
+/// Text check: map file in, report out.
+pub fn text_check(text: &[u8], room: usize) -> Result<Vec<u8>, Refusal> {
+    text_check_by(text, room, Listing::ByRoot)
+}
+
+pub fn text_check_by(text: &[u8], room: usize, listing: Listing) -> Result<Vec<u8>, Refusal> {
+    judge_text(text, room, listing).map(|(_, report)| report)
+}
+
+/// A refusal as the C call gives it.
+pub fn coded_refusal(refusal: &Refusal) -> i64 {
+    -(refusal.number * 100_000_000 + refusal.table * 10_000_000 + refusal.row)
+}
+
+/// The answer of the C call: the report's length or the coded refusal.
+pub fn coded(answer: &Result<Vec<u8>, Refusal>) -> i64 {
+    match answer {
+        Ok(report) => report.len() as i64,
+        Err(refusal) => coded_refusal(refusal),
+    }
+}
+
+/// What the program mapcheck prints for a text on standard input.
+pub fn printed(text: &[u8]) -> Vec<u8> {
+    text_check(text, REPORT_ROOM).unwrap_or_else(|refusal| refusal_report(&refusal))
+}
+
+/// Text check beside a record of counts (equal, partial, different, refused).
+pub fn tally(
+    text: &[u8], room: usize, mut counts: [u64; 4],
+) -> (Result<Vec<u8>, Refusal>, [u64; 4]) {
+    let answer = judge_text(text, room, Listing::ByRoot);
+    let place = answer.as_ref().map_or(3, |(whole, _)| *whole as usize);
+    if counts[place] < MAX_TALLY {
+        counts[place] += 1;
+    }
+    (answer.map(|(_, report)| report), counts)
+}

@@ -1,0 +1,168 @@
+//! The reference against the bit-by-bit walker on small maps.
+
+use host::bitwalk;
+use host::generate::{damaged, disturbed, mixed_text, plain_text, small_map, Random};
+use host::reference::*;
+use std::collections::BTreeSet;
+
+const MAPS: u64 = 6_000;
+
+/// Every pair of both sides: list, and walks at and around its records' ends.
+fn check_single_calls(nodes: &[i64], edges: &[i64], root: i64, leaf: i64, random: &mut Random) {
+    let reached = bitwalk::reached(nodes, edges, root as usize, leaf as usize);
+    let expected = bitwalk::group(&reached);
+    let records = list(nodes, edges, root, leaf, expected.len() * 3).unwrap();
+    assert_eq!(records, expected);
+    if !records.is_empty() {
+        let short = list(nodes, edges, root, leaf, expected.len() * 3 - 1);
+        assert_eq!(short, Err(refusal(11, OUTPUT, 0)));
+    }
+    let mut addresses: Vec<i64> = records
+        .iter()
+        .flat_map(|record| [record.first - 1, record.first, record.last, record.last + 1])
+        .collect();
+    addresses.extend((0..4).map(|_| random.between(-9, 2_000)));
+    for address in addresses {
+        let expected = bitwalk::walk(nodes, edges, root as usize, leaf as usize, address);
+        let bits = walk(nodes, edges, root, leaf, address, expected.len()).unwrap();
+        assert_eq!(bits, Vec::from_iter(expected));
+    }
+}
+
+#[test]
+fn small_maps_come_out_alike() {
+    let mut shares = [0; 3];
+    let (mut records, mut paths, mut without_line) = (0, 0, 0);
+    for seed in 0..MAPS {
+        let random = &mut Random::new(seed);
+        let tables = small_map(random);
+        let expected = bitwalk::compare(&tables);
+        assert_eq!(compare(&tables).as_ref(), Ok(&expected), "seed {seed}");
+        assert_eq!(compare_by(&tables, Listing::ByPair).as_ref(), Ok(&expected), "seed {seed}");
+        for text in [plain_text(&tables), mixed_text(random, &tables)] {
+            assert_eq!(parse(&text).as_ref(), Ok(&tables), "seed {seed}");
+        }
+        for (root, leaf) in tables[ROOT_PAIRS].chunks(2).zip(tables[LEAF_PAIRS].chunks(2)) {
+            check_single_calls(&tables[0], &tables[1], root[0], leaf[0], random);
+            check_single_calls(&tables[2], &tables[3], root[1], leaf[1], random);
+            paths = paths.max(bitwalk::paths(&tables[3], root[1] as usize, leaf[1] as usize));
+        }
+        shares[expected.outcome.whole as usize] += 1;
+        without_line += u64::from(expected.lines.is_empty());
+        records =
+            records.max(expected.lines.iter().map(|line| line.implementation).max().unwrap_or(0));
+    }
+    println!("equal, partial, different {shares:?}, {without_line} with nothing connected");
+    println!("{records} records, {paths} paths at most");
+    assert!(shares.iter().all(|&share| share > MAPS / 6), "{shares:?}");
+    assert!(without_line < MAPS / 6 && records >= 8 && paths >= 16);
+}
+
+#[test]
+fn runs_merge_as_their_bits_do() {
+    let random = &mut Random::new(1);
+    for _ in 0..5_000 {
+        let mut first = random.between(0, 20);
+        let mut runs = Vec::new();
+        for _ in 0..random.between(0, 9) {
+            let last = first + random.between(0, 6);
+            runs.push(Record { first, last, displacement: random.between(-1, 1) });
+            // Inside, at the last bit, touching, one bit open, or a byte open.
+            first = random.pick(&[first, last, last + 1, last + 2, last + 8]);
+        }
+        random.shuffle(&mut runs);
+        let bits = |run: &Record| {
+            let displacement = run.displacement;
+            (run.first..=run.last).map(move |bit| (bit, bit - displacement))
+        };
+        let reached: BTreeSet<(i64, i64)> = runs.iter().flat_map(bits).collect();
+        assert_eq!(merge(runs), bitwalk::group(&reached));
+    }
+}
+
+#[test]
+fn random_lists_judge_as_their_bits_do() {
+    let random = &mut Random::new(2);
+    let mut shares = [0; 3];
+    let list = |random: &mut Random, most: i64| {
+        let mut reached = bitwalk::Reached::new();
+        for _ in 0..random.between(0, most) {
+            let (first, displacement) = (random.between(0, 12), random.between(-1, 1));
+            let last = first + random.between(0, 9);
+            reached.extend((first..=last).map(|bit| (bit, bit - displacement)));
+        }
+        reached
+    };
+    for _ in 0..5_000 {
+        let spec = list(random, 3);
+        let mut implementation = if random.chance(30) { spec.clone() } else { list(random, 2) };
+        implementation.retain(|(bit, _)| *bit != 5 || spec.len() % 2 == 0);
+        let lists = (bitwalk::group(&spec), bitwalk::group(&implementation));
+        let verdict = verdict(&lists.0, &lists.1);
+        assert_eq!(verdict, bitwalk::verdict(&spec, &implementation));
+        shares[verdict as usize] += 1;
+        let lowest = spec.symmetric_difference(&implementation).map(|pair| pair.0).min();
+        assert_eq!(lowest_difference(&lists.0, &lists.1), lowest);
+    }
+    assert!(shares.iter().all(|&share| share > 200), "{shares:?}");
+}
+
+#[test]
+fn cycles_and_chains() {
+    let random = &mut Random::new(3);
+    let mut shares = [0; 4];
+    for _ in 0..4_000 {
+        let count = if random.chance(50) { random.between(1, 7) } else { random.between(60, 90) };
+        let nodes: Vec<i64> =
+            (0..count).flat_map(|_| [random.pick(&[0, 1, 1, 1]), 0, 1, 8]).collect();
+        let mut edges: Vec<i64> = Vec::new();
+        // Mostly a chain, sometimes with a step left out or an edge of any direction.
+        for row in 1..count {
+            if count < 60 || !random.chance(1) {
+                edges.extend([row - 1, row, 0]);
+            }
+        }
+        for _ in 0..random.below(3) {
+            let ends = [random.between(0, count - 1), random.between(0, count - 1)];
+            let forward = random.chance(70);
+            let (from, to) = if forward {
+                (ends[0].min(ends[1]), ends[0].max(ends[1]))
+            } else {
+                (ends[0], ends[1])
+            };
+            if !forward || from < to {
+                edges.extend([from, to, 0]);
+            }
+        }
+        let expected = bitwalk::refused(&nodes, &edges);
+        let number = check(&nodes, &edges).err().map(|refusal| refusal.number);
+        assert_eq!(number, expected);
+        shares[expected.map_or(0, |number| number as usize - 3)] += 1;
+    }
+    println!("taken, 4, 5, 6: {shares:?}");
+    assert!(shares[0] > 300 && shares[2] > 300 && shares[3] > 300);
+}
+
+#[test]
+fn damaged_texts_give_an_answer() {
+    let mut numbers = [0; 15];
+    for seed in 0..40_000 {
+        let random = &mut Random::new(seed);
+        let tables = small_map(random);
+        let mut text = if random.chance(50) {
+            mixed_text(random, &tables)
+        } else {
+            plain_text(&disturbed(random, &tables))
+        };
+        if random.chance(60) {
+            text = damaged(random, &text);
+        }
+        let answer = text_check(&text, REPORT_ROOM);
+        assert_eq!(answer, text_check_by(&text, REPORT_ROOM, Listing::ByPair));
+        numbers[answer.err().map_or(0, |refusal| refusal.number as usize)] += 1;
+    }
+    println!("answers by refusal, 0 for a report: {numbers:?}");
+    for number in [0, 1, 2, 3, 4, 5, 7, 8, 9, 10, 12, 13, 14] {
+        assert!(numbers[number] > 0, "refusal {number} never told");
+    }
+}

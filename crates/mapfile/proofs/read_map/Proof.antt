@@ -1,0 +1,252 @@
+-- The three tables are read one after the other, each from where the one before it ends.
+use mathlib.Core.Path.{_≡_, sym, ap, subst, _∙_}
+use mathlib.Core.Bool.{true, false}
+use borrow.Author.Needs.{needs}
+use lib.ListN.{drop}
+use Rattle.model.specs.MapFile.{lines, nodeTable, edgeTable, pairTable}
+use Rattle.model.specs.Calls.{full}
+use Rattle.model.specs.Answers.{checkedAnswer}
+use Rattle.model.specs.Reader.{checkText, readTable, tablesOf}
+use Rattle.mapfile.specs.declared.Rows.{Rows}
+use Rattle.mapfile.specs.Tables.{nodeRoom, edgeRoom, pairRoom}
+use Rattle.mapfile.specs.Given.{RowsGiven, RowsRead}
+use Rattle.mapfile.proofs.Text.{checked}
+use Rattle.mapfile.proofs.ReadTables.{map-checked, map-nodes, map-edges, map-pairs, map-tables}
+use Rattle.mapfile.proofs.read_map.Statement.{statement}
+use Rattle.mapfile.proofs.read_map.Tie as tie
+
+-- the function's entry
+abbrev Entry : tie.After-read-table → tie.Start
+Entry n = n .before .before .before .before .before .before .before .before
+
+-- refusal 12 is not for the text
+taken : (n : tie.After-read-table) → full tt ≡ checked (checkText (Entry n .args .text .now))
+taken n =
+    let e = n .before .before .before .before in
+    ap checkedAnswer (sym (e .enum-told .given .1)) ∙ e .before .before .check-text .ensures
+
+-- what reading the first table gives
+abbrev NodesGiven : tie.After-read-table → Rows → Type 0
+NodesGiven n =
+    let s = Entry n .args in
+    RowsGiven (readTable false nodeTable 1 (lines (s .text .now))) (s .text .now) nodeRoom
+    (s .spec-nodes .now) (n .read-table .last .1 .1 .1 .0) (s .impl-nodes .now) (n .read-table .last .1 .1 .1 .1 .0)
+
+nodes-given : (n : tie.After-read-table) → NodesGiven n (n .read-table .result)
+nodes-given n = let t = n .before .before .before in rw (t .start .ensures .0, t .start .ensures .1) at (n .read-table .ensures)
+
+abbrev Nodes : tie.After-rows2 → tie.After-read-table
+Nodes r = r .before .before .before .before
+
+nodes-read : (r : tie.After-rows2) → let n = Nodes r in let s = Entry n .args in let k = r .rows2 .given .0 in
+    RowsRead (readTable false nodeTable 1 (lines (s .text .now))) (s .text .now) nodeRoom
+    (s .spec-nodes .now) (n .read-table .last .1 .1 .1 .0) (s .impl-nodes .now) (n .read-table .last .1 .1 .1 .1 .0)
+    (k .0) (k .1 .0 .first) (k .1 .0 .second)
+nodes-read r = subst (NodesGiven (Nodes r)) (r .rows2 .given .1) (nodes-given (Nodes r))
+
+-- what reading the second gives
+abbrev EdgesGiven : tie.After-read-table2 → Rows → Type 0
+EdgesGiven e =
+    let r = e .before .before .before .before in
+    let s = Entry (Nodes r) .args in
+    let c = r .rows2 .given .0 .0 in
+    RowsGiven (readTable false edgeTable (c .line) (lines (drop (c .at) (s .text .now)))) (s .text .now) edgeRoom
+    (s .spec-edges .now) (e .read-table2 .last .1 .1 .1 .0) (s .impl-edges .now) (e .read-table2 .last .1 .1 .1 .1 .0)
+
+abbrev Before : tie.After-rows4 → tie.After-rows2
+Before t = t .before .before .before .before .before .before .before .before
+
+edges-read : (t : tie.After-rows4) → let e = t .before .before .before .before in let s = Entry (Nodes (Before t)) .args in
+    let c = Before t .rows2 .given .0 .0 in let k = t .rows4 .given .0 in
+    RowsRead (readTable false edgeTable (c .line) (lines (drop (c .at) (s .text .now)))) (s .text .now) edgeRoom
+    (s .spec-edges .now) (e .read-table2 .last .1 .1 .1 .0) (s .impl-edges .now) (e .read-table2 .last .1 .1 .1 .1 .0)
+    (k .0) (k .1 .0 .first) (k .1 .0 .second)
+edges-read t = let e = t .before .before .before .before in subst (EdgesGiven e) (t .rows4 .given .1) (e .read-table2 .ensures)
+
+-- what reading the third gives
+abbrev PairsGiven : tie.After-read-table3 → Rows → Type 0
+PairsGiven p =
+    let t = p .before .before .before .before in
+    let s = Entry (Nodes (Before t)) .args in
+    let c = t .rows4 .given .0 .0 in
+    RowsGiven (readTable true pairTable (c .line) (lines (drop (c .at) (s .text .now)))) (s .text .now) pairRoom
+    (s .root-pairs .now) (p .read-table3 .last .1 .1 .1 .0) (s .leaf-pairs .now) (p .read-table3 .last .1 .1 .1 .1 .0)
+
+check-text-requires : tie.Need-check-text-requires
+check-text-requires c κs = search needs
+
+enum-known-checked : tie.Need-enum-known-checked
+enum-known-checked c = search needs
+
+returns : tie.Need-returns
+returns c =
+    let k = c .before .before .before in
+    map-checked (k .before .before .args .text .now) (ap checkedAnswer (sym (c .before .checked .given .1)) ∙ k .check-text .ensures)
+
+enum-told : tie.Need-enum-told
+enum-told c = search needs
+
+start-requires : tie.Need-start-requires
+start-requires c κs = search needs
+
+read-table-requires : tie.Need-read-table-requires
+read-table-requires c κs = search needs
+
+enum-known-rows : tie.Need-enum-known-rows
+enum-known-rows c = search needs
+
+enum-known-rows-2 : tie.Need-enum-known-rows-2
+enum-known-rows-2 c = search needs
+
+read-table-requires-2 : tie.Need-read-table-requires-2
+read-table-requires-2 c κs = let r = c .before .before .before in let s = Entry (Nodes r) in (nodes-read r .placed, s .pre .specEdges, s .pre .implEdges)
+
+enum-known-rows-3 : tie.Need-enum-known-rows-3
+enum-known-rows-3 c = search needs
+
+enum-known-rows-4 : tie.Need-enum-known-rows-4
+enum-known-rows-4 c = search needs
+
+read-table-requires-3 : tie.Need-read-table-requires-3
+read-table-requires-3 c κs = let r = c .before .before .before in let s = Entry (Nodes (Before r)) in (edges-read r .placed, s .pre .rootPairs, s .pre .leafPairs)
+
+enum-known-rows-5 : tie.Need-enum-known-rows-5
+enum-known-rows-5 c = search needs
+
+enum-known-rows-6 : tie.Need-enum-known-rows-6
+enum-known-rows-6 c = search needs
+
+same-length : tie.Need-same-length
+same-length c = search needs
+
+same-length-2 : tie.Need-same-length-2
+same-length-2 c = search needs
+
+returns-2 : tie.Need-returns-2
+returns-2 c =
+    let n = c .before .before .before .before .before in
+    map-nodes (Entry n .args .text .now) (taken n) (subst (NodesGiven n) (c .before .rows .given .1) (nodes-given n))
+
+same-length-3 : tie.Need-same-length-3
+same-length-3 c = search needs
+
+same-length-4 : tie.Need-same-length-4
+same-length-4 c = search needs
+
+same-length-5 : tie.Need-same-length-5
+same-length-5 c = search needs
+
+same-length-6 : tie.Need-same-length-6
+same-length-6 c = search needs
+
+returns-3 : tie.Need-returns-3
+returns-3 c =
+    let e = c .before .before .before .before .before in
+    let r = e .before .before .before .before in
+    let n = Nodes r in
+    map-edges (Entry n .args .text .now) (taken n) (nodes-read r .read) (subst (EdgesGiven e) (c .before .rows3 .given .1) (e .read-table2 .ensures))
+
+same-length-7 : tie.Need-same-length-7
+same-length-7 c = search needs
+
+same-length-8 : tie.Need-same-length-8
+same-length-8 c = search needs
+
+same-length-9 : tie.Need-same-length-9
+same-length-9 c = search needs
+
+same-length-10 : tie.Need-same-length-10
+same-length-10 c = search needs
+
+same-length-11 : tie.Need-same-length-11
+same-length-11 c = search needs
+
+same-length-12 : tie.Need-same-length-12
+same-length-12 c = search needs
+
+returns-4 : tie.Need-returns-4
+returns-4 c =
+    let p = c .before .before .before .before .before in
+    let t = p .before .before .before .before in
+    let r = Before t in
+    let n = Nodes r in
+    map-pairs (Entry n .args .text .now) (taken n) (nodes-read r .read) (edges-read t .read)
+    (subst (PairsGiven p) (c .before .rows5 .given .1) (p .read-table3 .ensures))
+
+same-length-13 : tie.Need-same-length-13
+same-length-13 c = search needs
+
+same-length-14 : tie.Need-same-length-14
+same-length-14 c = search needs
+
+same-length-15 : tie.Need-same-length-15
+same-length-15 c = search needs
+
+same-length-16 : tie.Need-same-length-16
+same-length-16 c = search needs
+
+same-length-17 : tie.Need-same-length-17
+same-length-17 c = search needs
+
+same-length-18 : tie.Need-same-length-18
+same-length-18 c = search needs
+
+returns-5 : tie.Need-returns-5
+unfolding tablesOf
+returns-5 c =
+    let p = c .before .before .before .before .before in
+    let t = p .before .before .before .before in
+    let r = Before t in
+    let n = Nodes r in
+    let pairs = subst (PairsGiven p) (c .before .rows6 .given .1) (p .read-table3 .ensures) in
+    record {
+      tables = tablesOf (nodes-read r .done) (edges-read t .done) (pairs .done);
+      read = map-tables (Entry n .args .text .now) (taken n) (nodes-read r .read) (edges-read t .read) (pairs .read);
+      specNodes = nodes-read r .first;
+      specEdges = edges-read t .first;
+      implNodes = nodes-read r .second;
+      implEdges = edges-read t .second;
+      rootPairs = pairs .first;
+      leafPairs = pairs .second;
+    }
+
+pub read-map-spec : {M : Type 1} → statement M
+read-map-spec =
+    tie.close
+    (tie.spec
+    check-text-requires
+    enum-known-checked
+    returns
+    enum-told
+    start-requires
+    read-table-requires
+    enum-known-rows
+    enum-known-rows-2
+    read-table-requires-2
+    enum-known-rows-3
+    enum-known-rows-4
+    read-table-requires-3
+    enum-known-rows-5
+    enum-known-rows-6
+    same-length
+    same-length-2
+    returns-2
+    same-length-3
+    same-length-4
+    same-length-5
+    same-length-6
+    returns-3
+    same-length-7
+    same-length-8
+    same-length-9
+    same-length-10
+    same-length-11
+    same-length-12
+    returns-4
+    same-length-13
+    same-length-14
+    same-length-15
+    same-length-16
+    same-length-17
+    same-length-18
+    returns-5)

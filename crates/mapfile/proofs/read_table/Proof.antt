@@ -1,0 +1,75 @@
+-- A wrong names line is told; else the value lines are read.
+use borrow.Author.Needs.{needs}
+use borrow.Author.Tests.{not-true, not-false}
+use Rattle.mapfile.specs.Given.{isLast}
+use Rattle.mapfile.proofs.ReadTables.{file-several, file-few, file-room, table-wrong, table-good, table-placed, table-values, table-room}
+use Rattle.mapfile.proofs.read_table.Statement.{statement}
+use Rattle.mapfile.proofs.read_table.Tie as tie
+
+count-fields-requires : tie.Need-count-fields-requires
+count-fields-requires c κs = search needs
+
+table-columns-requires : tie.Need-table-columns-requires
+table-columns-requires c κs = search needs
+
+returns : tie.Need-returns
+returns c =
+    let k = c .before .before in
+    let s = k .before .before .before in
+    let f = s .args .table in
+    table-wrong (file-several f) (s .pre .0) (k .table-columns .ensures) (isLast f) (not-true _ (c .if1 .taken))
+
+is-last-requires : tie.Need-is-last-requires
+is-last-requires c κs = search needs
+
+room-of-requires : tie.Need-room-of-requires
+room-of-requires c κs = search needs
+
+read-rows-requires : tie.Need-read-rows-requires
+read-rows-requires c κs =
+    let m = c .before .before in
+    let e = m .before .before in
+    let k = e .before .before in
+    let s = k .before .before .before in
+    let f = s .args .table in
+    let all = not-false _ (e .if1 .left) in
+    let next = k .before .count-fields .ensures .1 in
+    let given = k .table-columns .ensures in
+    rw (m .room-of .ensures) (
+      table-placed (file-several f) (s .pre .0) given all next,
+      table-good (file-several f) (s .pre .0) given all next (file-few f),
+      table-room (file-several f) (s .pre .0) given all next (file-room f),
+      s .pre .1,
+      s .pre .2,
+    )
+
+same-length : tie.Need-same-length
+same-length c = search needs
+
+same-length-2 : tie.Need-same-length-2
+same-length-2 c = search needs
+
+returns-2 : tie.Need-returns-2
+returns-2 c =
+    let r = c .before .before in
+    let m = r .before .before .before in
+    let e = m .before .before in
+    let k = e .before .before in
+    let s = k .before .before .before in
+    let f = s .args .table in
+    let values = table-values (file-several f) (s .pre .0) (k .table-columns .ensures) (not-false _ (e .if1 .left)) (k .before .count-fields .ensures .1) in
+    rw (values (isLast f), ← m .before .is-last .ensures, ← m .room-of .ensures) (r .read-rows .ensures)
+
+pub read-table-spec : {M : Type 1} → statement M
+read-table-spec =
+    tie.close
+    (tie.spec
+    count-fields-requires
+    table-columns-requires
+    returns
+    is-last-requires
+    room-of-requires
+    read-rows-requires
+    same-length
+    same-length-2
+    returns-2)

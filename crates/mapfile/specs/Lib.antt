@@ -1,0 +1,3 @@
+pub mod Parts
+pub mod Tables
+pub mod Given

@@ -21,7 +21,7 @@ use Rattle.reach.specs.Counting.{pathCount, stopped, countsOf, countsOver}
 use Rattle.reach.specs.Links.{Linked, Linkable}
 use Rattle.reach.proofs.Values.{values-length}
 use Rattle.reach.proofs.Reaching.{count-at}
-use Rattle.listing.specs.Listing.{LinkedTo, Ready, Appended, runRow, runRows, arrivalRows, once, firstsOf}
+use Rattle.listing.specs.Listing.{LinkedTo, Ready, Listable, Appended, runRow, runRows, arrivalRows, once, firstsOf}
 use Rattle.listing.proofs.Appending.{append-length, append-rows}
 use Rattle.listing.proofs.Runs.{runRows-within-paths}
 use Rattle.listing.proofs.Arrivals.{arrivalRows-within-paths}
@@ -56,7 +56,7 @@ module _ {ns es : List ℤ} {root leaf : ℕ} {counts head next : List ℕ} {wor
       }
 
   -- and are then linked for this leaf
-  pub pair-linked : {head′ next′ : List ℕ} → Linked counts (graphOf ns es) head next head′ next′ → LinkedTo ns es leaf head′ next′
+  pair-linked : {head′ next′ : List ℕ} → Linked counts (graphOf ns es) head next head′ next′ → LinkedTo ns es leaf head′ next′
   pair-linked {head′} {next′} k =
       record {
         tables = p .tables;
@@ -67,8 +67,6 @@ module _ {ns es : List ℤ} {root leaf : ℕ} {counts head next : List ℕ} {wor
         links = subst (λ (c : List ℕ). Linked c (graphOf ns es) head next head′ next′) counts-over k;
       }
 
-  -- ---- room
-
   -- there are at most 1,024 paths
   paths-few : length (paths (graphOf ns es) (pos root) (pos leaf)) ≤ maxPaths
   unfolding pathCount
@@ -77,15 +75,22 @@ module _ {ns es : List ℤ} {root leaf : ℕ} {counts head next : List ℕ} {wor
       let count = ap (λ (c : List ℕ). getD c root 0) counts-over ∙ count-at g (pos leaf) counts root (omega (arith, ints, p .row .high)) in
       omega (arith, p .few, count)
 
-  -- so the runs have no more rows
+  -- so that there is all that listing and walking along the links start from
+  pub pair-listable : {head′ next′ : List ℕ} → Linked counts (graphOf ns es) head next head′ next′ → Listable ns es root leaf head′ next′ work spare
+  pair-listable k = record { linked = pair-linked k; row = p .row; few = paths-few; workRoom = p .workRoom; spareRoom = p .spareRoom }
+
+module _ {ns es : List ℤ} {root leaf : ℕ} {head next : List ℕ} {work spare : List ℤ} (p : Listable ns es root leaf head next work spare) where
+  -- ---- room
+
+  -- the runs have no more rows than there are paths
   pub runs-few : length (runRows maxChain (graphOf ns es) (pos root) (pos leaf) (whole (node (graphOf ns es) (pos root)))) ≤ maxPaths
   unfolding paths
-  runs-few = let g = graphOf ns es in omega (arith, paths-few, runRows-within-paths maxChain g (pos root) (pos leaf) (whole (node g (pos root))))
+  runs-few = let g = graphOf ns es in omega (arith, p .few, runRows-within-paths maxChain g (pos root) (pos leaf) (whole (node g (pos root))))
 
   -- nor have the arrivals
   pub arrivals-few : (a : ℤ) → length (arrivalRows maxChain (graphOf ns es) (pos root) (pos leaf) a) ≤ maxPaths
   unfolding paths
-  arrivals-few a = omega (arith, paths-few, arrivalRows-within-paths maxChain (graphOf ns es) (pos root) (pos leaf) a)
+  arrivals-few a = omega (arith, p .few, arrivalRows-within-paths maxChain (graphOf ns es) (pos root) (pos leaf) a)
 
   -- there is room for that many
   pub pair-room : (rows : List Row) → length rows ≤ maxPaths → 3 * (0 + length rows) ≤ length work
@@ -105,7 +110,7 @@ module _ {ns es : List ℤ} {root leaf : ℕ} {counts head next : List ℕ} {wor
     runs-normalisable a =
         let g = graphOf ns es in
         let room = written-room (runRows maxChain g (pos root) (pos leaf) (whole (node g (pos root)))) runs-few a in
-        (room .0, room .1, subst AllSmall (sym (records-listed ns es (pos root) (pos leaf) a)) (runs-small (pos leaf) (p .tables .graph) (p .row)))
+        (room .0, room .1, subst AllSmall (sym (records-listed ns es (pos root) (pos leaf) a)) (runs-small (pos leaf) (p .linked .tables .graph) (p .row)))
 
     -- and give the bitmapping list
     pub runs-normal : Appended (runRows maxChain (graphOf ns es) (pos root) (pos leaf) (whole (node (graphOf ns es) (pos root)))) work new 0 n

@@ -12,7 +12,7 @@ use Rattle.model.specs.Limits.{maxPaths}
 use Rattle.model.specs.Rows.{Node, nodeRows, edgeRows}
 use Rattle.model.specs.Graph.{Graph, graphOf, NodeRow, node, firstBit}
 use Rattle.model.specs.Paths.{Leaf}
-use Rattle.model.specs.Runs.{Run, empty, along, pathsWithin, recordOf}
+use Rattle.model.specs.Runs.{Run, empty, along, pathsWithin, paths, recordOf}
 use Rattle.model.specs.Taken.{TakenTables}
 use Rattle.model.specs.Calls.{arrivals}
 use Rattle.sorting.specs.declared.Row.{Row}
@@ -43,6 +43,14 @@ pub record Ready (ns es : List ℤ) (root leaf : ℕ) (counts head next : List �
   pub few : getD counts root 0 ≤ maxPaths
   pub headRoom : length (nodeRows ns) ≤ length head
   pub nextRoom : length (edgeRows es) ≤ length next
+  pub workRoom : 3 * maxPaths ≤ length work
+  pub spareRoom : 3 * maxPaths ≤ length spare
+
+-- what listing or walking along the links starts from: links for the leaf, at most 1,024 paths from the root, and room for a row a path
+pub record Listable (ns es : List ℤ) (root leaf : ℕ) (head next : List ℕ) (work spare : List ℤ) : Type 0 where
+  pub linked : LinkedTo ns es leaf head next
+  pub row : NodeRow (graphOf ns es) (pos root)
+  pub few : length (paths (graphOf ns es) (pos root) (pos leaf)) ≤ maxPaths
   pub workRoom : 3 * maxPaths ≤ length work
   pub spareRoom : 3 * maxPaths ≤ length spare
 

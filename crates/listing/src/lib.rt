@@ -11,7 +11,7 @@ ghost use Rattle.model.specs.Calls.{numbersOf, leafBits};
 ghost use Rattle.sorting.specs.Rows.{rowsOf};
 ghost use Rattle.reach.specs.Links.{Linked};
 ghost use Rattle.steps.specs.Steps.{runOf, SmallRun, SmallAddress, GoodRow};
-ghost use Rattle.listing.specs.Listing.{LinkedTo, Ready, Appended, runRow, runRows, arrivalRow, arrivalRows, once, firstsOf};
+ghost use Rattle.listing.specs.Listing.{LinkedTo, Ready, Listable, Appended, runRow, runRows, arrivalRow, arrivalRows, once, firstsOf};
 use model::Bits;
 use sorting::Row;
 use steps::Clipped;
@@ -166,8 +166,40 @@ pub fn walk_from(
     m
 }
 
-// Lists the bitmapping list of a root and a leaf in n log n steps for n paths, each of at most MAX_CHAIN edges: its records stand in front of
-// `work`, first, last and displacement of each. Returns how many they are. What stands behind them, and in `spare`, is space that was worked in.
+// Lists the bitmapping list of a root and the leaf that the edges are linked for, in n log n steps for n paths, each of at most MAX_CHAIN edges:
+// its records stand in front of `work`, first, last and displacement of each. Returns how many they are. What stands behind them, and in
+// `spare`, is space that was worked in.
+pub fn list_linked(
+    nodes: &[i64],
+    edges: &[i64],
+    root: usize,
+    leaf: usize,
+    head: &[usize],
+    next: &[usize],
+    work: &mut [i64],
+    spare: &mut [i64],
+) -> usize
+    requires { ⌜ Listable (now nodes) (now edges) root leaf (now head) (now next) (now work) (now spare) ⌝ }
+    ensures { λ r. ⌜ r ≡ length (listOf (graphOf (now (nodes .entry)) (now (edges .entry))) (pos root) (pos leaf)) ⌝ }
+    ensures { λ r. ⌜ take (3 * r) (now (work .exit)) ≡ numbersOf (listOf (graphOf (now (nodes .entry)) (now (edges .entry))) (pos root) (pos leaf)) ⌝ }
+{
+    let run = steps::whole(nodes, root);
+    let n = list_from(
+        nodes,
+        edges,
+        head,
+        next,
+        leaf,
+        root,
+        run,
+        MAX_CHAIN,
+        work,
+        0,
+    );
+    normalisation::normalise(work, n, spare)
+}
+
+// Links the edges for a leaf, and lists the bitmapping list of a root and this leaf as list_linked does.
 pub fn list_pair(
     nodes: &[i64],
     edges: &[i64],
@@ -187,20 +219,7 @@ pub fn list_pair(
         (now (head .entry)) (now (next .entry)) (now (head .exit)) (now (next .exit)) ⌝ }
 {
     reach::link_edges(nodes, edges, counts, head, next);
-    let run = steps::whole(nodes, root);
-    let n = list_from(
-        nodes,
-        edges,
-        head,
-        next,
-        leaf,
-        root,
-        run,
-        MAX_CHAIN,
-        work,
-        0,
-    );
-    normalisation::normalise(work, n, spare)
+    list_linked(nodes, edges, root, leaf, head, next, work, spare)
 }
 
 // Keeps the first number of each of n rows once, where equal ones stand next to each other: in front of `work`. Returns how many they are.

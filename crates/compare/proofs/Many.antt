@@ -1,0 +1,100 @@
+-- The lowest key of refusal 10, leaf row by leaf row: the counts of a leaf give the keys that its paths have.
+use mathlib.Core.Path.{_≡_, refl, sym, ap, _∙_}
+use mathlib.Core.Bool.{Bool, true, false}
+use mathlib.Core.List.{List, [], _∷_, map, map-append, map-map, flatMap, List·Memᴰ·head, List·Memᴰ·tail}
+use Prim.Native.Nat.{ℕ, _+_, _/_, _≤_, _<_}
+use native.Mathlib.Omega.{arith}
+use borrow.Author.Tests.{lt-ltb, le-ltb}
+use lib.Dec.{ltb}
+use lib.IntN.{ℤ, pos, negsuc}
+use lib.ListN.{length}
+use Rattle.integers.proofs.Linear.{ints}
+use Rattle.integers.proofs.Tests.{Test, passed, failed, ltb?}
+use Rattle.lists.specs.Lists.{_∈_}
+use Rattle.model.specs.Limits.{pairWidth, maxPaths}
+use Rattle.model.specs.Graph.{Graph, NodeRow}
+use Rattle.model.specs.Compare.{Tables, specGraph, implGraph, rootRows}
+use Rattle.model.specs.Checks.{manyPaths}
+use Rattle.reach.specs.Counting.{pathCount, stopped, countsOver}
+use Rattle.reach.specs.Links.{countAt}
+use Rattle.reach.proofs.Reaching.{count-at}
+use Rattle.pairing.specs.Pairs.{pairAt}
+use Rattle.visiting.specs.Visiting.{ofLeaf, byLeaf, manyKey, lowestFrom}
+use Rattle.visiting.proofs.Turns.{by-leaf-none, lowest-nil, lowest-append}
+use Rattle.compare.specs.Inputs.{Inputs}
+use Rattle.compare.specs.Keys.{keyBy, countKey, lowestMany}
+use Rattle.compare.proofs.Rows.{rowsLeft, rows-next, rows-none}
+
+-- two functions that agree on a list have the same images of it
+map-agree : {A B : Type 0} (f g : A → B) (l : List A) → ((x : A) → x ∈ l → f x ≡ g x) → map f l ≡ map g l
+map-agree f g [] h = refl
+map-agree f g (x ∷ l) h = cc (h x (List·Memᴰ·head refl), map-agree f g l (λ y m. h y (List·Memᴰ·tail m)))
+
+-- ---- counts and paths
+
+stopped-test : (n : ℕ) → ltb maxPaths (stopped n) ≡ ltb maxPaths n
+stopped-test n = go (ltb maxPaths n) (ltb? maxPaths n)
+  where
+    go : (b : Bool) → Test (maxPaths < n) (n ≤ maxPaths) b → ltb maxPaths (stopped n) ≡ b
+    go true (passed h) = lt-ltb maxPaths (stopped n) (omega arith)
+    go false (failed h) = le-ltb maxPaths (stopped n) (omega arith)
+
+-- the count of a node row is past the limit exactly where it has too many paths
+counts-many : (g : Graph) (l v : ℤ) (old : List ℕ) → NodeRow g v → ltb maxPaths (countAt (countsOver g l old) v) ≡ manyPaths g v l
+unfolding countAt manyPaths pathCount
+counts-many g l (pos i) old r = ap (ltb maxPaths) (count-at g l old i (omega (arith, ints, r .high))) ∙ stopped-test (pathCount g (pos i) l)
+counts-many g l (negsuc i) old r = absurd (omega (arith, ints, r .low))
+
+-- ---- the leaves one after the other
+
+module _ {t : Tables} (k : Inputs t) (j : ℕ) where
+  -- the keys by the counts of a leaf row are those by paths
+  leaf-keys : (specOld implOld : List ℕ) {s m : ℕ} → pos s ≡ pairAt (t .leafPairs) j .spec → pos m ≡ pairAt (t .leafPairs) j .impl
+      → map (countKey (countsOver (specGraph t) (pos s) specOld) (countsOver (implGraph t) (pos m) implOld) j) (rootRows t)
+      ≡ map (manyKey (specGraph t) (implGraph t)) (ofLeaf (rootRows t) (pairAt (t .leafPairs) j))
+  unfolding countKey keyBy manyKey
+  leaf-keys specOld implOld {s} {m} es em =
+      let leaf = pairAt (t .leafPairs) j in
+      map-agree (countKey (countsOver (specGraph t) (pos s) specOld) (countsOver (implGraph t) (pos m) implOld) j)
+      (λ r. manyKey (specGraph t) (implGraph t) (record { root = r; leaf = leaf })) (rootRows t)
+      (λ r n.
+      let p = k .roots r n in
+      rw (counts-many (specGraph t) (pos s) (r .spec) specOld (p .0 .row), counts-many (implGraph t) (pos m) (r .impl) implOld (p .1 .row), es, em)
+      )
+      ∙ sym (map-map (manyKey (specGraph t) (implGraph t)) (λ r. record { root = r; leaf = leaf }) (rootRows t))
+
+-- the lowest key of the leaf rows before row i is known: with the keys of the leaf rows that are left it is that of all pairs. The counts keep
+-- their sizes
+pub record ManyPassed (t : Tables) (specStart implStart specCounts implCounts : List ℕ) (lowest i : ℕ) : Type 0 where
+  pub specSize : length specCounts ≡ length specStart
+  pub implSize : length implCounts ≡ length implStart
+  pub left : lowestFrom lowest (map (manyKey (specGraph t) (implGraph t)) (byLeaf (rootRows t) (rowsLeft (t .leafPairs) i))) ≡ lowestMany t
+
+-- before the first leaf row
+pub many-start : (t : Tables) (specCounts implCounts : List ℕ) → ManyPassed t specCounts implCounts specCounts implCounts 2000000 0
+unfolding lowestMany
+many-start t specCounts implCounts = record { specSize = refl; implSize = refl; left = refl }
+
+module _ {t : Tables} {specStart implStart specCounts implCounts : List ℕ} {lowest i : ℕ} (p : ManyPassed t specStart implStart specCounts implCounts lowest i) where
+  -- one more leaf row
+  pub many-next : Inputs t → i < length (t .leafPairs) / pairWidth → {s m next : ℕ} {specAfter implAfter : List ℕ}
+      → pos s ≡ pairAt (t .leafPairs) i .spec → pos m ≡ pairAt (t .leafPairs) i .impl
+      → specAfter ≡ countsOver (specGraph t) (pos s) specCounts → length specAfter ≡ length specCounts
+      → implAfter ≡ countsOver (implGraph t) (pos m) implCounts → length implAfter ≡ length implCounts
+      → next ≡ lowestFrom lowest (map (countKey specAfter implAfter i) (rootRows t))
+      → ManyPassed t specStart implStart specAfter implAfter next (i + 1)
+  unfolding byLeaf flatMap
+  many-next k h {s} {m} es em ea ka eb kb en =
+      let keys = map (manyKey (specGraph t) (implGraph t)) in
+      record {
+        specSize = ka ∙ p .specSize;
+        implSize = kb ∙ p .implSize;
+        left = rw (en, ea, eb, leaf-keys k i specCounts implCounts es em) (
+            sym (lowest-append lowest (keys (ofLeaf (rootRows t) (pairAt (t .leafPairs) i))) (keys (byLeaf (rootRows t) (rowsLeft (t .leafPairs) (i + 1)))))
+            ∙ (rw (rows-next (t .leafPairs) i h, map-append) at (p .left))
+            );
+      }
+
+  -- at the end it is that of all pairs
+  pub many-end : length (t .leafPairs) / pairWidth ≤ i → lowest ≡ lowestMany t
+  many-end h = rw (rows-none (t .leafPairs) i h, by-leaf-none, lowest-nil) at (p .left)

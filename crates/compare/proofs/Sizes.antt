@@ -1,0 +1,33 @@
+-- Buffers that keep their sizes.
+use mathlib.Core.Path.{_≡_, refl, _∙_}
+use mathlib.Core.List.{List}
+use Prim.Native.Nat.{ℕ}
+use lib.IntN.{ℤ}
+use lib.ListN.{length}
+
+-- the counts and links of a graph have the sizes that they had
+pub record SweepSizes (c h n c′ h′ n′ : List ℕ) : Type 0 where
+  pub counts : length c′ ≡ length c
+  pub head : length h′ ≡ length h
+  pub next : length n′ ≡ length n
+
+-- the work areas have the sizes that they had
+pub record WorkSizes (s m e s′ m′ e′ : List ℤ) : Type 0 where
+  pub spec : length s′ ≡ length s
+  pub impl : length m′ ≡ length m
+  pub spare : length e′ ≡ length e
+
+-- at first, and from one to the next
+pub sweep-same : {counts head next : List ℕ} → SweepSizes counts head next counts head next
+sweep-same = record { counts = refl; head = refl; next = refl }
+
+pub sweep-on : {counts head next counts′ head′ next′ counts″ head″ next″ : List ℕ} → SweepSizes counts head next counts′ head′ next′
+    → SweepSizes counts′ head′ next′ counts″ head″ next″ → SweepSizes counts head next counts″ head″ next″
+sweep-on p q = record { counts = q .counts ∙ p .counts; head = q .head ∙ p .head; next = q .next ∙ p .next }
+
+pub work-same : {spec impl spare : List ℤ} → WorkSizes spec impl spare spec impl spare
+work-same = record { spec = refl; impl = refl; spare = refl }
+
+pub work-on : {spec impl spare spec′ impl′ spare′ spec″ impl″ spare″ : List ℤ} → WorkSizes spec impl spare spec′ impl′ spare′
+    → WorkSizes spec′ impl′ spare′ spec″ impl″ spare″ → WorkSizes spec impl spare spec″ impl″ spare″
+work-on p q = record { spec = q .spec ∙ p .spec; impl = q .impl ∙ p .impl; spare = q .spare ∙ p .spare }

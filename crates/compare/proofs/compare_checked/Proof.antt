@@ -1,0 +1,50 @@
+-- The lowest key gives a refusal, or no pair has too many paths.
+use Rattle.compare.proofs.Results.{key-refused, key-few, key-full}
+use borrow.Author.Needs.{needs}
+use Rattle.compare.proofs.compare_checked.Statement.{statement}
+use Rattle.compare.proofs.compare_checked.Tie as tie
+
+slice-aggregate-many-of-all : tie.Need-slice-aggregate-many-of-all
+slice-aggregate-many-of-all c = search needs
+
+slice-aggregate-many-of-all-2 : tie.Need-slice-aggregate-many-of-all-2
+slice-aggregate-many-of-all-2 c = search needs
+
+many-of-all-requires : tie.Need-many-of-all-requires
+many-of-all-requires c κs = search needs
+
+mul-if1 : tie.Need-mul-if1
+mul-if1 c = search needs
+
+many-paths-requires : tie.Need-many-paths-requires
+many-paths-requires c κs = search needs
+
+returns : tie.Need-returns
+returns c =
+    let m = c .before .before .before .before in
+    key-refused (m .before .before .before .before .before .pre .inputs) (m .many-of-all .ensures) (c .many-paths .ensures)
+
+compare-pairs-requires : tie.Need-compare-pairs-requires
+compare-pairs-requires c κs =
+    let m = c .before .before .before in
+    let s = m .before .before .before .before .before in
+    (s .pre, key-few (s .pre .inputs) (m .many-of-all .ensures) (c .if1 .left))
+
+returns-2 : tie.Need-returns-2
+returns-2 c =
+    let e = c .before in
+    let m = e .before .before .before in
+    key-full (m .before .before .before .before .before .pre .inputs) (m .many-of-all .ensures) (e .if1 .left) (c .compare-pairs .ensures)
+
+pub compare-checked-spec : {M : Type 1} → statement M
+compare-checked-spec =
+    tie.close
+    (tie.spec
+    slice-aggregate-many-of-all
+    slice-aggregate-many-of-all-2
+    many-of-all-requires
+    mul-if1
+    many-paths-requires
+    returns
+    compare-pairs-requires
+    returns-2)

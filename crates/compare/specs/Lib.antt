@@ -1,0 +1,4 @@
+pub mod Inputs
+pub mod Keys
+pub mod Found
+pub mod Promises

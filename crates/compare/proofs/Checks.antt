@@ -93,8 +93,8 @@ shape-good t width most xs e =
     }
 
 -- rows of pairs that are not refused pair nodes as wanted
-pairs-good : {Spec Impl : ℤ → Type 0} {spec impl : ℤ → Bool} (spec? : (v : ℤ) → Decides (Spec v) (spec v)) (impl? : (v : ℤ) → Decides (Impl v) (impl v)) (t : ℕ) (ps : List ℤ)
-    → checkPairs t spec impl ps ≡ none → (p : Pair) → p ∈ pairRows ps → Spec (p .spec) × Impl (p .impl)
+pairs-good : {Spec Impl : ℤ → Type 0} {spec impl : ℤ → Bool} (spec? : (v : ℤ) → Decides (Spec v) (spec v)) (impl? : (v : ℤ) → Decides (Impl v) (impl v))
+    → (t : ℕ) (ps : List ℤ) → checkPairs t spec impl ps ≡ none → (p : Pair) → p ∈ pairRows ps → Spec (p .spec) × Impl (p .impl)
 pairs-good {Spec} {Impl} spec? impl? t ps e =
     let rows = pairRows ps in
     pairs-paired spec? impl? t rows (subst (λ c. Settled c (flatMap (pairConditions t Spec Impl rows) rows)) e (pairs-settled spec? impl? t rows))

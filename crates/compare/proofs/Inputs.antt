@@ -16,7 +16,8 @@ use Rattle.tables.proofs.Rows.{nodes-length, graph-nodes-length}
 use Rattle.reach.specs.Counting.{Countable}
 use Rattle.pairing.specs.Pairs.{pairAt}
 use Rattle.compare.specs.Inputs.{Inputs, InOrder}
-use Rattle.compare.specs.Keys.{Within, Keyed}
+use Rattle.depth.specs.Passes.{Within}
+use Rattle.compare.specs.Keys.{Keyed}
 use Rattle.compare.proofs.Rows.{row-member}
 
 -- ---- one graph

@@ -12,7 +12,8 @@ use Rattle.reach.specs.Links.{countAt}
 use Rattle.pairing.specs.Pairs.{pairAt}
 use Rattle.visiting.specs.Visiting.{lowestFrom}
 use Rattle.visiting.proofs.Turns.{lowest-nil, lowest-cons}
-use Rattle.compare.specs.Keys.{keyBy, countKey, Within, Keyed}
+use Rattle.depth.specs.Passes.{Within}
+use Rattle.compare.specs.Keys.{keyBy, countKey, Keyed}
 use Rattle.compare.proofs.Rows.{rowsLeft, rows-next, rows-none, row-member}
 
 -- ---- the counts of a pair row

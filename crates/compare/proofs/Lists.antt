@@ -25,7 +25,7 @@ use Rattle.reach.proofs.Values.{values-length}
 use Rattle.reach.proofs.Reaching.{count-at}
 use Rattle.verdicts.specs.Records.{SmallRecords, NormalList, recordsOf}
 use Rattle.verdicts.proofs.Records.{recordsOf-front, stored-normal}
-use Rattle.compare.specs.Inputs.{Listable}
+use Rattle.compare.specs.Inputs.{ListReady}
 use Rattle.compare.specs.Found.{Listed}
 
 -- ---- no path
@@ -42,7 +42,7 @@ list-none g r l e = rw (length-none (paths g r l) e) refl
 
 -- ---- the counts of a swept graph
 
-module _ {ns es : List ℤ} {root : ℕ} {leaf : ℤ} {counts head next : List ℕ} {work e : List ℤ} (p : Listable ns es (pos root) leaf counts head next work e) where
+module _ {ns es : List ℤ} {root : ℕ} {leaf : ℤ} {counts head next : List ℕ} {work e : List ℤ} (p : ListReady ns es (pos root) leaf counts head next work e) where
   -- the root is one of the nodes
   root-below : root < length (graphOf ns es .nodes)
   root-below = omega (arith, ints, p .row .high)
@@ -105,7 +105,7 @@ numbers-count (r ∷ rs) = let h = numbers-count rs in omega arith
 pub listed-records : {records : List Record} {work : List ℤ} {n : ℕ} → Listed records work n → recordsOf work n ≡ records
 listed-records {work} {n} p = recordsOf-front work n (sym (p .count)) (p .numbers)
 
-module _ {ns es : List ℤ} {root leaf : ℕ} {counts head next : List ℕ} {w e : List ℤ} (p : Listable ns es (pos root) (pos leaf) counts head next w e) where
+module _ {ns es : List ℤ} {root leaf : ℕ} {counts head next : List ℕ} {w e : List ℤ} (p : ListReady ns es (pos root) (pos leaf) counts head next w e) where
   -- the bitmapping list in front of a work area is a normal list there
   pub listed-normal : {work : List ℤ} {n : ℕ} → Listed (listOf (graphOf ns es) (pos root) (pos leaf)) work n → NormalList work n
   listed-normal {work} {n} q =

@@ -2,7 +2,7 @@
 use mathlib.Core.Path.{_≡_, refl, sym, ap, _∙_}
 use mathlib.Core.Bool.{Bool, true, false}
 use mathlib.Core.List.{List, [], _∷_, map, map-append, map-map, flatMap, List·Memᴰ·head, List·Memᴰ·tail}
-use Prim.Native.Nat.{ℕ, _+_, _/_, _≤_, _<_}
+use Prim.Native.Nat.{ℕ, _+_, _*_, _/_, _≤_, _<_}
 use native.Mathlib.Omega.{arith}
 use borrow.Author.Tests.{lt-ltb, le-ltb}
 use lib.Dec.{ltb}
@@ -19,7 +19,7 @@ use Rattle.reach.specs.Counting.{pathCount, stopped, countsOver}
 use Rattle.reach.specs.Links.{countAt}
 use Rattle.reach.proofs.Reaching.{count-at}
 use Rattle.pairing.specs.Pairs.{pairAt}
-use Rattle.visiting.specs.Visiting.{ofLeaf, byLeaf, manyKey, lowestFrom}
+use Rattle.visiting.specs.Visiting.{ofLeaf, byLeaf, noKey, manyKey, lowestFrom}
 use Rattle.visiting.proofs.Turns.{by-leaf-none, lowest-nil, lowest-append}
 use Rattle.compare.specs.Inputs.{Inputs}
 use Rattle.compare.specs.Keys.{keyBy, countKey, lowestMany}
@@ -32,6 +32,7 @@ map-agree f g (x ∷ l) h = cc (h x (List·Memᴰ·head refl), map-agree f g l (
 
 -- ---- counts and paths
 
+-- a stopped count is past the limit exactly where the count is
 stopped-test : (n : ℕ) → ltb maxPaths (stopped n) ≡ ltb maxPaths n
 stopped-test n = go (ltb maxPaths n) (ltb? maxPaths n)
   where
@@ -71,7 +72,7 @@ pub record ManyPassed (t : Tables) (specStart implStart specCounts implCounts : 
   pub left : lowestFrom lowest (map (manyKey (specGraph t) (implGraph t)) (byLeaf (rootRows t) (rowsLeft (t .leafPairs) i))) ≡ lowestMany t
 
 -- before the first leaf row
-pub many-start : (t : Tables) (specCounts implCounts : List ℕ) → ManyPassed t specCounts implCounts specCounts implCounts 2000000 0
+pub many-start : (t : Tables) (specCounts implCounts : List ℕ) → ManyPassed t specCounts implCounts specCounts implCounts (2 * noKey) 0
 unfolding lowestMany
 many-start t specCounts implCounts = record { specSize = refl; implSize = refl; left = refl }
 
@@ -86,13 +87,13 @@ module _ {t : Tables} {specStart implStart specCounts implCounts : List ℕ} {lo
   unfolding byLeaf flatMap
   many-next k h {s} {m} es em ea ka eb kb en =
       let keys = map (manyKey (specGraph t) (implGraph t)) in
+      let row = keys (ofLeaf (rootRows t) (pairAt (t .leafPairs) i)) in
+      let rest = keys (byLeaf (rootRows t) (rowsLeft (t .leafPairs) (i + 1))) in
+      let onward = rw (rows-next (t .leafPairs) i h, map-append) at (p .left) in
       record {
         specSize = ka ∙ p .specSize;
         implSize = kb ∙ p .implSize;
-        left = rw (en, ea, eb, leaf-keys k i specCounts implCounts es em) (
-            sym (lowest-append lowest (keys (ofLeaf (rootRows t) (pairAt (t .leafPairs) i))) (keys (byLeaf (rootRows t) (rowsLeft (t .leafPairs) (i + 1)))))
-            ∙ (rw (rows-next (t .leafPairs) i h, map-append) at (p .left))
-            );
+        left = rw (en, ea, eb, leaf-keys k i specCounts implCounts es em) (sym (lowest-append lowest row rest) ∙ onward);
       }
 
   -- at the end it is that of all pairs

@@ -12,16 +12,16 @@ use Rattle.model.proofs.Visits.{visits-in}
 use Rattle.verdicts.specs.Records.{recordsOf}
 use Rattle.pairing.specs.Pairs.{pairAt}
 use Rattle.compare.specs.declared.Found.{Found}
-use Rattle.compare.specs.Inputs.{visitAt, findingAt, FewPaths, Listable, LeafReady}
+use Rattle.compare.specs.Inputs.{visitAt, findingAt, FewPaths, ListReady, LeafReady}
 use Rattle.compare.specs.Found.{Listed, IsFound, IsFinding}
 use Rattle.compare.proofs.Rows.{row-member}
 use Rattle.compare.proofs.Inputs.{row-roots}
 use Rattle.compare.proofs.Lists.{listed-records}
 
 -- the nodes of a pair as the code has them
-pub listable-at : {ns es : List ℤ} {root leaf : ℤ} {counts head next : List ℕ} {work spare : List ℤ} {r l : ℕ} → pos r ≡ root → pos l ≡ leaf
-    → Listable ns es root leaf counts head next work spare → Listable ns es (pos r) (pos l) counts head next work spare
-listable-at e f p = rw (e, f) p
+pub list-ready-at : {ns es : List ℤ} {root leaf : ℤ} {counts head next : List ℕ} {work spare : List ℤ} {r l : ℕ} → pos r ≡ root → pos l ≡ leaf
+    → ListReady ns es root leaf counts head next work spare → ListReady ns es (pos r) (pos l) counts head next work spare
+list-ready-at e f p = rw (e, f) p
 
 module _ {t : Tables} {j : ℕ} {sc sh sx mc mh mx : List ℕ} {sw mw e : List ℤ} (k : LeafReady t j sc sh sx mc mh mx sw mw e) {i : ℕ} (h : i < length (t .rootPairs) / pairWidth) where
   -- a pair has few paths in both graphs
@@ -30,14 +30,14 @@ module _ {t : Tables} {j : ℕ} {sc sh sx mc mh mx : List ℕ} {sw mw e : List �
   pair-few = k .few (visitAt t i j) (visits-in (rootRows t) (leafRows t) .1 (row-member (t .rootPairs) i h, row-member (t .leafPairs) j (k .row)))
 
   -- the list of the specification can be made
-  pub spec-listable : Listable (t .specNodes) (t .specEdges) (pairAt (t .rootPairs) i .spec) (pairAt (t .leafPairs) j .spec) sc sh sx sw e
-  spec-listable =
+  pub spec-list-ready : ListReady (t .specNodes) (t .specEdges) (pairAt (t .rootPairs) i .spec) (pairAt (t .leafPairs) j .spec) sc sh sx sw e
+  spec-list-ready =
       record { swept = k .swept .spec; row = row-roots (k .inputs) i h .0 .row; few = pair-few .0; workRoom = k .specRoom; spareRoom = k .spareRoom }
 
   -- and that of the implementation, in any spare area with room
-  pub impl-listable : (after : List ℤ) → 3 * maxPaths ≤ length after
-      → Listable (t .implNodes) (t .implEdges) (pairAt (t .rootPairs) i .impl) (pairAt (t .leafPairs) j .impl) mc mh mx mw after
-  impl-listable after room =
+  pub impl-list-ready : (after : List ℤ) → 3 * maxPaths ≤ length after
+      → ListReady (t .implNodes) (t .implEdges) (pairAt (t .rootPairs) i .impl) (pairAt (t .leafPairs) j .impl) mc mh mx mw after
+  impl-list-ready after room =
       record { swept = k .swept .impl; row = row-roots (k .inputs) i h .1 .row; few = pair-few .1; workRoom = k .implRoom; spareRoom = room }
 
 -- what is found of the two lists is the finding of the pair

@@ -96,7 +96,7 @@ pub record BothSwept (t : Tables) (j : ℕ) (specCounts specHead specNext implCo
   pub impl : Swept (t .implNodes) (t .implEdges) (pairAt (t .leafPairs) j .impl) implCounts implHead implNext
 
 -- what a list along the links starts from: a swept graph, a root with few paths, and room for a record a path
-pub record Listable (ns es : List ℤ) (root leaf : ℤ) (counts head next : List ℕ) (work spare : List ℤ) : Type 0 where
+pub record ListReady (ns es : List ℤ) (root leaf : ℤ) (counts head next : List ℕ) (work spare : List ℤ) : Type 0 where
   pub swept : Swept ns es leaf counts head next
   pub row : NodeRow (graphOf ns es) root
   pub few : FewPaths (graphOf ns es) root leaf

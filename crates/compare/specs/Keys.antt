@@ -3,13 +3,13 @@ use mathlib.Core.Bool.{cond}
 use mathlib.Core.List.{List, map}
 use Prim.Native.Nat.{ℕ, _+_, _*_, _≤_, _<_}
 use lib.Dec.{ltb}
-use lib.IntN.{ℤ, pos}
-use lib.Signed.{_≤ℤ_, _<ℤ_}
+use lib.IntN.{ℤ}
 use lib.ListN.{length}
 use Rattle.lists.specs.Lists.{_∈_}
 use Rattle.model.specs.Limits.{pairWidth, maxPaths, maxPairs, rootStride}
 use Rattle.model.specs.Rows.{Pair, pairRows}
 use Rattle.model.specs.Compare.{Tables, specGraph, implGraph, rootRows, leafRows}
+use Rattle.depth.specs.Passes.{Within}
 use Rattle.reach.specs.Links.{countAt}
 use Rattle.visiting.specs.Visiting.{byLeaf, noKey, manyKey, lowestKey}
 
@@ -22,12 +22,7 @@ keyBy place spec impl = cond (ltb maxPaths spec) (2 * place) (cond (ltb maxPaths
 unfoldable pub countKey : List ℕ → List ℕ → ℕ → Pair → ℕ
 countKey specCounts implCounts l r = keyBy (r .row * rootStride + l) (countAt specCounts (r .spec)) (countAt implCounts (r .impl))
 
--- v is a place of a list of this length
-pub record Within (count : ℕ) (v : ℤ) : Type 0 where
-  pub low : pos 0 ≤ℤ v
-  pub high : v <ℤ pos count
-
--- what the keys of a leaf row are computed from: few rows, and a count for each root
+-- what the keys of a leaf row are computed from: few rows, and a count for each root in both graphs
 pub record Keyed (rootPairs : List ℤ) (leafRow : ℕ) (specCounts implCounts : List ℕ) : Type 0 where
   pub rows : length rootPairs ≤ pairWidth * maxPairs
   pub row : leafRow < maxPairs

@@ -1,7 +1,7 @@
 // The comparison of two graphs. Pairs are worked through leaf row by leaf row, since one sweep of a graph serves all roots of a leaf; keys keep
 // their places in visiting order.
 ghost use mathlib.Core.Path.{_≡_};
-ghost use mathlib.Core.List.{List, map};
+ghost use mathlib.Core.List.{map};
 ghost use mathlib.Core.Option.{some};
 ghost use Prim.Native.Nat.{_+_, _*_, _/_, _≤_, _<_, min};
 ghost use lib.IntN.{pos};
@@ -18,7 +18,7 @@ ghost use Rattle.reach.specs.Links.{Linked};
 ghost use Rattle.pairing.specs.Pairs.{pairAt, tablesOf};
 ghost use Rattle.visiting.specs.Visiting.{noKey, withVerdict, resultFrom, lowestFrom, refusalFrom};
 ghost use Rattle.verdicts.specs.Records.{recordsOf, NormalList};
-ghost use Rattle.compare.specs.Inputs.{Ordered, findingAt, AllFew, Sweepable, Listable, LeafReady, AllReady, pathsAnswer, InputsChecked};
+ghost use Rattle.compare.specs.Inputs.{Ordered, findingAt, AllFew, Sweepable, ListReady, LeafReady, AllReady, pathsAnswer, InputsChecked};
 ghost use Rattle.compare.specs.Keys.{keyBy, countKey, Keyed, lowestMany};
 ghost use Rattle.compare.specs.Found.{Listed, IsFound, IsFinding, asTotals, AtMost, placed, withCount, LeafTotals, AllTotals, wholeVerdict};
 ghost use Rattle.compare.specs.Promises.{ComparePromise};
@@ -241,7 +241,7 @@ fn list_swept(
     work: &mut [i64],
     spare: &mut [i64],
 ) -> usize
-    requires { ⌜ Listable (now nodes) (now edges) (pos root) (pos leaf) (now counts) (now head) (now next) (now work) (now spare) ⌝ }
+    requires { ⌜ ListReady (now nodes) (now edges) (pos root) (pos leaf) (now counts) (now head) (now next) (now work) (now spare) ⌝ }
     ensures { λ r. ⌜ Listed (listOf (graphOf (now (nodes .entry)) (now (edges .entry))) (pos root) (pos leaf)) (now (work .exit)) r ⌝ }
 {
     if counts[root] == 0 {

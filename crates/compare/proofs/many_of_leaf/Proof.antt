@@ -6,7 +6,8 @@ use native.Mathlib.Omega.{arith}
 use borrow.Author.Needs.{needs}
 use lib.ListN.{length}
 use Rattle.pairing.specs.Pairs.{pairAt}
-use Rattle.compare.specs.Keys.{Within, Keyed}
+use Rattle.depth.specs.Passes.{Within}
+use Rattle.compare.specs.Keys.{Keyed}
 use Rattle.compare.proofs.Keys.{KeysPassed, keyed-within, within-index, keys-next, keys-end}
 use Rattle.compare.proofs.many_of_leaf.Statement.{statement}
 use Rattle.compare.proofs.many_of_leaf.Tie as tie

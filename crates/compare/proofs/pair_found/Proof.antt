@@ -4,10 +4,10 @@ use lib.IntN.{pos}
 use Rattle.model.specs.Paths.{Root, Leaf}
 use Rattle.model.specs.Compare.{Tables, specGraph, implGraph}
 use Rattle.pairing.specs.Pairs.{pairAt, tablesOf}
-use Rattle.compare.specs.Inputs.{Listable}
+use Rattle.compare.specs.Inputs.{ListReady}
 use Rattle.compare.proofs.Inputs.{row-roots, row-leaves}
 use Rattle.compare.proofs.Lists.{listed-normal}
-use Rattle.compare.proofs.Pairs.{listable-at, spec-listable, impl-listable, pair-finding}
+use Rattle.compare.proofs.Pairs.{list-ready-at, spec-list-ready, impl-list-ready, pair-finding}
 use borrow.Author.Needs.{needs}
 use Rattle.compare.proofs.pair_found.Statement.{statement}
 use Rattle.compare.proofs.pair_found.Tie as tie
@@ -39,21 +39,21 @@ leaves s = row-leaves (s .pre .0 .inputs) (s .args .leaf-row) (s .pre .0 .row)
 
 -- the list of the specification can be made
 spec-ready : (c : tie.After-spec-node2) → let a = start (c .before .before) .args in
-    Listable (a .spec-nodes .now) (a .spec-edges .now) (pos (c .before .spec-node .result)) (pos (c .spec-node2 .result))
+    ListReady (a .spec-nodes .now) (a .spec-edges .now) (pos (c .before .spec-node .result)) (pos (c .spec-node2 .result))
     (a .spec-counts .now) (a .spec-head .now) (a .spec-next .now) (a .spec-work .now) (a .spare .now)
 spec-ready c =
     let s = start (c .before .before) in
-    listable-at (c .before .spec-node .ensures) (c .spec-node2 .ensures) (spec-listable (s .pre .0) (s .pre .1))
+    list-ready-at (c .before .spec-node .ensures) (c .spec-node2 .ensures) (spec-list-ready (s .pre .0) (s .pre .1))
 
 -- and that of the implementation, in the spare area as the first list leaves it
 impl-ready : (c : tie.After-impl-node2) → let l = first c in let a = start (specNodes l .before .before) .args in
-    Listable (a .impl-nodes .now) (a .impl-edges .now) (pos (c .before .impl-node .result)) (pos (c .impl-node2 .result))
+    ListReady (a .impl-nodes .now) (a .impl-edges .now) (pos (c .before .impl-node .result)) (pos (c .impl-node2 .result))
     (a .impl-counts .now) (a .impl-head .now) (a .impl-next .now) (a .impl-work .now) (l .list-swept .last .1 .1 .1 .1 .1 .1 .1 .1 .0)
 impl-ready c =
     let l = first c in
     let s = start (specNodes l .before .before) in
-    listable-at (c .before .impl-node .ensures) (c .impl-node2 .ensures)
-    (impl-listable (s .pre .0) (s .pre .1) (l .list-swept .last .1 .1 .1 .1 .1 .1 .1 .1 .0)
+    list-ready-at (c .before .impl-node .ensures) (c .impl-node2 .ensures)
+    (impl-list-ready (s .pre .0) (s .pre .1) (l .list-swept .last .1 .1 .1 .1 .1 .1 .1 .1 .0)
     (omega (arith, s .pre .0 .spareRoom, l .list-swept .kept .1 .1 .1 .1 .1 .1 .1 .1 .0)))
 
 spec-node-requires : tie.Need-spec-node-requires

@@ -150,6 +150,9 @@ callReadings =
     -- a list of one record needs three numbers, and past them the buffer keeps its own
     listed (pos 0 ∷ pos 0 ∷ pos 16 ∷ pos 8 ∷ pos 2 ∷ pos 0 ∷ pos 16 ∷ pos 8 ∷ []) (pos 0 ∷ pos 1 ∷ pos 0 ∷ []) (pos 0) (pos 1) (pos 9 ∷ pos 9 ∷ pos 9 ∷ pos 9 ∷ []) (full 1) (pos 0 ∷ pos 127 ∷ pos 0 ∷ pos 9 ∷ []) ∷
     listed (pos 0 ∷ pos 0 ∷ pos 16 ∷ pos 8 ∷ pos 2 ∷ pos 0 ∷ pos 16 ∷ pos 8 ∷ []) (pos 0 ∷ pos 1 ∷ pos 0 ∷ []) (pos 0) (pos 1) (pos 9 ∷ pos 9 ∷ []) (refusal 11 7 0) (pos 9 ∷ pos 9 ∷ []) ∷
+    -- clipped paths count: 1,024 of them that no bit lives on give no record, 1,025 give 10
+    listed (pos 0 ∷ pos 0 ∷ pos 16 ∷ pos 8 ∷ pos 2 ∷ pos 0 ∷ pos 16 ∷ pos 8 ∷ []) (times 1024 (pos 0 ∷ pos 1 ∷ pos 64 ∷ [])) (pos 0) (pos 1) [] (full 0) [] ∷
+    listed (pos 0 ∷ pos 0 ∷ pos 16 ∷ pos 8 ∷ pos 2 ∷ pos 0 ∷ pos 16 ∷ pos 8 ∷ []) (times 1025 (pos 0 ∷ pos 1 ∷ pos 64 ∷ [])) (pos 0) (pos 1) [] (refusal 10 1 0) [] ∷
     -- 1,001 leaf rows and no root row: the shape comes first
     compares (record { specNodes = (pos 0 ∷ pos 0 ∷ pos 16 ∷ pos 8 ∷ pos 2 ∷ pos 0 ∷ pos 16 ∷ pos 8 ∷ []); specEdges = (pos 0 ∷ pos 1 ∷ pos 0 ∷ []); implNodes = (pos 0 ∷ pos 0 ∷ pos 16 ∷ pos 8 ∷ pos 2 ∷ pos 0 ∷ pos 16 ∷ pos 8 ∷ []); implEdges = (pos 0 ∷ pos 1 ∷ pos 0 ∷ []); rootPairs = []; leafPairs = (times 1001 (pos 1 ∷ pos 1 ∷ [])) }) (refusal 1 5 0) ∷
     -- no root pair; no leaf pair

@@ -36,7 +36,8 @@ use Rattle.depth.proofs.Order.{order-length}
 use Rattle.depth.proofs.Reading.{order-front}
 use Rattle.pairing.specs.Pairs.{checkPairs, checkSizes, checkPairingRows}
 use Rattle.pairing.proofs.Pairing.{check-pairing-rows}
-use Rattle.compare.specs.Inputs.{checkInputs, checkPaths, Inputs, InOrder, AllFew, InputsChecked}
+use Rattle.compare.specs.Inputs.{checkInputs, checkPaths, InputsChecked}
+use Rattle.pairs.specs.Inputs.{Inputs, InOrder, AllFew}
 
 -- ---- one check after the other
 

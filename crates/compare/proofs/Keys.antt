@@ -6,15 +6,21 @@ use native.Mathlib.Omega.{arith}
 use lib.IntN.{ℤ, pos}
 use lib.ListN.{length, getD}
 use Rattle.integers.proofs.Linear.{ints}
-use Rattle.model.specs.Limits.{pairWidth, rootStride}
+use Rattle.model.specs.Limits.{pairWidth, maxNodes, rootStride}
 use Rattle.model.specs.Rows.{pairRows}
+use Rattle.model.specs.Graph.{graphOf, NodeRow}
+use Rattle.model.specs.Taken.{TakenTables}
+use Rattle.model.specs.Compare.{Tables}
+use Rattle.tables.proofs.Rows.{graph-nodes-length}
 use Rattle.reach.specs.Links.{countAt}
 use Rattle.pairing.specs.Pairs.{pairAt}
 use Rattle.visiting.specs.Visiting.{lowestFrom}
 use Rattle.visiting.proofs.Turns.{lowest-nil, lowest-cons}
 use Rattle.depth.specs.Passes.{Within}
+use Rattle.pairs.specs.Inputs.{Inputs}
+use Rattle.pairs.proofs.Inputs.{leaf-row-below}
 use Rattle.compare.specs.Keys.{keyBy, countKey, Keyed}
-use Rattle.compare.proofs.Rows.{rowsLeft, rows-next, rows-none, row-member}
+use Rattle.pairs.proofs.Rows.{rowsLeft, rows-next, rows-none, row-member}
 
 -- ---- the counts of a pair row
 
@@ -26,6 +32,20 @@ count-index counts v i e = ap (countAt counts) (sym e)
 -- a place within the counts, as an index
 pub within-index : {count : ℕ} {v : ℤ} (i : ℕ) → Within count v → pos i ≡ v → i < count
 within-index i w e = omega (arith, ints, w .high)
+
+-- a node row of a taken graph is a place of a list that has room for all nodes
+node-within : {ns es : List ℤ} {v : ℤ} (room : ℕ) → TakenTables ns es → NodeRow (graphOf ns es) v → maxNodes ≤ room → Within room v
+node-within {ns} {es} room k r h = record { low = r .low; high = omega (arith, ints, r .high, k .nodes .few, graph-nodes-length ns es) }
+
+-- the keys of a leaf row can be computed from counts with room for all nodes
+pub row-keyed : {t : Tables} → Inputs t → (i : ℕ) (specCounts implCounts : List ℕ) → i < length (t .leafPairs) / pairWidth → maxNodes ≤ length specCounts → maxNodes ≤ length implCounts
+    → Keyed (t .rootPairs) i specCounts implCounts
+row-keyed k i specCounts implCounts h s m = record {
+  rows = k .rootShape .few;
+  row = leaf-row-below k i h;
+  counted = λ p n. let r = k .roots p n in
+      (node-within (length specCounts) (k .spec) (r .0 .row) s, node-within (length implCounts) (k .impl) (r .1 .row) m);
+}
 
 -- ---- the rows one after the other
 

@@ -1,12 +1,4 @@
-pub mod Rows
 pub mod Keys
-pub mod Inputs
 pub mod Many
-pub mod Lists
-pub mod Sweeps
-pub mod Adding
-pub mod Sizes
-pub mod Ready
-pub mod Pairs
 pub mod Checks
 pub mod Results

@@ -1,5 +1,5 @@
 -- The lowest key of refusal 10, leaf row by leaf row: the counts of a leaf give the keys that its paths have.
-use mathlib.Core.Path.{_≡_, refl, sym, ap, _∙_}
+use mathlib.Core.Path.{_≡_, refl, sym, ap, subst, _∙_}
 use mathlib.Core.Bool.{Bool, true, false}
 use mathlib.Core.List.{List, [], _∷_, map, map-append, map-map, flatMap, List·Memᴰ·head, List·Memᴰ·tail}
 use Prim.Native.Nat.{ℕ, _+_, _*_, _/_, _≤_, _<_}
@@ -11,19 +11,22 @@ use lib.ListN.{length}
 use Rattle.integers.proofs.Linear.{ints}
 use Rattle.integers.proofs.Tests.{Test, passed, failed, ltb?}
 use Rattle.lists.specs.Lists.{_∈_}
-use Rattle.model.specs.Limits.{pairWidth, maxPaths}
-use Rattle.model.specs.Graph.{Graph, NodeRow}
+use Rattle.model.specs.Limits.{pairWidth, maxNodes, maxPaths}
+use Rattle.model.specs.Graph.{Graph, graphOf, NodeRow}
+use Rattle.model.specs.Paths.{Leaf}
+use Rattle.model.specs.Taken.{TakenTables}
 use Rattle.model.specs.Compare.{Tables, specGraph, implGraph, rootRows}
 use Rattle.model.specs.Checks.{manyPaths}
-use Rattle.reach.specs.Counting.{pathCount, stopped, countsOver}
+use Rattle.reach.specs.Counting.{pathCount, stopped, Countable, countsOver}
 use Rattle.reach.specs.Links.{countAt}
 use Rattle.reach.proofs.Reaching.{count-at}
 use Rattle.pairing.specs.Pairs.{pairAt}
 use Rattle.visiting.specs.Visiting.{ofLeaf, byLeaf, noKey, manyKey, lowestFrom}
 use Rattle.visiting.proofs.Turns.{by-leaf-none, lowest-nil, lowest-append}
-use Rattle.compare.specs.Inputs.{Inputs}
+use Rattle.pairs.specs.Inputs.{Inputs, InOrder}
+use Rattle.pairs.proofs.Inputs.{nodes-few}
 use Rattle.compare.specs.Keys.{keyBy, countKey, lowestMany}
-use Rattle.compare.proofs.Rows.{rowsLeft, rows-next, rows-none}
+use Rattle.pairs.proofs.Rows.{rowsLeft, rows-next, rows-none}
 
 -- two functions that agree on a list have the same images of it
 map-agree : {A B : Type 0} (f g : A → B) (l : List A) → ((x : A) → x ∈ l → f x ≡ g x) → map f l ≡ map g l
@@ -47,6 +50,12 @@ counts-many g l (pos i) old r = ap (ltb maxPaths) (count-at g l old i (omega (ar
 counts-many g l (negsuc i) old r = absurd (omega (arith, ints, r .low))
 
 -- ---- the leaves one after the other
+
+-- what a count of the paths to a leaf starts from
+pub leaf-countable : {ns es : List ℤ} {order : List ℕ} (counts : List ℕ) {l : ℤ} (leaf : ℕ) → TakenTables ns es → InOrder es order
+    → Leaf (graphOf ns es) l → pos leaf ≡ l → maxNodes ≤ length counts → Countable ns es order leaf counts
+leaf-countable {ns} {es} counts leaf k o f e h =
+    record { tables = k; block = subst (Leaf (graphOf ns es)) (sym e) f; backward = o; room = omega (arith, nodes-few k, h) }
 
 module _ {t : Tables} (k : Inputs t) (j : ℕ) where
   -- the keys by the counts of a leaf row are those by paths

@@ -20,12 +20,13 @@ use Rattle.visiting.specs.Visiting.{byLeaf, noKey, resultFrom, manyKey, lowestF
 use Rattle.visiting.proofs.Turns.{lowest-nil, lowest-cons}
 use Rattle.visiting.proofs.Result.{result-by-leaf}
 use Rattle.visiting.proofs.Refusal.{refusal-by-leaf}
-use Rattle.compare.specs.declared.Totals.{Totals}
-use Rattle.compare.specs.Inputs.{checkInputs, checkPaths, pathsAnswer, Inputs, AllFew, InputsChecked}
+use Rattle.survey.specs.declared.Totals.{Totals}
+use Rattle.compare.specs.Inputs.{checkInputs, checkPaths, pathsAnswer, InputsChecked}
+use Rattle.pairs.specs.Inputs.{Inputs, AllFew}
 use Rattle.compare.specs.Keys.{lowestMany}
-use Rattle.compare.specs.Found.{asTotals, AllTotals}
+use Rattle.survey.specs.Found.{asTotals, AllTotals}
 use Rattle.compare.specs.Promises.{ComparePromise}
-use Rattle.compare.proofs.Rows.{rows-few}
+use Rattle.pairs.proofs.Rows.{rows-few}
 use Rattle.compare.proofs.Checks.{then-none, full-none, answer-stops, answer-on, tables-checked, none-inputs, paths-few}
 
 -- ---- the full result

@@ -1,4 +1,3 @@
 pub mod Inputs
 pub mod Keys
-pub mod Found
 pub mod Promises

@@ -7,7 +7,7 @@ use mir.Syntax.{w64}
 use mir.Val.{SFits}
 use mir.Facts.{toZ-ofZ, toZ-pos}
 use Rattle.visiting.specs.Visiting.{noKey, placeFrom, resultFrom}
-use Rattle.compare.specs.Found.{wholeVerdict}
+use Rattle.survey.specs.Found.{wholeVerdict}
 use borrow.Author.Needs.{needs}
 use Rattle.compare.proofs.comparison_of.Statement.{statement}
 use Rattle.compare.proofs.comparison_of.Tie as tie

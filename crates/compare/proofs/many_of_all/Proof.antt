@@ -5,8 +5,10 @@ use native.Mathlib.Omega.{arith}
 use Rattle.model.specs.Graph.{graphOf}
 use Rattle.model.specs.Paths.{Leaf}
 use Rattle.pairing.specs.Pairs.{pairAt, tablesOf}
-use Rattle.compare.specs.Inputs.{Ordered}
-use Rattle.compare.proofs.Inputs.{row-leaves, leaf-row-below, leaf-countable, row-keyed}
+use Rattle.pairs.specs.Inputs.{Ordered}
+use Rattle.pairs.proofs.Inputs.{row-leaves, leaf-row-below}
+use Rattle.compare.proofs.Many.{leaf-countable}
+use Rattle.compare.proofs.Keys.{row-keyed}
 use Rattle.compare.proofs.Many.{ManyPassed, many-start, many-next, many-end}
 use Rattle.compare.proofs.many_of_all.Statement.{statement}
 use Rattle.compare.proofs.many_of_all.Tie as tie

@@ -1,6 +1,6 @@
 -- Each return is one case of wholeVerdict.
 use borrow.Author.Tests.{eq-eqb, ne-eqb}
-use Rattle.compare.specs.Found.{wholeVerdict}
+use Rattle.survey.specs.Found.{wholeVerdict}
 use Rattle.compare.proofs.whole_verdict.Statement.{statement}
 use Rattle.compare.proofs.whole_verdict.Tie as tie
 

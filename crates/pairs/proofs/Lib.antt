@@ -1,0 +1,5 @@
+pub mod Rows
+pub mod Inputs
+pub mod Lists
+pub mod Sweeps
+pub mod Pairs

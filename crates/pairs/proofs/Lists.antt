@@ -1,0 +1,116 @@
+-- The list of a pair along a swept graph: none where there is no path, its records are small, and what stands in front of a work area is a normal
+-- list.
+use mathlib.Core.Path.{_≡_, refl, sym, ap, _∙_}
+use mathlib.Core.List.{List, [], _∷_}
+use Prim.Native.Nat.{ℕ, _*_, _≤_, _<_, _^_}
+use native.Mathlib.Omega.{arith}
+use lib.IntN.{ℤ, pos, _-ℤ_}
+use lib.Signed.{_≤ℤ_}
+use lib.ListN.{length, getD, drop, length-append, length-take}
+use Rattle.integers.proofs.Linear.{ints, sum, diff, neg}
+use Rattle.lists.specs.Lists.{keep}
+use Rattle.model.specs.Graph.{Graph, graphOf, NodeRow, node, firstBit}
+use Rattle.model.specs.Walk.{Reached}
+use Rattle.model.specs.Paths.{Leaf}
+use Rattle.model.specs.Bitmapping.{Record}
+use Rattle.model.specs.Quantities.{Movable}
+use Rattle.model.specs.Runs.{paths, runs, normal, listOf}
+use Rattle.model.specs.Calls.{numbersOf}
+use Rattle.model.specs.Taken.{Taken}
+use Rattle.model.proofs.Taken.{taken-fit, taken-address, taken-node-full}
+use Rattle.model.proofs.Walks.{reached-address, reached-leaf-bit}
+use Rattle.model.proofs.ListLaw.{list-of-reached}
+use Rattle.reach.specs.Counting.{pathCount, stopped, countsOf, countsOver, valuesOf}
+use Rattle.reach.proofs.Values.{values-length}
+use Rattle.reach.proofs.Reaching.{count-at}
+use Rattle.verdicts.specs.Records.{SmallRecords, NormalList, recordsOf}
+use Rattle.verdicts.proofs.Records.{recordsOf-front, stored-normal}
+use Rattle.pairs.specs.Inputs.{ListReady}
+use Rattle.pairs.specs.Found.{Listed}
+
+-- ---- no path
+
+-- a list without an element
+length-none : {A : Type 0} (l : List A) → length l ≡ 0 → l ≡ []
+length-none [] e = refl
+length-none (x ∷ l) e = absurd (omega arith)
+
+-- where no path leads to the leaf, the list is empty
+pub list-none : (g : Graph) (r l : ℤ) → pathCount g r l ≡ 0 → listOf g r l ≡ []
+unfolding pathCount listOf runs keep normal
+list-none g r l e = rw (length-none (paths g r l) e) refl
+
+-- ---- the counts of a swept graph
+
+module _ {ns es : List ℤ} {root : ℕ} {leaf : ℤ} {counts head next : List ℕ} {work e : List ℤ} (p : ListReady ns es (pos root) leaf counts head next work e) where
+  -- the root is one of the nodes
+  root-below : root < length (graphOf ns es .nodes)
+  root-below = omega (arith, ints, p .row .high)
+
+  -- there is a count for the root
+  pub root-counted : root < length counts
+  unfolding countsOver countsOf
+  root-counted =
+      let g = graphOf ns es in
+      let n = length (g .nodes) in
+      let values : ℕ → ℕ = λ v. stopped (pathCount g (pos v) leaf) in
+      let size = ap length (p .swept .counted) ∙ length-append (valuesOf values n) (drop n (p .swept .held)) in
+      omega (arith, size, values-length values n, root-below)
+
+  -- where it is 0, the list is empty
+  pub none-listed : getD counts root 0 ≡ 0 → Listed (listOf (graphOf ns es) (pos root) leaf) work 0
+  unfolding numbersOf
+  none-listed z =
+      let g = graphOf ns es in
+      let count = ap (λ (c : List ℕ). getD c root 0) (p .swept .counted) ∙ count-at g leaf (p .swept .held) root root-below in
+      rw (list-none g (pos root) leaf (omega (arith, z, count))) (record { count = refl; numbers = refl })
+
+-- ---- the records of a list
+
+module _ {g : Graph} {r l : ℤ} (k : Taken g) (root : NodeRow g r) (leaf : Leaf g l) where
+  -- a root bit that is reached, and its leaf bit, are below 2^55
+  reached-small : {x y d : ℤ} → Reached g r l x y → x -ℤ y ≡ d → Movable x d
+  reached-small {x} {y} {d} h e =
+      let at = taken-address k root (reached-address h) in
+      let first = firstBit (node g l) in
+      let stands = reached-leaf-bit h in
+      let bit = taken-address k (leaf .row) stands in
+      let zero = taken-address k (leaf .row) (record { above = omega (arith, ints); below = taken-node-full k (leaf .row) }) in
+      record {
+        low = at .0;
+        high = omega (arith, ints, at .1);
+        offsetLow = omega (arith, ints, at, bit, zero, e, diff x y, sum y first, neg (pos (2 ^ 62)));
+        offsetHigh = omega (arith, ints, at, bit, stands .above, e, diff x y, sum y first);
+      }
+
+  -- the records of the bitmapping list are small
+  pub list-small : SmallRecords (listOf g r l)
+  list-small s m =
+      let list = list-of-reached (taken-fit k leaf) in
+      let full = list .full s m in
+      let at : (x : ℤ) → s .first ≤ℤ x → x ≤ℤ s .last → Movable x (s .displacement) = λ x a b.
+      let e : x -ℤ (x -ℤ s .displacement) ≡ s .displacement = omega (arith, ints, diff x (x -ℤ s .displacement), diff x (s .displacement)) in
+      reached-small (list .sound s m x (x -ℤ s .displacement) (record { above = a; below = b; apart = e })) e in
+      record { first = at (s .first) (omega (arith, ints)) full; last = at (s .last) full (omega (arith, ints)) }
+
+-- ---- lists in work areas
+
+-- three numbers a record
+numbers-count : (rs : List Record) → length (numbersOf rs) ≡ 3 * length rs
+unfolding numbersOf
+numbers-count [] = refl
+numbers-count (r ∷ rs) = let h = numbers-count rs in omega arith
+
+-- the records of a list in front of a work area are read from there
+pub listed-records : {records : List Record} {work : List ℤ} {n : ℕ} → Listed records work n → recordsOf work n ≡ records
+listed-records {work} {n} p = recordsOf-front work n (sym (p .count)) (p .numbers)
+
+module _ {ns es : List ℤ} {root leaf : ℕ} {counts head next : List ℕ} {w e : List ℤ} (p : ListReady ns es (pos root) (pos leaf) counts head next w e) where
+  -- the bitmapping list in front of a work area is a normal list there
+  pub listed-normal : {work : List ℤ} {n : ℕ} → Listed (listOf (graphOf ns es) (pos root) (pos leaf)) work n → NormalList work n
+  listed-normal {work} {n} q =
+      let k = p .swept .linked in
+      let list = listOf (graphOf ns es) (pos root) (pos leaf) in
+      let within : 3 * n ≤ length work = omega (arith, ap length (q .numbers), length-take (3 * n) work, numbers-count list, q .count) in
+      stored-normal work n within (sym (q .count)) (q .numbers) (list-of-reached (taken-fit (k .tables .graph) (k .block)))
+      (list-small (k .tables .graph) (p .row) (k .block))

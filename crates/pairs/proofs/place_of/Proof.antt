@@ -1,0 +1,16 @@
+-- The rows are few, so that the place fits.
+use native.Mathlib.Omega.{arith}
+use Rattle.pairs.proofs.place_of.Statement.{statement}
+use Rattle.pairs.proofs.place_of.Tie as tie
+
+mul-result : tie.Need-mul-result
+mul-result c = omega arith
+
+add-result : tie.Need-add-result
+add-result c = omega arith
+
+returns : tie.Need-returns
+returns c = omega arith
+
+pub place-of-spec : {M : Type 1} → statement M
+place-of-spec = tie.close (tie.spec mul-result add-result returns)

@@ -1,0 +1,35 @@
+-- The paths are counted, and the edges linked by the counts.
+use Rattle.pairs.proofs.Sweeps.{sweep-countable, sweep-linkable}
+use borrow.Author.Needs.{needs}
+use Rattle.pairs.proofs.sweep.Statement.{statement}
+use Rattle.pairs.proofs.sweep.Tie as tie
+
+count-paths-requires : tie.Need-count-paths-requires
+count-paths-requires c κs = sweep-countable (c .before .before .before .before .before .pre)
+
+link-edges-requires : tie.Need-link-edges-requires
+link-edges-requires c κs =
+    let n = c .before .before .before .before .before in sweep-linkable (n .before .before .before .before .before .before .pre) (n .count-paths .kept .1 .1 .1 .1 .0)
+
+same-length : tie.Need-same-length
+same-length c = search needs
+
+same-length-2 : tie.Need-same-length-2
+same-length-2 c = search needs
+
+same-length-3 : tie.Need-same-length-3
+same-length-3 c = search needs
+
+returns : tie.Need-returns
+returns c = (c .before .before .before .before .before .before .before .before .before .before .count-paths .ensures, c .before .before .before .before .link-edges .ensures)
+
+pub sweep-spec : {M : Type 1} → statement M
+sweep-spec =
+    tie.close
+    (tie.spec
+    count-paths-requires
+    link-edges-requires
+    same-length
+    same-length-2
+    same-length-3
+    returns)

@@ -1,0 +1,177 @@
+// One pair of a comparison: both graphs are swept for the leaves of its leaf row, the two lists are made along the links, and they are judged.
+ghost use mathlib.Core.Path.{_≡_};
+ghost use Prim.Native.Nat.{_+_, _*_, _/_, _≤_, _<_};
+ghost use lib.IntN.{pos};
+ghost use lib.Signed.{_≤ℤ_};
+ghost use lib.ListN.{length};
+ghost use Rattle.model.specs.Limits.{rootStride, maxPairs};
+ghost use Rattle.model.specs.Graph.{graphOf};
+ghost use Rattle.model.specs.Runs.{listOf};
+ghost use Rattle.reach.specs.Counting.{countsOver};
+ghost use Rattle.reach.specs.Links.{Linked};
+ghost use Rattle.pairing.specs.Pairs.{pairAt, tablesOf};
+ghost use Rattle.verdicts.specs.Records.{recordsOf, NormalList};
+ghost use Rattle.pairs.specs.Inputs.{findingAt, Sweepable, ListReady, LeafReady};
+ghost use Rattle.pairs.specs.Found.{Listed, IsFound, IsFinding};
+use listing::list_linked;
+use model::Verdict;
+use reach::count_paths;
+use reach::link_edges;
+use verdicts::lowest_of;
+use verdicts::verdict_of;
+
+// Numbers of a pair row.
+const PAIR_WIDTH: usize = 2;
+
+// What a root row counts for in the place of a pair.
+const ROOT_STRIDE: usize = 1000;
+
+// What is found of a pair: its verdict, the lengths of its lists, and the lowest bit address at which they differ, -1 where they do not.
+pub struct Found {
+    pub verdict: Verdict,
+    pub spec: usize,
+    pub implementation: usize,
+    pub address: i64,
+}
+
+// The specification node of a pair row, as an index.
+pub fn spec_node(pairs: &[i64], row: usize) -> usize
+    requires { ⌜ (2 * row + 2 ≤ length (now pairs)) × (pos 0 ≤ℤ pairAt (now pairs) row .spec) ⌝ }
+    ensures { λ r. ⌜ pos r ≡ pairAt (now (pairs .entry)) row .spec ⌝ }
+{
+    pairs[PAIR_WIDTH * row] as usize
+}
+
+// The implementation node of a pair row, as an index.
+pub fn impl_node(pairs: &[i64], row: usize) -> usize
+    requires { ⌜ (2 * row + 2 ≤ length (now pairs)) × (pos 0 ≤ℤ pairAt (now pairs) row .impl) ⌝ }
+    ensures { λ r. ⌜ pos r ≡ pairAt (now (pairs .entry)) row .impl ⌝ }
+{
+    pairs[PAIR_WIDTH * row + 1] as usize
+}
+
+// The place of a pair in visiting order.
+pub fn place_of(root_row: usize, leaf_row: usize) -> usize
+    requires { ⌜ («root_row» < maxPairs) × («leaf_row» < maxPairs) ⌝ }
+    ensures { λ r. ⌜ r ≡ «root_row» * rootStride + «leaf_row» ⌝ }
+{
+    root_row * ROOT_STRIDE + leaf_row
+}
+
+// Sweeps a graph for a leaf: counts the paths to it from each node, and links the edges that can still reach it.
+pub fn sweep(
+    nodes: &[i64],
+    edges: &[i64],
+    order: &[usize],
+    leaf: usize,
+    counts: &mut [usize],
+    head: &mut [usize],
+    next: &mut [usize],
+)
+    requires { ⌜ Sweepable (now nodes) (now edges) (now order) (pos leaf) (now counts) (now head) (now next) ⌝ }
+    ensures { λ _. ⌜ now (counts .exit) ≡ countsOver (graphOf (now (nodes .entry)) (now (edges .entry))) (pos leaf) (now (counts .entry)) ⌝ }
+    ensures { λ _. ⌜
+        Linked (now (counts .exit)) (graphOf (now (nodes .entry)) (now (edges .entry)))
+        (now (head .entry)) (now (next .entry)) (now (head .exit)) (now (next .exit)) ⌝ }
+{
+    count_paths(nodes, edges, order, leaf, counts);
+    link_edges(nodes, edges, counts, head, next);
+}
+
+// Lists the bitmapping list of a root and the leaf that the graph is swept for, in front of `work`. Returns how many records it has. Where no
+// path leads to the leaf there is none.
+fn list_swept(
+    nodes: &[i64],
+    edges: &[i64],
+    root: usize,
+    leaf: usize,
+    counts: &[usize],
+    head: &[usize],
+    next: &[usize],
+    work: &mut [i64],
+    spare: &mut [i64],
+) -> usize
+    requires { ⌜ ListReady (now nodes) (now edges) (pos root) (pos leaf) (now counts) (now head) (now next) (now work) (now spare) ⌝ }
+    ensures { λ r. ⌜ Listed (listOf (graphOf (now (nodes .entry)) (now (edges .entry))) (pos root) (pos leaf)) (now (work .exit)) r ⌝ }
+{
+    if counts[root] == 0 {
+        return 0;
+    }
+    list_linked(nodes, edges, root, leaf, head, next, work, spare)
+}
+
+// What is found of the list of the specification and that of the implementation.
+fn judge(spec: &[i64], spec_count: usize, imp: &[i64], impl_count: usize) -> Found
+    requires { ⌜ NormalList (now spec) «spec_count» × NormalList (now imp) «impl_count» ⌝ }
+    ensures { λ r. ⌜ IsFound (recordsOf (now (spec .entry)) «spec_count») (recordsOf (now (imp .entry)) «impl_count») r ⌝ }
+{
+    let verdict = verdict_of(spec, spec_count, imp, impl_count);
+    let address = lowest_of(spec, spec_count, imp, impl_count);
+    Found {
+        verdict: verdict,
+        spec: spec_count,
+        implementation: impl_count,
+        address: address,
+    }
+}
+
+// What is found of one pair, once both graphs are swept for its leaf row. What stands in the work areas is space that was worked in.
+pub fn pair_found(
+    spec_nodes: &[i64],
+    spec_edges: &[i64],
+    impl_nodes: &[i64],
+    impl_edges: &[i64],
+    root_pairs: &[i64],
+    leaf_pairs: &[i64],
+    root_row: usize,
+    leaf_row: usize,
+    spec_counts: &[usize],
+    spec_head: &[usize],
+    spec_next: &[usize],
+    impl_counts: &[usize],
+    impl_head: &[usize],
+    impl_next: &[usize],
+    spec_work: &mut [i64],
+    impl_work: &mut [i64],
+    spare: &mut [i64],
+) -> Found
+    requires { ⌜
+        LeafReady (tablesOf (now «spec_nodes») (now «spec_edges») (now «impl_nodes») (now «impl_edges») (now «root_pairs») (now «leaf_pairs»)) «leaf_row»
+        (now «spec_counts») (now «spec_head») (now «spec_next») (now «impl_counts») (now «impl_head») (now «impl_next»)
+        (now «spec_work») (now «impl_work») (now spare)
+        × («root_row» < length (now «root_pairs») / 2) ⌝ }
+    ensures { λ r. ⌜
+        IsFinding
+        (findingAt
+        (tablesOf (now («spec_nodes» .entry)) (now («spec_edges» .entry)) (now («impl_nodes» .entry)) (now («impl_edges» .entry))
+        (now («root_pairs» .entry)) (now («leaf_pairs» .entry))) «root_row» «leaf_row»)
+        r ⌝ }
+{
+    let spec_root = spec_node(root_pairs, root_row);
+    let spec_leaf = spec_node(leaf_pairs, leaf_row);
+    let spec_count = list_swept(
+        spec_nodes,
+        spec_edges,
+        spec_root,
+        spec_leaf,
+        spec_counts,
+        spec_head,
+        spec_next,
+        spec_work,
+        spare,
+    );
+    let impl_root = impl_node(root_pairs, root_row);
+    let impl_leaf = impl_node(leaf_pairs, leaf_row);
+    let impl_count = list_swept(
+        impl_nodes,
+        impl_edges,
+        impl_root,
+        impl_leaf,
+        impl_counts,
+        impl_head,
+        impl_next,
+        impl_work,
+        spare,
+    );
+    judge(spec_work, spec_count, impl_work, impl_count)
+}

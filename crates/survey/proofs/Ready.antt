@@ -1,0 +1,80 @@
+-- Leaf rows one after the other: each graph can be swept for the leaf row, and then its pairs can be found. Counts, heads and nexts are sc, sh and
+-- sx for the specification, mc, mh and mx for the implementation; work areas are sw, mw and e.
+use mathlib.Core.Path.{_≡_, subst}
+use mathlib.Core.List.{List}
+use Prim.Native.Nat.{ℕ, _/_, _≤_, _<_}
+use native.Mathlib.Omega.{arith}
+use lib.IntN.{ℤ, pos}
+use lib.ListN.{length}
+use Rattle.model.specs.Limits.{pairWidth, maxNodes, maxEdges}
+use Rattle.model.specs.Graph.{graphOf}
+use Rattle.model.specs.Paths.{Leaf}
+use Rattle.model.specs.Taken.{TakenTables}
+use Rattle.model.specs.Compare.{Tables}
+use Rattle.pairing.specs.Pairs.{pairAt}
+use Rattle.pairs.specs.Inputs.{InOrder, Sweepable, Swept, BothSwept, LeafReady}
+use Rattle.survey.specs.Inputs.{AllReady}
+use Rattle.survey.proofs.Sizes.{SweepSizes, WorkSizes}
+use Rattle.pairs.proofs.Inputs.{row-leaves}
+
+-- the work areas may be those that other pairs were found in
+pub leaf-ready-on : {t : Tables} {j : ℕ} {sc sh sx mc mh mx : List ℕ} {sw mw e sw′ mw′ e′ : List ℤ} → LeafReady t j sc sh sx mc mh mx sw mw e
+    → WorkSizes sw mw e sw′ mw′ e′ → LeafReady t j sc sh sx mc mh mx sw′ mw′ e′
+leaf-ready-on k p =
+    record {
+      inputs = k .inputs;
+      few = k .few;
+      row = k .row;
+      swept = k .swept;
+      specRoom = omega (arith, k .specRoom, p .spec);
+      implRoom = omega (arith, k .implRoom, p .impl);
+      spareRoom = omega (arith, k .spareRoom, p .spare);
+    }
+
+-- buffers that have room, and keep their sizes, serve for the sweep
+sweep-ready : {ns es : List ℤ} {order counts head next counts′ head′ next′ : List ℕ} {l : ℤ} {leaf : ℕ} → TakenTables ns es → InOrder es order
+    → Leaf (graphOf ns es) l → pos leaf ≡ l → maxNodes ≤ length counts → maxNodes ≤ length head → maxEdges ≤ length next → SweepSizes counts head next counts′ head′ next′
+    → Sweepable ns es order (pos leaf) counts′ head′ next′
+sweep-ready {ns} {es} k o f e a b c p =
+    record {
+      tables = k;
+      inOrder = o;
+      block = rw e f;
+      countRoom = omega (arith, a, p .counts);
+      headRoom = omega (arith, b, p .head);
+      nextRoom = omega (arith, c, p .next);
+    }
+
+module _ {t : Tables} {so mo sc sh sx mc mh mx : List ℕ} {sw mw e : List ℤ} (k : AllReady t so mo sc sh sx mc mh mx sw mw e) (j : ℕ) (h : j < length (t .leafPairs) / pairWidth) where
+  -- the specification can be swept for the leaf row
+  pub spec-sweepable : {counts head next : List ℕ} {leaf : ℕ} → pos leaf ≡ pairAt (t .leafPairs) j .spec → SweepSizes sc sh sx counts head next
+      → Sweepable (t .specNodes) (t .specEdges) so (pos leaf) counts head next
+  spec-sweepable q p =
+      let inputs = k .ordered .inputs in
+      sweep-ready (inputs .spec) (k .ordered .inSpec) (row-leaves inputs j h .0) q (k .specCountRoom) (k .specHeadRoom) (k .specNextRoom) p
+
+  -- and so can the implementation
+  pub impl-sweepable : {counts head next : List ℕ} {leaf : ℕ} → pos leaf ≡ pairAt (t .leafPairs) j .impl → SweepSizes mc mh mx counts head next
+      → Sweepable (t .implNodes) (t .implEdges) mo (pos leaf) counts head next
+  impl-sweepable q p =
+      let inputs = k .ordered .inputs in
+      sweep-ready (inputs .impl) (k .ordered .inImpl) (row-leaves inputs j h .1) q (k .implCountRoom) (k .implHeadRoom) (k .implNextRoom) p
+
+  -- then the pairs of the leaf row can be found
+  pub leaf-ready : {sc′ sh′ sx′ mc′ mh′ mx′ : List ℕ} {sw′ mw′ e′ : List ℤ} {s m : ℕ} → pos s ≡ pairAt (t .leafPairs) j .spec → pos m ≡ pairAt (t .leafPairs) j .impl
+      → Swept (t .specNodes) (t .specEdges) (pos s) sc′ sh′ sx′ → Swept (t .implNodes) (t .implEdges) (pos m) mc′ mh′ mx′
+      → WorkSizes sw mw e sw′ mw′ e′ → LeafReady t j sc′ sh′ sx′ mc′ mh′ mx′ sw′ mw′ e′
+  leaf-ready {sc′} {sh′} {sx′} {mc′} {mh′} {mx′} q f a c p =
+      let swept : BothSwept t j sc′ sh′ sx′ mc′ mh′ mx′ = record {
+        spec = subst (λ (l : ℤ). Swept (t .specNodes) (t .specEdges) l sc′ sh′ sx′) q a;
+        impl = subst (λ (l : ℤ). Swept (t .implNodes) (t .implEdges) l mc′ mh′ mx′) f c;
+      } in
+      leaf-ready-on (record {
+        inputs = k .ordered .inputs;
+        few = k .few;
+        row = h;
+        swept = swept;
+        specRoom = k .specRoom;
+        implRoom = k .implRoom;
+        spareRoom = k .spareRoom;
+      }) p

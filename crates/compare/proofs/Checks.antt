@@ -8,12 +8,13 @@ use native.Mathlib.Omega.{arith}
 use lib.Dec.{ltb}
 use lib.IntN.{ℤ}
 use lib.ListN.{length, take}
+use Rattle.integers.proofs.Linear.{ints}
 use Rattle.integers.proofs.Tests.{Test, failed, eq?, leb?, ltb?}
 use Rattle.lists.specs.Lists.{_∈_}
 use Rattle.lists.proofs.Decisions.{Decides, test-stable}
-use Rattle.model.specs.Limits.{pairWidth, maxPaths, maxPairs}
+use Rattle.model.specs.Limits.{pairWidth, maxNodes, maxEdges, maxPaths, maxPairs}
 use Rattle.model.specs.Rows.{Edge, Pair, edgeRows, pairRows}
-use Rattle.model.specs.Graph.{graphOf}
+use Rattle.model.specs.Graph.{graphOf, NodeRow}
 use Rattle.model.specs.Runs.{paths}
 use Rattle.model.specs.Taken.{GoodShape, TakenTables}
 use Rattle.model.specs.Compare.{Tables, specGraph, implGraph, rootRows, leafRows, visits}
@@ -27,9 +28,10 @@ use Rattle.model.specs.declared.Checked.the-variants as variants
 use Rattle.model.proofs.Settled.{Settled}
 use Rattle.model.proofs.GraphChecks.{shape-settled, isRoot?, isLeaf?}
 use Rattle.model.proofs.Pairing.{pairs-settled, pairs-paired}
+use Rattle.tables.proofs.Rows.{nodes-length}
 use Rattle.tables.proofs.Checks.{checked, then-on, then-stops}
 use Rattle.depth.specs.Order.{edgeOrder}
-use Rattle.depth.specs.Passes.{orderOf}
+use Rattle.depth.specs.Passes.{Within, Orderable, orderOf}
 use Rattle.depth.specs.Check.{GraphChecked}
 use Rattle.depth.proofs.GraphCheck.{checked-taken, checked-order}
 use Rattle.depth.proofs.Order.{order-length}
@@ -127,6 +129,26 @@ module _ (t : Tables) (good : checkPairingRows t ≡ none) where
         leaves = pairs-good (isLeaf? s) (isLeaf? i) 5 (t .leafPairs) (p .3);
       }
 
+-- ---- edges in order
+
+module _ {ns es : List ℤ} (k : TakenTables ns es) where
+  -- the edges of a taken graph can be ordered
+  pub taken-orderable : {room : ℕ} → maxEdges ≤ room → Orderable es room
+  unfolding graphOf
+  taken-orderable h = record { few = k .edges .few; fits = omega (arith, k .edges .few); ends = λ e m. (within (k .graph .ends e m .0), within (k .graph .ends e m .1)) }
+    where
+      within : {v : ℤ} → NodeRow (graphOf ns es) v → Within maxNodes v
+      within r = record { low = r .low; high = omega (arith, ints, r .high, k .nodes .few, nodes-length ns) }
+
+  -- and their rows then stand in front of the buffer
+  pub taken-ordered : (buffer : List ℕ) {buffer′ : List ℕ} → buffer′ ≡ orderOf es buffer → InOrder es buffer′
+  unfolding graphOf
+  taken-ordered buffer e =
+      let rows = map (λ (e : Edge). e .row) (edgeOrder (edgeRows es)) in
+      let front : take (length (edgeRows es)) (orderOf es buffer) ≡ rows =
+      subst (λ (n : ℕ). take n (orderOf es buffer) ≡ rows) (order-length (k .graph)) (order-front es buffer) in
+      ap (take (length (edgeRows es))) e ∙ front
+
 module _ {t : ℕ} {ns es : List ℤ} {buffer buffer′ : List ℕ} {given : Checked} (p : GraphChecked t ns es buffer given buffer′) where
   module _ (e : given ≡ variants.Taken) where
     -- the check takes the graph
@@ -139,12 +161,7 @@ module _ {t : ℕ} {ns es : List ℤ} {buffer buffer′ : List ℕ} {given : Che
 
     -- and its edges are in order
     pub graph-ordered : InOrder es buffer′
-    unfolding graphOf
-    graph-ordered =
-        let rows = map (λ (e : Edge). e .row) (edgeOrder (edgeRows es)) in
-        let front : take (length (edgeRows es)) (orderOf es buffer) ≡ rows =
-        subst (λ (n : ℕ). take n (orderOf es buffer) ≡ rows) (order-length (graph-taken .graph)) (order-front es buffer) in
-        ap (take (length (edgeRows es))) (p .order ∙ checked-order t ns es graph-takes buffer) ∙ front
+    graph-ordered = taken-ordered graph-taken buffer (p .order ∙ checked-order t ns es graph-takes buffer)
 
 -- tables that the checks of the inputs do not refuse are inputs
 pub none-inputs : (t : Tables) → checkInputs t ≡ none → Inputs t

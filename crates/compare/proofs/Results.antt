@@ -1,39 +1,56 @@
 -- From totals and keys to the answer of a comparison, and from the answer to its promise.
-use mathlib.Core.Path.{_≡_, refl, sym, ap, _∙_}
+use mathlib.Core.Path.{_≡_, refl, sym, ap, subst, _∙_}
 use mathlib.Core.List.{List, [], _∷_, map}
 use mathlib.Core.Option.{none, some}
-use Prim.Native.Nat.{ℕ, _*_, _≤_, min}
+use Prim.Native.Nat.{ℕ, _*_, _/_, _≤_, min}
 use native.Mathlib.Nat.{le-trans}
 use native.Mathlib.Omega.{arith}
-use Rattle.model.specs.Compare.{Tables, specGraph, implGraph, rootRows, leafRows, Result, findings, resultOf}
+use lib.IntN.{ℤ}
+use lib.ListN.{length}
+use Rattle.model.specs.Limits.{pairWidth}
+use Rattle.model.specs.Rows.{Pair}
+use Rattle.model.specs.Compare.{Tables, specGraph, implGraph, rootRows, leafRows, visits, Result, findingOf, findings, resultOf}
 use Rattle.model.specs.Refusals.{Refusal}
 use Rattle.model.specs.Checks.{checkTables}
 use Rattle.model.specs.Calls.{refused, full, answer, compareAnswer}
-use Rattle.model.specs.Answers.{checkedAnswer, comparedAnswer}
+use Rattle.model.specs.Answers.{refusalOf, checkedAnswer, comparedAnswer}
 use Rattle.model.specs.declared.Reason.{Reason}
 use Rattle.model.specs.declared.Checked.{Checked}
 use Rattle.model.specs.declared.Checked.the-variants as variants
 use Rattle.model.specs.declared.Compared.{Compared}
-use Rattle.model.specs.declared.Compared.the-variants as compared
 use Rattle.model.proofs.Demand.{compare-full, demand3}
-use Rattle.visiting.specs.Visiting.{byLeaf, noKey, resultFrom, manyKey, lowestFrom, refusalFrom}
+use Rattle.visiting.specs.Visiting.{byLeaf, noKey, totalsOf, resultFrom, manyKey, lowestFrom, refusalFrom}
 use Rattle.visiting.proofs.Turns.{lowest-nil, lowest-cons}
 use Rattle.visiting.proofs.Result.{result-by-leaf}
 use Rattle.visiting.proofs.Refusal.{refusal-by-leaf}
-use Rattle.survey.specs.declared.Totals.{Totals}
+use Rattle.survey.specs.declared.Kept.{Kept}
+use Rattle.survey.specs.Lines.{findingsBetween, LinesHeld}
 use Rattle.compare.specs.Inputs.{checkInputs, checkPaths, pathsAnswer, InputsChecked}
 use Rattle.pairs.specs.Inputs.{Inputs, AllFew}
 use Rattle.compare.specs.Keys.{lowestMany}
-use Rattle.survey.specs.Found.{asTotals, AllTotals}
-use Rattle.compare.specs.Promises.{ComparePromise}
+use Rattle.survey.specs.Found.{asTotals, SurveyPromise}
+use Rattle.survey.proofs.Between.{between-all}
+use Rattle.compare.specs.Promises.{ComparePromise, FullLines}
 use Rattle.pairs.proofs.Rows.{rows-few}
 use Rattle.compare.proofs.Checks.{then-none, full-none, answer-stops, answer-on, tables-checked, none-inputs, paths-few}
 
 -- ---- the full result
 
--- the totals of all pairs give the full result
-pub totals-result : {t : Tables} {totals : Totals} {res : Result} → Inputs t → AllTotals t totals → res ≡ resultFrom (asTotals totals) → res ≡ resultOf (findings t)
-totals-result {t} k p e = e ∙ ap resultFrom (p .found) ∙ result-by-leaf t (rows-few (k .rootShape)) (rows-few (k .leafShape))
+-- all root rows
+abbrev rowCount : Tables → ℕ
+rowCount t = length (t .rootPairs) / pairWidth
+
+module _ {t : Tables} {kept : Kept} {lines : List ℤ} (p : SurveyPromise t 0 (rowCount t) kept lines) where
+  -- the totals of a survey of all root rows give the full result
+  pub survey-result : {res : Result} → Inputs t → res ≡ resultFrom (asTotals (kept .totals)) → res ≡ resultOf (findings t)
+  survey-result k e =
+      e ∙ ap resultFrom (p .found) ∙ ap (λ (l : List Pair). resultFrom (totalsOf (map (findingOf t) (byLeaf l (leafRows t))))) (between-all (t .rootPairs))
+      ∙ result-by-leaf t (rows-few (k .rootShape)) (rows-few (k .leafShape))
+
+  -- and its rows are those of all findings
+  pub survey-lines : LinesHeld (findings t) lines (kept .count)
+  unfolding findings findingsBetween
+  survey-lines = subst (λ (l : List Pair). LinesHeld (map (findingOf t) (visits l (leafRows t))) lines (kept .count)) (between-all (t .rootPairs)) (p .rows)
 
 -- ---- refusal 10
 
@@ -66,9 +83,9 @@ module _ {t : Tables} (k : Inputs t) {key : ℕ} (e : key ≡ lowestMany t) wher
   key-few h = paths-few t (key-none h)
 
   -- and the answer is full
-  pub key-full : 2 * noKey ≤ key → {res : Result} → res ≡ resultOf (findings t) → full res ≡ pathsAnswer t
+  pub key-full : 2 * noKey ≤ key → full (resultOf (findings t)) ≡ pathsAnswer t
   unfolding pathsAnswer answer
-  key-full h q = rw (key-none h) (ap full q)
+  key-full h = rw (key-none h) refl
 
 -- ---- the promise
 
@@ -81,10 +98,10 @@ answer-promise {t} e = record {
 
 module _ {t : Tables} {given : Checked} {specOrder implOrder : List ℕ} (p : InputsChecked t given specOrder implOrder) where
   -- the inputs are refused
-  pub inputs-refused : {r : Reason} → given ≡ variants.Refused r → ComparePromise t (compared.Refused r)
+  pub inputs-refused : {reason : Reason} {r : Compared} → given ≡ variants.Refused reason → comparedAnswer r ≡ refused (refusalOf reason) → ComparePromise t r
   unfolding compareAnswer
-  inputs-refused e =
-      answer-promise (answer-stops (resultOf (findings t)) (checkInputs t) (checkPaths t) (ap checkedAnswer (sym e) ∙ p .answers)
+  inputs-refused e q =
+      answer-promise (q ∙ answer-stops (resultOf (findings t)) (checkInputs t) (checkPaths t) (ap checkedAnswer (sym e) ∙ p .answers)
       ∙ sym (ap (λ c. answer c (resultOf (findings t))) (tables-checked t)))
 
   -- or the answer is that of the paths and the pairs
@@ -94,11 +111,19 @@ module _ {t : Tables} {given : Checked} {specOrder implOrder : List ℕ} (p : In
       answer-promise (q ∙ sym (answer-on (resultOf (findings t)) (checkInputs t) (checkPaths t) (ap checkedAnswer (sym e) ∙ p .answers))
       ∙ sym (ap (λ c. answer c (resultOf (findings t))) (tables-checked t)))
 
--- ---- what a full answer says of the tables
+-- a refusal has no lines
+pub refused-lines : (t : Tables) (r : Compared) {n : ℕ} {lines : List ℤ} {x : Refusal} → comparedAnswer r ≡ refused x → FullLines t r lines n
+refused-lines t r q res e = let z : _≡_ {A = ℕ} 0 1 = cc in absurd (omega arith)
 
--- where the answer is a full result, the tables are inputs, and each pair has few paths in both graphs
+-- ---- what is known of tables that are not refused
+
+-- they are inputs, and each pair has few paths in both graphs
+pub none-tables : (t : Tables) → checkTables t ≡ none → Inputs t × AllFew t
+none-tables t e =
+    let parts = then-none (checkInputs t) (checkPaths t) (sym (tables-checked t) ∙ e) in
+    (none-inputs t (parts .0), paths-few t (parts .1))
+
+-- where the answer is a full result, so it is
 pub full-inputs : (t : Tables) {res : Result} → compareAnswer t ≡ full res → Inputs t × AllFew t
 unfolding compareAnswer
-full-inputs t e =
-    let parts = then-none (checkInputs t) (checkPaths t) (sym (tables-checked t) ∙ full-none (resultOf (findings t)) (checkTables t) (sym e)) in
-    (none-inputs t (parts .0), paths-few t (parts .1))
+full-inputs t e = none-tables t (full-none (resultOf (findings t)) (checkTables t) (sym e))

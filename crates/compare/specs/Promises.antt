@@ -1,13 +1,21 @@
 -- What the comparison of two graphs promises. Assumes nothing.
 use mathlib.Core.Path.{_≡_}
-use Rattle.model.specs.Compare.{Tables, Result}
+use mathlib.Core.List.{List}
+use Prim.Native.Nat.{ℕ}
+use lib.IntN.{ℤ}
+use Rattle.model.specs.Compare.{Tables, Result, findings}
 use Rattle.model.specs.Refusals.{NoneHolds, compareConditions}
 use Rattle.model.specs.Calls.{full, compareAnswer}
 use Rattle.model.specs.Answers.{comparedAnswer}
 use Rattle.model.specs.Demands.{Demand3}
 use Rattle.model.specs.declared.Compared.{Compared}
+use Rattle.survey.specs.Lines.{LinesHeld}
 
 -- the answer is the one defined; and where no condition for a refusal holds, it is a full result of which demand 3 holds
 pub record ComparePromise (t : Tables) (r : Compared) : Type 0 where
   pub answer : comparedAnswer r ≡ compareAnswer t
   pub demand : NoneHolds (compareConditions t) → (res : Result) × (comparedAnswer r ≡ full res) × Demand3 t res
+
+-- where the answer is a full result, the rows of the findings with a record are held
+abbrev pub FullLines : Tables → Compared → List ℤ → ℕ → Type 0
+FullLines t r lines n = (res : Result) → comparedAnswer r ≡ full res → LinesHeld (findings t) lines n

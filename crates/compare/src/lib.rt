@@ -1,21 +1,25 @@
 // The comparison of two graphs: the checks of its tables, refusal 10, and the full result.
 ghost use mathlib.Core.Path.{_≡_};
 ghost use mathlib.Core.List.{map};
-ghost use mathlib.Core.Option.{some};
+ghost use mathlib.Core.Option.{none, some};
 ghost use Prim.Native.Nat.{_+_, _*_, _/_, _≤_, _<_, min};
 ghost use lib.ListN.{length};
 ghost use Rattle.model.specs.Limits.{maxNodes, maxEdges};
 ghost use Rattle.model.specs.Rows.{pairRows};
 ghost use Rattle.model.specs.Compare.{findings, resultOf};
+ghost use Rattle.model.specs.Checks.{checkTables};
+ghost use Rattle.model.specs.Calls.{refused, full};
 ghost use Rattle.model.specs.Answers.{comparisonResult, comparedAnswer, verdictNumber, refusalOf};
 ghost use Rattle.pairing.specs.Pairs.{tablesOf};
 ghost use Rattle.visiting.specs.Visiting.{noKey, resultFrom, lowestFrom, refusalFrom};
 ghost use Rattle.pairs.specs.Inputs.{Ordered, AllFew};
+ghost use Rattle.survey.specs.Lines.{LinesHeld, findingsBetween};
 ghost use Rattle.survey.specs.Found.{asTotals, wholeVerdict};
 ghost use Rattle.compare.specs.Inputs.{pathsAnswer, InputsChecked};
 ghost use Rattle.compare.specs.Keys.{keyBy, countKey, Keyed, lowestMany};
-ghost use Rattle.compare.specs.Promises.{ComparePromise};
+ghost use Rattle.compare.specs.Promises.{ComparePromise, FullLines};
 use depth::check_graph_with;
+use depth::order_edges;
 use model::Checked;
 use model::Compared;
 use model::Comparison;
@@ -27,7 +31,7 @@ use pairs::place_of;
 use pairs::spec_node;
 use reach::count_paths;
 use survey::Totals;
-use survey::found_of_all;
+use survey::survey;
 
 // Numbers of a pair row.
 const PAIR_WIDTH: usize = 2;
@@ -37,10 +41,8 @@ const MAX_NODES: usize = 2000;
 
 const MAX_EDGES: usize = 2600;
 
-// The most paths from a root to a leaf, and the numbers of that many records.
+// The most paths from a root to a leaf.
 const MAX_PATHS: usize = 1024;
-
-const LIST_ROOM: usize = 3072;
 
 // What a root row counts for in the place of a pair.
 const ROOT_STRIDE: usize = 1000;
@@ -56,6 +58,12 @@ const SPEC_EDGES: usize = 1;
 const IMPL_NODES: usize = 2;
 
 const IMPL_EDGES: usize = 3;
+
+// The answer of a comparison and, where it is a full result, how many pairs have a record on either side.
+pub struct Lined {
+    pub compared: Compared,
+    pub count: usize,
+}
 
 // The key of a pair for refusal 10, by the counts of its paths. The specification comes first.
 fn many_key(place: usize, spec_count: usize, impl_count: usize) -> usize
@@ -203,7 +211,19 @@ fn comparison_of(t: Totals) -> Comparison
     }
 }
 
-// Compares two graphs whose tables are checked and whose pairs have no more than MAX_PATHS paths each.
+// A refusal, which has no line.
+fn refusal(reason: Reason) -> Lined
+    ensures { λ r. ⌜ (comparedAnswer (r .compared) ≡ refused (refusalOf reason)) × (r .count ≡ 0) ⌝ }
+{
+    let compared = Compared::Refused(reason);
+    Lined {
+        compared: compared,
+        count: 0,
+    }
+}
+
+// Compares two graphs whose tables are checked and whose pairs have no more than MAX_PATHS paths each: the full result, and the rows of the pairs
+// with a record on either side.
 fn compare_pairs(
     spec_nodes: &[i64],
     spec_edges: &[i64],
@@ -213,27 +233,27 @@ fn compare_pairs(
     leaf_pairs: &[i64],
     spec_order: &[usize],
     impl_order: &[usize],
-) -> Comparison
+    lines: &mut [i64],
+    spare: &mut [i64],
+) -> Lined
     requires { ⌜
         Ordered (tablesOf (now «spec_nodes») (now «spec_edges») (now «impl_nodes») (now «impl_edges») (now «root_pairs») (now «leaf_pairs»))
         (now «spec_order») (now «impl_order»)
-        × AllFew (tablesOf (now «spec_nodes») (now «spec_edges») (now «impl_nodes») (now «impl_edges») (now «root_pairs») (now «leaf_pairs»)) ⌝ }
+        × AllFew (tablesOf (now «spec_nodes») (now «spec_edges») (now «impl_nodes») (now «impl_edges») (now «root_pairs») (now «leaf_pairs»))
+        × (length (now lines) ≤ length (now spare)) ⌝ }
     ensures { λ r. ⌜
-        comparisonResult r
-        ≡ resultOf (findings
+        comparedAnswer (r .compared)
+        ≡ full (resultOf (findings
         (tablesOf (now («spec_nodes» .entry)) (now («spec_edges» .entry)) (now («impl_nodes» .entry)) (now («impl_edges» .entry))
-        (now («root_pairs» .entry)) (now («leaf_pairs» .entry)))) ⌝ }
+        (now («root_pairs» .entry)) (now («leaf_pairs» .entry))))) ⌝ }
+    ensures { λ r. ⌜
+        LinesHeld (findings
+        (tablesOf (now («spec_nodes» .entry)) (now («spec_edges» .entry)) (now («impl_nodes» .entry)) (now («impl_edges» .entry))
+        (now («root_pairs» .entry)) (now («leaf_pairs» .entry))))
+        (now (lines .exit)) (r .count) ⌝ }
 {
-    let mut spec_counts = [0usize; MAX_NODES];
-    let mut spec_head = [0usize; MAX_NODES];
-    let mut spec_next = [0usize; MAX_EDGES];
-    let mut impl_counts = [0usize; MAX_NODES];
-    let mut impl_head = [0usize; MAX_NODES];
-    let mut impl_next = [0usize; MAX_EDGES];
-    let mut spec_work = [0i64; LIST_ROOM];
-    let mut impl_work = [0i64; LIST_ROOM];
-    let mut spare = [0i64; LIST_ROOM];
-    let totals = found_of_all(
+    let count = root_pairs.len() / PAIR_WIDTH;
+    let kept = survey(
         spec_nodes,
         spec_edges,
         impl_nodes,
@@ -242,17 +262,17 @@ fn compare_pairs(
         leaf_pairs,
         spec_order,
         impl_order,
-        &mut spec_counts,
-        &mut spec_head,
-        &mut spec_next,
-        &mut impl_counts,
-        &mut impl_head,
-        &mut impl_next,
-        &mut spec_work,
-        &mut impl_work,
-        &mut spare,
+        0,
+        count,
+        lines,
+        spare,
     );
-    comparison_of(totals)
+    let totals = kept.totals;
+    let compared = Compared::Result(comparison_of(totals));
+    Lined {
+        compared: compared,
+        count: kept.count,
+    }
 }
 
 // Compares two graphs whose tables are checked: refusal 10 is settled for all pairs before any list is made.
@@ -265,15 +285,23 @@ fn compare_checked(
     leaf_pairs: &[i64],
     spec_order: &[usize],
     impl_order: &[usize],
-) -> Compared
+    lines: &mut [i64],
+    spare: &mut [i64],
+) -> Lined
     requires { ⌜
         Ordered (tablesOf (now «spec_nodes») (now «spec_edges») (now «impl_nodes») (now «impl_edges») (now «root_pairs») (now «leaf_pairs»))
-        (now «spec_order») (now «impl_order») ⌝ }
+        (now «spec_order») (now «impl_order»)
+        × (length (now lines) ≤ length (now spare)) ⌝ }
     ensures { λ r. ⌜
-        comparedAnswer r
+        comparedAnswer (r .compared)
         ≡ pathsAnswer
         (tablesOf (now («spec_nodes» .entry)) (now («spec_edges» .entry)) (now («impl_nodes» .entry)) (now («impl_edges» .entry))
         (now («root_pairs» .entry)) (now («leaf_pairs» .entry))) ⌝ }
+    ensures { λ r. ⌜
+        FullLines
+        (tablesOf (now («spec_nodes» .entry)) (now («spec_edges» .entry)) (now («impl_nodes» .entry)) (now («impl_edges» .entry))
+        (now («root_pairs» .entry)) (now («leaf_pairs» .entry)))
+        (r .compared) (now (lines .exit)) (r .count) ⌝ }
 {
     let mut spec_counts = [0usize; MAX_NODES];
     let mut impl_counts = [0usize; MAX_NODES];
@@ -290,9 +318,9 @@ fn compare_checked(
         &mut impl_counts,
     );
     if key < 2 * NO_KEY {
-        return Compared::Refused(many_paths(key));
+        return refusal(many_paths(key));
     }
-    Compared::Result(compare_pairs(
+    compare_pairs(
         spec_nodes,
         spec_edges,
         impl_nodes,
@@ -301,7 +329,9 @@ fn compare_checked(
         leaf_pairs,
         spec_order,
         impl_order,
-    ))
+        lines,
+        spare,
+    )
 }
 
 // The checks of a comparison but for its paths. Where they take the tables, the orders begin with the edges of the graphs in order.
@@ -341,20 +371,29 @@ fn check_inputs(
 }
 
 // Compares a specification graph with an implementation graph for the roots and leaves that belong together: the counts of equal, partial and
-// different pairs, the whole verdict, and the first unequal pair in visiting order with its lowest differing bit address; or the refusal.
-pub fn compare(
+// different pairs, the whole verdict, and the first unequal pair in visiting order with its lowest differing bit address; or the refusal. The rows
+// of the pairs with a record on either side are counted, and stand in front of `lines` in visiting order where there is room for all of them.
+pub fn compare_lines(
     spec_nodes: &[i64],
     spec_edges: &[i64],
     impl_nodes: &[i64],
     impl_edges: &[i64],
     root_pairs: &[i64],
     leaf_pairs: &[i64],
-) -> Compared
+    lines: &mut [i64],
+    spare: &mut [i64],
+) -> Lined
+    requires { ⌜ length (now lines) ≤ length (now spare) ⌝ }
     ensures { λ r. ⌜
         ComparePromise
         (tablesOf (now («spec_nodes» .entry)) (now («spec_edges» .entry)) (now («impl_nodes» .entry)) (now («impl_edges» .entry))
         (now («root_pairs» .entry)) (now («leaf_pairs» .entry)))
-        r ⌝ }
+        (r .compared) ⌝ }
+    ensures { λ r. ⌜
+        FullLines
+        (tablesOf (now («spec_nodes» .entry)) (now («spec_edges» .entry)) (now («impl_nodes» .entry)) (now («impl_edges» .entry))
+        (now («root_pairs» .entry)) (now («leaf_pairs» .entry)))
+        (r .compared) (now (lines .exit)) (r .count) ⌝ }
 {
     let mut spec_order = [0usize; MAX_EDGES];
     let mut impl_order = [0usize; MAX_EDGES];
@@ -369,7 +408,7 @@ pub fn compare(
         &mut impl_order,
     );
     if let Checked::Refused(reason) = c {
-        return Compared::Refused(reason);
+        return refusal(reason);
     }
     compare_checked(
         spec_nodes,
@@ -380,5 +419,81 @@ pub fn compare(
         leaf_pairs,
         &spec_order,
         &impl_order,
+        lines,
+        spare,
     )
+}
+
+// The comparison alone, whose lines are not kept.
+pub fn compare(
+    spec_nodes: &[i64],
+    spec_edges: &[i64],
+    impl_nodes: &[i64],
+    impl_edges: &[i64],
+    root_pairs: &[i64],
+    leaf_pairs: &[i64],
+) -> Compared
+    ensures { λ r. ⌜
+        ComparePromise
+        (tablesOf (now («spec_nodes» .entry)) (now («spec_edges» .entry)) (now («impl_nodes» .entry)) (now («impl_edges» .entry))
+        (now («root_pairs» .entry)) (now («leaf_pairs» .entry)))
+        r ⌝ }
+{
+    let mut lines = [0i64; 1];
+    let mut spare = [0i64; 1];
+    let lined = compare_lines(
+        spec_nodes,
+        spec_edges,
+        impl_nodes,
+        impl_edges,
+        root_pairs,
+        leaf_pairs,
+        &mut lines,
+        &mut spare,
+    );
+    lined.compared
+}
+
+// The rows of the pairs with a record on either side and a root row from `from` on and below `to`, in visiting order, in front of `lines` where
+// there is room for all of them, for tables that are not refused. Returns how many there are.
+pub fn lines_between(
+    spec_nodes: &[i64],
+    spec_edges: &[i64],
+    impl_nodes: &[i64],
+    impl_edges: &[i64],
+    root_pairs: &[i64],
+    leaf_pairs: &[i64],
+    from: usize,
+    to: usize,
+    lines: &mut [i64],
+    spare: &mut [i64],
+) -> usize
+    requires { ⌜
+        (checkTables (tablesOf (now «spec_nodes») (now «spec_edges») (now «impl_nodes») (now «impl_edges») (now «root_pairs») (now «leaf_pairs»)) ≡ none)
+        × (from ≤ to) × (to ≤ length (now «root_pairs») / 2) × (length (now lines) ≤ length (now spare)) ⌝ }
+    ensures { λ r. ⌜
+        LinesHeld (findingsBetween
+        (tablesOf (now («spec_nodes» .entry)) (now («spec_edges» .entry)) (now («impl_nodes» .entry)) (now («impl_edges» .entry))
+        (now («root_pairs» .entry)) (now («leaf_pairs» .entry))) from to)
+        (now (lines .exit)) r ⌝ }
+{
+    let mut spec_order = [0usize; MAX_EDGES];
+    let mut impl_order = [0usize; MAX_EDGES];
+    order_edges(spec_edges, &mut spec_order);
+    order_edges(impl_edges, &mut impl_order);
+    let kept = survey(
+        spec_nodes,
+        spec_edges,
+        impl_nodes,
+        impl_edges,
+        root_pairs,
+        leaf_pairs,
+        &spec_order,
+        &impl_order,
+        from,
+        to,
+        lines,
+        spare,
+    );
+    kept.count
 }

@@ -31,7 +31,7 @@ fn run_row(nodes: &[i64], leaf: usize, run: Run) -> Row
     let root = run.root;
     let low = run.low;
     let high = run.high;
-    let bit = Bits::of(steps::leaf_bit(nodes, leaf, low));
+    let bit = steps::leaf_bit(nodes, leaf, low);
     let displacement = root.less(bit);
     let last = root.plus(high.less(low));
     Row {
@@ -46,8 +46,9 @@ fn arrival_row(nodes: &[i64], leaf: usize, a: Bits) -> Row
     requires { ⌜ GoodRow (now nodes) leaf × SmallAddress (a .0) ⌝ }
     ensures { λ r. ⌜ ((es : List ℤ) → r ≡ arrivalRow (node (graphOf (now (nodes .entry)) es) (pos leaf)) (a .0)) ⌝ }
 {
+    let bit = steps::leaf_bit(nodes, leaf, a);
     Row {
-        first: steps::leaf_bit(nodes, leaf, a),
+        first: bit.0,
         second: 0,
         third: 0,
     }

@@ -1,22 +1,26 @@
 -- The list of a pair along a swept graph: none where there is no path, its records are small, and what stands in front of a work area is a normal
 -- list.
 use mathlib.Core.Path.{_≡_, refl, sym, ap, _∙_}
-use mathlib.Core.List.{List, [], _∷_}
+use mathlib.Core.Bool.{not}
+use mathlib.Core.List.{List, [], _∷_, map}
 use Prim.Native.Nat.{ℕ, _*_, _≤_, _<_, _^_}
 use native.Mathlib.Omega.{arith}
 use lib.IntN.{ℤ, pos, _-ℤ_}
 use lib.Signed.{_≤ℤ_}
-use lib.ListN.{length, getD, drop, length-append, length-take}
+use lib.ListN.{length, getD, drop, length-append, length-map, length-take}
 use Rattle.integers.proofs.Linear.{ints, sum, diff, neg}
 use Rattle.lists.specs.Lists.{keep}
+use Rattle.lists.proofs.Kept.{keep-length}
+use Rattle.model.specs.Limits.{maxPaths}
 use Rattle.model.specs.Graph.{Graph, graphOf, NodeRow, node, firstBit}
 use Rattle.model.specs.Walk.{Reached}
 use Rattle.model.specs.Paths.{Leaf}
 use Rattle.model.specs.Bitmapping.{Record}
 use Rattle.model.specs.Quantities.{Movable}
-use Rattle.model.specs.Runs.{paths, runs, normal, listOf}
+use Rattle.model.specs.Runs.{whole, empty, along, paths, runs, recordOf, normal, listOf}
 use Rattle.model.specs.Calls.{numbersOf}
 use Rattle.model.specs.Taken.{Taken}
+use Rattle.model.proofs.Normalisation.{normal-length}
 use Rattle.model.proofs.Taken.{taken-fit, taken-address, taken-node-full}
 use Rattle.model.proofs.Walks.{reached-address, reached-leaf-bit}
 use Rattle.model.proofs.ListLaw.{list-of-reached}
@@ -25,7 +29,7 @@ use Rattle.reach.proofs.Values.{values-length}
 use Rattle.reach.proofs.Reaching.{count-at}
 use Rattle.verdicts.specs.Records.{SmallRecords, NormalList, recordsOf}
 use Rattle.verdicts.proofs.Records.{recordsOf-front, stored-normal}
-use Rattle.pairs.specs.Inputs.{ListReady}
+use Rattle.pairs.specs.Inputs.{FewPaths, ListReady}
 use Rattle.pairs.specs.Found.{Listed}
 
 -- ---- no path
@@ -39,6 +43,21 @@ length-none (x ∷ l) e = absurd (omega arith)
 pub list-none : (g : Graph) (r l : ℤ) → pathCount g r l ≡ 0 → listOf g r l ≡ []
 unfolding pathCount listOf runs keep normal
 list-none g r l e = rw (length-none (paths g r l) e) refl
+
+-- a list has at most as many records as there are paths
+pub list-few : (g : Graph) (r l : ℤ) → FewPaths g r l → length (listOf g r l) ≤ maxPaths
+unfolding listOf runs
+list-few g r l h =
+    let all = map (λ p. along g p (whole (node g r))) (paths g r l) in
+    let kept = keep (λ s. not (empty s)) all in
+    omega (
+      arith,
+      normal-length (map (recordOf (node g l)) kept),
+      length-map kept (recordOf (node g l)),
+      keep-length (λ s. not (empty s)) all,
+      length-map (paths g r l) (λ p. along g p (whole (node g r))),
+      h,
+    )
 
 -- ---- the counts of a swept graph
 

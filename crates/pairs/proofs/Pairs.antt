@@ -16,7 +16,7 @@ use Rattle.pairs.specs.Inputs.{visitAt, findingAt, FewPaths, ListReady, 
 use Rattle.pairs.specs.Found.{Listed, IsFound, IsFinding}
 use Rattle.pairs.proofs.Rows.{row-member}
 use Rattle.pairs.proofs.Inputs.{row-roots}
-use Rattle.pairs.proofs.Lists.{listed-records}
+use Rattle.pairs.proofs.Lists.{list-few, listed-records}
 
 -- the nodes of a pair as the code has them
 pub list-ready-at : {ns es : List ℤ} {root leaf : ℤ} {counts head next : List ℕ} {work spare : List ℤ} {r l : ℕ} → pos r ≡ root → pos l ≡ leaf
@@ -39,6 +39,14 @@ module _ {t : Tables} {j : ℕ} {sc sh sx mc mh mx : List ℕ} {sw mw e : List �
       → ListReady (t .implNodes) (t .implEdges) (pairAt (t .rootPairs) i .impl) (pairAt (t .leafPairs) j .impl) mc mh mx mw after
   impl-list-ready after room =
       record { swept = k .swept .impl; row = row-roots (k .inputs) i h .1 .row; few = pair-few .1; workRoom = k .implRoom; spareRoom = room }
+
+  -- what is found of a pair counts at most 1,024 records of each list
+  pub found-few : {f : Found} → IsFinding (findingAt t i j) f → (f .spec ≤ maxPaths) × (f .implementation ≤ maxPaths)
+  unfolding findingOf
+  found-few q =
+      let root = pairAt (t .rootPairs) i in
+      let leaf = pairAt (t .leafPairs) j in
+      (rw (q .specLength) (list-few (specGraph t) (root .spec) (leaf .spec) (pair-few .0)), rw (q .implLength) (list-few (implGraph t) (root .impl) (leaf .impl) (pair-few .1)))
 
 -- what is found of the two lists is the finding of the pair
 pub pair-finding : (t : Tables) (i j : ℕ) {specAfter implAfter : List ℤ} {n m sr sl mr ml : ℕ} {f : Found}

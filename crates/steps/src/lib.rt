@@ -159,11 +159,10 @@ pub fn moved(nodes: &[i64], edges: &[i64], e: usize, a: Bits) -> Bits
 }
 
 // The leaf bit of a bit address at a leaf, counted from the leaf's first bit.
-pub fn leaf_bit(nodes: &[i64], leaf: usize, a: Bits) -> i64
+pub fn leaf_bit(nodes: &[i64], leaf: usize, a: Bits) -> Bits
     requires { ⌜ GoodRow (now nodes) leaf × SmallAddress (a .0) ⌝ }
-    ensures { λ r. ⌜ ((es : List ℤ) → r ≡ a .0 -ℤ firstBit (node (graphOf (now (nodes .entry)) es) (pos leaf))) ⌝ }
+    ensures { λ r. ⌜ ((es : List ℤ) → r .0 ≡ a .0 -ℤ firstBit (node (graphOf (now (nodes .entry)) es) (pos leaf))) ⌝ }
 {
     let extent = extent_of(nodes, leaf);
-    let bit = a.less(extent.first);
-    bit.0
+    a.less(extent.first)
 }

@@ -1,3 +1,9 @@
+pub mod Between
+pub mod Collecting
+pub mod Ordering
+pub mod Lines
 pub mod Adding
+pub mod Passing
+pub mod Surveys
 pub mod Sizes
 pub mod Ready

@@ -1,16 +1,19 @@
--- What is kept of the pairs: the totals of their verdicts. Assumes nothing.
+-- What is kept of the pairs: the totals of their verdicts, and the rows of those with a record. Assumes nothing.
 use mathlib.Core.Path.{_≡_}
 use mathlib.Core.Bool.{cond}
-use mathlib.Core.List.{map}
+use mathlib.Core.List.{List, map}
 use Prim.Native.Nat.{ℕ, suc, _+_, _*_, _≤_}
 use lib.Dec.{eqb, ltb}
-use lib.IntN.{ℤ}
+use lib.IntN.{ℤ, negsuc}
 use Rattle.model.specs.Limits.{maxPairs}
-use Rattle.model.specs.Compare.{Tables, rootRows, leafRows, findingOf}
+use Rattle.model.specs.Compare.{Tables, leafRows, Finding, findingOf}
 use Rattle.visiting.specs.Visiting as visiting
 use Rattle.visiting.specs.Visiting.{ofLeaf, byLeaf, noKey}
+use Rattle.reporting.specs.Lines.{rowsOfFindings}
 use Rattle.pairing.specs.Pairs.{pairAt}
 use Rattle.survey.specs.declared.Totals.{Totals}
+use Rattle.survey.specs.declared.Kept.{Kept}
+use Rattle.survey.specs.Lines.{rootsBetween, findingsBetween, LinesHeld, Collected}
 
 -- the totals that the code holds
 abbrev pub asTotals : Totals → visiting.Totals
@@ -49,12 +52,37 @@ placed place address t =
       address = cond (ltb place (t .key)) address (t .address);
     }
 
--- the totals with the pairs of leaf row j behind them: those of the findings, and no more than that many pairs
-pub record LeafTotals (t : Tables) (j : ℕ) (before after : Totals) : Type 0 where
-  pub found : asTotals after ≡ visiting.totalsFrom (asTotals before) (map (findingOf t) (ofLeaf (rootRows t) (pairAt (t .leafPairs) j)))
-  pub most : AtMost ((j + 1) * maxPairs) after
+-- what is kept of at most n pairs
+pub record KeptMost (n : ℕ) (k : Kept) : Type 0 where
+  pub totals : AtMost n (k .totals)
+  pub count : k .count ≤ n
 
--- the totals of all pairs, taken leaf row by leaf row
-pub record AllTotals (t : Tables) (r : Totals) : Type 0 where
-  pub found : asTotals r ≡ visiting.totalsOf (map (findingOf t) (byLeaf (rootRows t) (leafRows t)))
-  pub most : AtMost (maxPairs * maxPairs) r
+-- before the first pair
+abbrev pub freshKept : Kept
+freshKept = record { totals = record { equal = 0; partial = 0; different = 0; key = noKey; address = negsuc 0 }; count = 0 }
+
+-- the findings of leaf row j with the root rows from, .., to − 1
+abbrev pub leafFindings : Tables → ℕ → ℕ → ℕ → List Finding
+leafFindings t from to j = map (findingOf t) (ofLeaf (rootsBetween t from to) (pairAt (t .leafPairs) j))
+
+-- the findings of all leaf rows with these root rows, leaf row by leaf row
+abbrev pub allFindings : Tables → ℕ → ℕ → List Finding
+allFindings t from to = map (findingOf t) (byLeaf (rootsBetween t from to) (leafRows t))
+
+-- what is kept with the pairs of leaf row j: their totals and their rows are added
+pub record LeafKept (t : Tables) (from to j : ℕ) (before after : Kept) (lines lines′ : List ℤ) : Type 0 where
+  pub found : asTotals (after .totals) ≡ visiting.totalsFrom (asTotals (before .totals)) (leafFindings t from to j)
+  pub rows : Collected (rowsOfFindings (leafFindings t from to j)) lines (before .count) lines′ (after .count)
+  pub most : KeptMost ((j + 1) * maxPairs) after
+
+-- what is kept of the pairs of all leaf rows, taken leaf row by leaf row
+pub record AllKept (t : Tables) (from to : ℕ) (r : Kept) (lines : List ℤ) : Type 0 where
+  pub found : asTotals (r .totals) ≡ visiting.totalsOf (allFindings t from to)
+  pub rows : LinesHeld (allFindings t from to) lines (r .count)
+  pub most : KeptMost (maxPairs * maxPairs) r
+
+-- what a survey gives: the totals of the pairs of these root rows, and their rows in visiting order
+pub record SurveyPromise (t : Tables) (from to : ℕ) (r : Kept) (lines : List ℤ) : Type 0 where
+  pub found : asTotals (r .totals) ≡ visiting.totalsOf (allFindings t from to)
+  pub key : r .totals .key ≤ noKey
+  pub rows : LinesHeld (findingsBetween t from to) lines (r .count)

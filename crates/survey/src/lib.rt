@@ -1,13 +1,16 @@
 // What is kept of all pairs of a comparison. Pairs are worked through leaf row by leaf row, since one sweep of a graph serves all roots of a leaf;
 // keys keep their places in visiting order.
 ghost use mathlib.Core.Path.{_≡_};
-ghost use Prim.Native.Nat.{_*_, _/_, _<_};
+ghost use Prim.Native.Nat.{_+_, _*_, _≤_};
+ghost use lib.IntN.{pos};
+ghost use lib.ListN.{length};
 ghost use Rattle.model.specs.Limits.{maxPairs};
 ghost use Rattle.model.specs.Answers.{verdictNumber};
 ghost use Rattle.pairing.specs.Pairs.{tablesOf};
 ghost use Rattle.visiting.specs.Visiting.{withVerdict};
-ghost use Rattle.pairs.specs.Inputs.{LeafReady};
-ghost use Rattle.survey.specs.Found.{asTotals, AtMost, placed, withCount, LeafTotals, AllTotals};
+ghost use Rattle.pairs.specs.Inputs.{Ordered, AllFew, LeafReady};
+ghost use Rattle.survey.specs.Lines.{Between, Collected, Sorts, FewFound, foundRow, foundRows};
+ghost use Rattle.survey.specs.Found.{asTotals, AtMost, placed, withCount, KeptMost, freshKept, LeafKept, AllKept, SurveyPromise};
 ghost use Rattle.survey.specs.Inputs.{AllReady};
 use model::Verdict;
 use pairs::Found;
@@ -16,9 +19,26 @@ use pairs::pair_found;
 use pairs::place_of;
 use pairs::spec_node;
 use pairs::sweep;
+use sorting::Row;
+use sorting::put_row;
+use sorting::sort_rows;
 
 // Numbers of a pair row.
 const PAIR_WIDTH: usize = 2;
+
+// Numbers of a line's row.
+const LINE_WIDTH: usize = 3;
+
+// The list lengths of a pair are the specification's times this, and the implementation's.
+const LENGTH_STRIDE: usize = 4096;
+
+// Rows of a table at most.
+const MAX_NODES: usize = 2000;
+
+const MAX_EDGES: usize = 2600;
+
+// The numbers of the most records that a list has.
+const LIST_ROOM: usize = 3072;
 
 // Above every place of a pair.
 const NO_KEY: usize = 1000000;
@@ -30,6 +50,12 @@ pub struct Totals {
     pub different: usize,
     pub key: usize,
     pub address: i64,
+}
+
+// What is kept of the pairs: the totals of their verdicts, and how many have a record on either side.
+pub struct Kept {
+    pub totals: Totals,
+    pub count: usize,
 }
 
 // The totals with this place and address, where the place is below the one kept.
@@ -82,7 +108,58 @@ fn with_found(t: Totals, place: usize, found: Found) -> Totals
     }
 }
 
-// The totals with all pairs of one leaf row, root row by root row.
+// The number of a verdict.
+fn verdict_number(v: Verdict) -> i64
+    ensures { λ r. ⌜ r ≡ pos (verdictNumber v) ⌝ }
+{
+    match v {
+        Verdict::Equal => 0,
+        Verdict::Partial => 1,
+        Verdict::Different => 2,
+    }
+}
+
+// The row of what is found of the pair with this place.
+fn line_of(place: usize, found: Found) -> Row
+    requires { ⌜ FewFound place found ⌝ }
+    ensures { λ r. ⌜ r ≡ foundRow place found ⌝ }
+{
+    let verdict = found.verdict;
+    Row {
+        first: place as i64,
+        second: verdict_number(verdict),
+        third: (found.spec * LENGTH_STRIDE + found.implementation) as i64,
+    }
+}
+
+// Stores the row of a pair with a record on either side behind `count` rows, while there is room. Returns how many such pairs there are with it.
+fn with_line(lines: &mut [i64], count: usize, place: usize, found: Found) -> usize
+    requires { ⌜ (count ≤ maxPairs * maxPairs) × FewFound place found ⌝ }
+    ensures { λ r. ⌜ Collected (foundRows place found) (now (lines .entry)) count (now (lines .exit)) r ⌝ }
+    ensures { λ r. ⌜ r ≤ count + 1 ⌝ }
+{
+    if found.spec + found.implementation == 0 {
+        return count;
+    }
+    if lines.len() < LINE_WIDTH * count + LINE_WIDTH {
+        return count + 1;
+    }
+    put_row(lines, count, line_of(place, found));
+    count + 1
+}
+
+// Sorts `count` rows, where there was room for all of them.
+fn sort_lines(lines: &mut [i64], count: usize, spare: &mut [i64])
+    requires { ⌜ (count ≤ maxPairs * maxPairs) × (length (now lines) ≤ length (now spare)) ⌝ }
+    ensures { λ _. ⌜ Sorts (now (lines .entry)) count (now (lines .exit)) ⌝ }
+{
+    if lines.len() < LINE_WIDTH * count {
+        return;
+    }
+    sort_rows(lines, count, spare);
+}
+
+// What is kept with the pairs of one leaf row and the root rows `from`, .., `to` - 1, root row by root row.
 fn found_of_leaf(
     spec_nodes: &[i64],
     spec_edges: &[i64],
@@ -100,22 +177,26 @@ fn found_of_leaf(
     spec_work: &mut [i64],
     impl_work: &mut [i64],
     spare: &mut [i64],
-    totals: Totals,
-) -> Totals
+    from: usize,
+    to: usize,
+    lines: &mut [i64],
+    kept: Kept,
+) -> Kept
     requires { ⌜
         LeafReady (tablesOf (now «spec_nodes») (now «spec_edges») (now «impl_nodes») (now «impl_edges») (now «root_pairs») (now «leaf_pairs»)) «leaf_row»
         (now «spec_counts») (now «spec_head») (now «spec_next») (now «impl_counts») (now «impl_head») (now «impl_next»)
         (now «spec_work») (now «impl_work») (now spare)
-        × AtMost («leaf_row» * maxPairs) totals ⌝ }
+        × Between (tablesOf (now «spec_nodes») (now «spec_edges») (now «impl_nodes») (now «impl_edges») (now «root_pairs») (now «leaf_pairs»)) from to
+        × KeptMost («leaf_row» * maxPairs) kept ⌝ }
     ensures { λ r. ⌜
-        LeafTotals
+        LeafKept
         (tablesOf (now («spec_nodes» .entry)) (now («spec_edges» .entry)) (now («impl_nodes» .entry)) (now («impl_edges» .entry))
-        (now («root_pairs» .entry)) (now («leaf_pairs» .entry))) «leaf_row» totals r ⌝ }
+        (now («root_pairs» .entry)) (now («leaf_pairs» .entry))) from to «leaf_row» kept r (now (lines .entry)) (now (lines .exit)) ⌝ }
 {
-    let count = root_pairs.len() / PAIR_WIDTH;
-    let mut totals = totals;
-    let mut root_row: usize = 0;
-    while root_row < count {
+    let mut totals = kept.totals;
+    let mut count = kept.count;
+    let mut root_row = from;
+    while root_row < to {
         let found = pair_found(
             spec_nodes,
             spec_edges,
@@ -135,14 +216,36 @@ fn found_of_leaf(
             impl_work,
             spare,
         );
-        totals = with_found(totals, place_of(root_row, leaf_row), found);
+        let place = place_of(root_row, leaf_row);
+        totals = with_found(totals, place, found);
+        count = with_line(lines, count, place, found);
         root_row += 1;
     }
-    totals
+    Kept {
+        totals: totals,
+        count: count,
+    }
 }
 
-// The totals of all pairs, leaf row by leaf row: one sweep of each graph serves all roots of a leaf.
-pub fn found_of_all(
+// What is kept before the first pair.
+fn no_pair() -> Kept
+    ensures { λ r. ⌜ r ≡ freshKept ⌝ }
+{
+    let totals = Totals {
+        equal: 0,
+        partial: 0,
+        different: 0,
+        key: NO_KEY,
+        address: -1,
+    };
+    Kept {
+        totals: totals,
+        count: 0,
+    }
+}
+
+// What is kept of the pairs of all leaf rows with these root rows, leaf row by leaf row: one sweep of each graph serves all roots of a leaf.
+fn found_of_all(
     spec_nodes: &[i64],
     spec_edges: &[i64],
     impl_nodes: &[i64],
@@ -160,24 +263,22 @@ pub fn found_of_all(
     spec_work: &mut [i64],
     impl_work: &mut [i64],
     spare: &mut [i64],
-) -> Totals
+    from: usize,
+    to: usize,
+    lines: &mut [i64],
+) -> Kept
     requires { ⌜
         AllReady (tablesOf (now «spec_nodes») (now «spec_edges») (now «impl_nodes») (now «impl_edges») (now «root_pairs») (now «leaf_pairs»))
         (now «spec_order») (now «impl_order») (now «spec_counts») (now «spec_head») (now «spec_next») (now «impl_counts») (now «impl_head») (now «impl_next»)
-        (now «spec_work») (now «impl_work») (now spare) ⌝ }
+        (now «spec_work») (now «impl_work») (now spare)
+        × Between (tablesOf (now «spec_nodes») (now «spec_edges») (now «impl_nodes») (now «impl_edges») (now «root_pairs») (now «leaf_pairs»)) from to ⌝ }
     ensures { λ r. ⌜
-        AllTotals
+        AllKept
         (tablesOf (now («spec_nodes» .entry)) (now («spec_edges» .entry)) (now («impl_nodes» .entry)) (now («impl_edges» .entry))
-        (now («root_pairs» .entry)) (now («leaf_pairs» .entry))) r ⌝ }
+        (now («root_pairs» .entry)) (now («leaf_pairs» .entry))) from to r (now (lines .exit)) ⌝ }
 {
     let count = leaf_pairs.len() / PAIR_WIDTH;
-    let mut totals = Totals {
-        equal: 0,
-        partial: 0,
-        different: 0,
-        key: NO_KEY,
-        address: -1,
-    };
+    let mut kept = no_pair();
     let mut row: usize = 0;
     while row < count {
         let spec_leaf = spec_node(leaf_pairs, row);
@@ -200,7 +301,7 @@ pub fn found_of_all(
             impl_head,
             impl_next,
         );
-        totals = found_of_leaf(
+        kept = found_of_leaf(
             spec_nodes,
             spec_edges,
             impl_nodes,
@@ -217,9 +318,74 @@ pub fn found_of_all(
             spec_work,
             impl_work,
             spare,
-            totals,
+            from,
+            to,
+            lines,
+            kept,
         );
         row += 1;
     }
-    totals
+    kept
+}
+
+// What is kept of all leaf rows with the root rows `from`, .., `to` - 1: the totals of their verdicts, and the rows of the pairs with a record on
+// either side, in visiting order, in front of `lines` where there is room for all of them.
+pub fn survey(
+    spec_nodes: &[i64],
+    spec_edges: &[i64],
+    impl_nodes: &[i64],
+    impl_edges: &[i64],
+    root_pairs: &[i64],
+    leaf_pairs: &[i64],
+    spec_order: &[usize],
+    impl_order: &[usize],
+    from: usize,
+    to: usize,
+    lines: &mut [i64],
+    spare: &mut [i64],
+) -> Kept
+    requires { ⌜
+        Ordered (tablesOf (now «spec_nodes») (now «spec_edges») (now «impl_nodes») (now «impl_edges») (now «root_pairs») (now «leaf_pairs»))
+        (now «spec_order») (now «impl_order»)
+        × AllFew (tablesOf (now «spec_nodes») (now «spec_edges») (now «impl_nodes») (now «impl_edges») (now «root_pairs») (now «leaf_pairs»))
+        × Between (tablesOf (now «spec_nodes») (now «spec_edges») (now «impl_nodes») (now «impl_edges») (now «root_pairs») (now «leaf_pairs»)) from to
+        × (length (now lines) ≤ length (now spare)) ⌝ }
+    ensures { λ r. ⌜
+        SurveyPromise
+        (tablesOf (now («spec_nodes» .entry)) (now («spec_edges» .entry)) (now («impl_nodes» .entry)) (now («impl_edges» .entry))
+        (now («root_pairs» .entry)) (now («leaf_pairs» .entry))) from to r (now (lines .exit)) ⌝ }
+{
+    let mut spec_counts = [0usize; MAX_NODES];
+    let mut spec_head = [0usize; MAX_NODES];
+    let mut spec_next = [0usize; MAX_EDGES];
+    let mut impl_counts = [0usize; MAX_NODES];
+    let mut impl_head = [0usize; MAX_NODES];
+    let mut impl_next = [0usize; MAX_EDGES];
+    let mut spec_work = [0i64; LIST_ROOM];
+    let mut impl_work = [0i64; LIST_ROOM];
+    let mut list_spare = [0i64; LIST_ROOM];
+    let kept = found_of_all(
+        spec_nodes,
+        spec_edges,
+        impl_nodes,
+        impl_edges,
+        root_pairs,
+        leaf_pairs,
+        spec_order,
+        impl_order,
+        &mut spec_counts,
+        &mut spec_head,
+        &mut spec_next,
+        &mut impl_counts,
+        &mut impl_head,
+        &mut impl_next,
+        &mut spec_work,
+        &mut impl_work,
+        &mut list_spare,
+        from,
+        to,
+        lines,
+    );
+    sort_lines(lines, kept.count, spare);
+    kept
 }

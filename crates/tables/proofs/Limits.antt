@@ -62,13 +62,17 @@ pub edge-parts : (g : Graph) (e : Edge) → goodEdge g e ≡ isRow g (e .from) &
 unfolding goodEdge goodOffset
 edge-parts g e = and-assoc (isRow g (e .from) && isRow g (e .to)) (leZ (negℤ (pos maxUnits)) (e .offset)) (leZ (e .offset) (pos maxUnits))
 
--- where neither is too low, base and range keep their limits exactly where range is at most what base leaves of the highest end
-pub extent-rest : (base range : ℤ) → pos 0 ≤ℤ base → pos 1 ≤ℤ range → leZ range (pos maxUnits -ℤ base) ≡ goodExtent base range
-extent-rest base range low some =
-    let rest = diff (pos maxUnits) base in
+-- a base and a range of at most 2^48 each, neither below 0, are added
+pub extent-addable : (base range : ℤ) → pos 0 ≤ℤ base → pos 1 ≤ℤ range → base ≤ℤ pos maxUnits → range ≤ℤ pos maxUnits → Addable base range
+extent-addable base range low some most long =
     let end = sum base range in
+    record { low = omega (arith, ints, low, some, end, neg (pos (2 ^ 62))); high = omega (arith, ints, most, long, end) }
+
+-- where neither is too low, base and range keep their limits exactly where their sum does
+pub extent-end : (base range end : ℤ) → pos 0 ≤ℤ base → pos 1 ≤ℤ range → end ≡ base +ℤ range → leZ end (pos maxUnits) ≡ goodExtent base range
+extent-end base range end low some e =
     decides-same
-    (decides-as (λ h. ((low, some), omega (arith, ints, rest, end)), λ h. omega (arith, ints, h .1, rest, end)) (decides-le range (pos maxUnits -ℤ base)))
+    (decides-as (λ h. ((low, some), omega (arith, ints, e, h)), λ h. omega (arith, ints, e, h .1)) (decides-le end (pos maxUnits)))
     (extent? base range)
 
 -- a number that is not negative is a row exactly where it is below the number of rows

@@ -146,20 +146,24 @@ fn is_unit(unit: i64) -> bool
     unit == 128
 }
 
-// Whether base and range keep their limits. The sum is not computed: it may not fit.
-fn good_extent(base: i64, range: i64) -> bool
-    ensures { λ r. ⌜ r ≡ goodExtent base range ⌝ }
+// Whether base and range keep their limits. Each is held to the highest end before they are added: the sum of any two might not fit.
+fn good_extent(base: Units, range: Units) -> bool
+    ensures { λ r. ⌜ r ≡ goodExtent (base .0) (range .0) ⌝ }
 {
-    if base < 0 {
+    if base.0 < 0 {
         return false;
     }
-    if range < 1 {
+    if range.0 < 1 {
         return false;
     }
-    if MAX_UNITS < base {
+    if MAX_UNITS < base.0 {
         return false;
     }
-    range <= MAX_UNITS - base
+    if MAX_UNITS < range.0 {
+        return false;
+    }
+    let end = base.plus(range);
+    end.0 <= MAX_UNITS
 }
 
 // Whether a node row keeps the limits.
@@ -174,7 +178,7 @@ pub fn good_node(n: NodeRow) -> bool
     if !is_unit(n.unit) {
         return false;
     }
-    if !good_extent(base.0, range.0) {
+    if !good_extent(base, range) {
         return false;
     }
     true
@@ -222,13 +226,13 @@ pub fn is_row(v: i64, count: usize) -> bool
 }
 
 // Whether an offset keeps its limits.
-fn good_offset(offset: i64) -> bool
-    ensures { λ r. ⌜ r ≡ goodOffset offset ⌝ }
+fn good_offset(offset: Units) -> bool
+    ensures { λ r. ⌜ r ≡ goodOffset (offset .0) ⌝ }
 {
-    if offset < -MAX_UNITS {
+    if offset.0 < -MAX_UNITS {
         return false;
     }
-    offset <= MAX_UNITS
+    offset.0 <= MAX_UNITS
 }
 
 // Whether an edge row keeps the limits in a graph with so many nodes.
@@ -242,7 +246,7 @@ pub fn good_edge(e: EdgeRow, count: usize) -> bool
     if !is_row(e.to, count) {
         return false;
     }
-    good_offset(offset.0)
+    good_offset(offset)
 }
 
 // Refusals 3 and 4 of row e of an edge table.

@@ -1,56 +1,20 @@
--- The inputs are refused, or the answer is that of the paths and the pairs; demand 3 follows from the answer.
-use Rattle.compare.proofs.Results.{inputs-refused, inputs-taken}
+-- The answer is that of the comparison with lines.
 use borrow.Author.Needs.{needs}
 use Rattle.compare.proofs.compare.Statement.{statement}
 use Rattle.compare.proofs.compare.Tie as tie
 
-slice-aggregate-check-inputs : tie.Need-slice-aggregate-check-inputs
-slice-aggregate-check-inputs c = search needs
+slice-aggregate-compare-lines : tie.Need-slice-aggregate-compare-lines
+slice-aggregate-compare-lines c = search needs
 
-slice-aggregate-check-inputs-2 : tie.Need-slice-aggregate-check-inputs-2
-slice-aggregate-check-inputs-2 c = search needs
+slice-aggregate-compare-lines-2 : tie.Need-slice-aggregate-compare-lines-2
+slice-aggregate-compare-lines-2 c = search needs
 
-check-inputs-requires : tie.Need-check-inputs-requires
-check-inputs-requires c κs = search needs
-
-enum-known-c : tie.Need-enum-known-c
-enum-known-c c = search needs
+compare-lines-requires : tie.Need-compare-lines-requires
+compare-lines-requires c κs = search needs
 
 returns : tie.Need-returns
-returns c =
-    let k = c .before .before .before .before .before in
-    inputs-refused (k .check-inputs .ensures) (c .before .c .given .1)
-
-enum-told : tie.Need-enum-told
-enum-told c = search needs
-
-slice-aggregate-compare-checked : tie.Need-slice-aggregate-compare-checked
-slice-aggregate-compare-checked c = search needs
-
-slice-aggregate-compare-checked-2 : tie.Need-slice-aggregate-compare-checked-2
-slice-aggregate-compare-checked-2 c = search needs
-
-compare-checked-requires : tie.Need-compare-checked-requires
-compare-checked-requires c κs =
-    let e = c .before .before in
-    e .before .before .before .before .check-inputs .ensures .takes (e .enum-told .given .1)
-
-returns-2 : tie.Need-returns-2
-returns-2 c =
-    let e = c .before .before .before in
-    inputs-taken (e .before .before .before .before .check-inputs .ensures) (e .enum-told .given .1) (c .compare-checked .ensures)
+returns c = c .before .before .compare-lines .ensures .0
 
 pub compare-spec : {M : Type 1} → statement M
 compare-spec =
-    tie.close
-    (tie.spec
-    slice-aggregate-check-inputs
-    slice-aggregate-check-inputs-2
-    check-inputs-requires
-    enum-known-c
-    returns
-    enum-told
-    slice-aggregate-compare-checked
-    slice-aggregate-compare-checked-2
-    compare-checked-requires
-    returns-2)
+    tie.close (tie.spec slice-aggregate-compare-lines slice-aggregate-compare-lines-2 compare-lines-requires returns)

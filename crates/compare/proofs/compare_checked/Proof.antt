@@ -1,5 +1,6 @@
 -- The lowest key gives a refusal, or no pair has too many paths.
-use Rattle.compare.proofs.Results.{key-refused, key-few, key-full}
+use mathlib.Core.Path.{_∙_}
+use Rattle.compare.proofs.Results.{key-refused, key-few, key-full, refused-lines}
 use borrow.Author.Needs.{needs}
 use Rattle.compare.proofs.compare_checked.Statement.{statement}
 use Rattle.compare.proofs.compare_checked.Tie as tie
@@ -19,22 +20,35 @@ mul-if1 c = search needs
 many-paths-requires : tie.Need-many-paths-requires
 many-paths-requires c κs = search needs
 
+refusal-requires : tie.Need-refusal-requires
+refusal-requires c κs = search needs
+
 returns : tie.Need-returns
 returns c =
-    let m = c .before .before .before .before in
-    key-refused (m .before .before .before .before .before .pre .inputs) (m .many-of-all .ensures) (c .many-paths .ensures)
+    let m = c .before .before .before .before .before in
+    let s = m .before .before .before .before .before in
+    let r = c .refusal .ensures .0 in
+    (r ∙ key-refused (s .pre .0 .inputs) (m .many-of-all .ensures) (c .before .many-paths .ensures), refused-lines _ (c .refusal .result .compared) r)
 
 compare-pairs-requires : tie.Need-compare-pairs-requires
 compare-pairs-requires c κs =
-    let m = c .before .before .before in
+    let m = c .before .before .before .before .before in
     let s = m .before .before .before .before .before in
-    (s .pre, key-few (s .pre .inputs) (m .many-of-all .ensures) (c .if1 .left))
+    (s .pre .0, key-few (s .pre .0 .inputs) (m .many-of-all .ensures) (c .before .before .if1 .left), s .pre .1)
+
+same-length : tie.Need-same-length
+same-length c = search needs
+
+same-length-2 : tie.Need-same-length-2
+same-length-2 c = search needs
 
 returns-2 : tie.Need-returns-2
 returns-2 c =
-    let e = c .before in
+    let p = c .before .before .compare-pairs .ensures in
+    let e = c .before .before .before .before .before in
     let m = e .before .before .before in
-    key-full (m .before .before .before .before .before .pre .inputs) (m .many-of-all .ensures) (e .if1 .left) (c .compare-pairs .ensures)
+    let s = m .before .before .before .before .before in
+    (p .0 ∙ key-full (s .pre .0 .inputs) (m .many-of-all .ensures) (e .if1 .left), λ res q. p .1)
 
 pub compare-checked-spec : {M : Type 1} → statement M
 compare-checked-spec =
@@ -45,6 +59,9 @@ compare-checked-spec =
     many-of-all-requires
     mul-if1
     many-paths-requires
+    refusal-requires
     returns
     compare-pairs-requires
+    same-length
+    same-length-2
     returns-2)

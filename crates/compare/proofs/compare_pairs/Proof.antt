@@ -1,75 +1,29 @@
--- The buffers have room, and the result is that of the totals of all pairs.
-use Rattle.compare.proofs.Results.{totals-result}
+-- The totals of a survey of all root rows give the result, and its rows are the lines.
+use mathlib.Core.Path.{ap}
+use Rattle.model.specs.Calls.{full}
+use Rattle.compare.proofs.Results.{survey-result, survey-lines}
 use borrow.Author.Needs.{needs}
 use Rattle.compare.proofs.compare_pairs.Statement.{statement}
 use Rattle.compare.proofs.compare_pairs.Tie as tie
 
-slice-aggregate-found-of-all : tie.Need-slice-aggregate-found-of-all
-slice-aggregate-found-of-all c = search needs
-
-slice-aggregate-found-of-all-2 : tie.Need-slice-aggregate-found-of-all-2
-slice-aggregate-found-of-all-2 c = search needs
-
-slice-aggregate-found-of-all-3 : tie.Need-slice-aggregate-found-of-all-3
-slice-aggregate-found-of-all-3 c = search needs
-
-slice-aggregate-found-of-all-4 : tie.Need-slice-aggregate-found-of-all-4
-slice-aggregate-found-of-all-4 c = search needs
-
-slice-aggregate-found-of-all-5 : tie.Need-slice-aggregate-found-of-all-5
-slice-aggregate-found-of-all-5 c = search needs
-
-slice-aggregate-found-of-all-6 : tie.Need-slice-aggregate-found-of-all-6
-slice-aggregate-found-of-all-6 c = search needs
-
-slice-aggregate-found-of-all-7 : tie.Need-slice-aggregate-found-of-all-7
-slice-aggregate-found-of-all-7 c = search needs
-
-slice-aggregate-found-of-all-8 : tie.Need-slice-aggregate-found-of-all-8
-slice-aggregate-found-of-all-8 c = search needs
-
-slice-aggregate-found-of-all-9 : tie.Need-slice-aggregate-found-of-all-9
-slice-aggregate-found-of-all-9 c = search needs
-
-found-of-all-requires : tie.Need-found-of-all-requires
-found-of-all-requires c κs =
-    let s = c .before .before .before .before .before .before .before .before .before .before .before in
-    record {
-      ordered = s .pre .0;
-      few = s .pre .1;
-      specCountRoom = search needs;
-      specHeadRoom = search needs;
-      specNextRoom = search needs;
-      implCountRoom = search needs;
-      implHeadRoom = search needs;
-      implNextRoom = search needs;
-      specRoom = search needs;
-      implRoom = search needs;
-      spareRoom = search needs;
-    }
+survey-requires : tie.Need-survey-requires
+survey-requires c κs = search needs
 
 comparison-of-requires : tie.Need-comparison-of-requires
 comparison-of-requires c κs = search needs
 
+same-length : tie.Need-same-length
+same-length c = search needs
+
+same-length-2 : tie.Need-same-length-2
+same-length-2 c = search needs
+
 returns : tie.Need-returns
 returns c =
-    let f = c .before .before .before .before .before .before .before .before .before .before in
-    let s = f .before .before .before .before .before .before .before .before .before .before .before .before in
-    totals-result (s .pre .0 .inputs) (f .found-of-all .ensures) (c .comparison-of .ensures)
+    let v = c .before .before .before .before in
+    let s = v .before .before .before .before .before in
+    (ap full (survey-result (v .survey .ensures) (s .pre .0 .inputs) (c .comparison-of .ensures)), survey-lines (v .survey .ensures))
 
 pub compare-pairs-spec : {M : Type 1} → statement M
 compare-pairs-spec =
-    tie.close
-    (tie.spec
-    slice-aggregate-found-of-all
-    slice-aggregate-found-of-all-2
-    slice-aggregate-found-of-all-3
-    slice-aggregate-found-of-all-4
-    slice-aggregate-found-of-all-5
-    slice-aggregate-found-of-all-6
-    slice-aggregate-found-of-all-7
-    slice-aggregate-found-of-all-8
-    slice-aggregate-found-of-all-9
-    found-of-all-requires
-    comparison-of-requires
-    returns)
+    tie.close (tie.spec survey-requires comparison-of-requires same-length same-length-2 returns)

@@ -12,8 +12,8 @@ leaf-bit-requires c κs = search needs
 
 returns : tie.Need-returns
 returns c es =
-    let f : SFits w64 (c .leaf-bit .result) = search needs in
-    rw (toZ-ofZ f, c .leaf-bit .ensures es) refl
+    let f : SFits w64 (c .before .leaf-bit .result .0) = search needs in
+    rw (toZ-ofZ f, c .before .leaf-bit .ensures es) refl
 
 pub arrival-row-spec : {M : Type 1} → statement M
 arrival-row-spec = tie.close (tie.spec leaf-bit-requires returns)

@@ -1,11 +1,7 @@
 -- The first bit of the leaf is a bit address, so that the difference fits.
 use mathlib.Core.Path.{ap, _∙_}
 use mathlib.Core.List.{[]}
-use borrow.Author.Needs.{needs}
 use lib.IntN.{pos, _-ℤ_}
-use mir.Syntax.{w64}
-use mir.Val.{SFits}
-use mir.Facts.{toZ-ofZ}
 use Rattle.model.specs.Graph.{graphOf, node}
 use Rattle.steps.proofs.Bounds.{leaf-movable}
 use Rattle.steps.proofs.Rows.{node-limits}
@@ -22,9 +18,8 @@ less-requires c κs =
 
 returns : tie.Need-returns
 returns c es =
-    let x = c .before .before in
-    let f : SFits w64 (c .before .less .result .0) = search needs in
-    simp (toZ-ofZ, f) (c .before .less .ensures ∙ ap (λ b. x .before .args .a .0 -ℤ b) (x .extent-of .ensures es .first))
+    let x = c .before in
+    c .less .ensures ∙ ap (λ b. x .before .args .a .0 -ℤ b) (x .extent-of .ensures es .first)
 
 pub leaf-bit-spec : {M : Type 1} → statement M
 leaf-bit-spec = tie.close (tie.spec extent-of-requires less-requires returns)

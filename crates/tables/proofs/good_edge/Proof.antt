@@ -26,10 +26,8 @@ to-test c g e =
     sym (simp (toZ-ofZ, f) at (c .is-row2 .ensures g e))
 
 offset-test : (c : tie.After-good-offset)
-    → goodOffset (c .before .before .before .before .before .before .before .before .before .args .e .offset .0) ≡ c .good-offset .result
-offset-test c =
-    let f : SFits w64 (c .before .before .before .before .before .before .before .before .before .args .e .offset .0) = search needs in
-    sym (simp (toZ-ofZ, f) at (c .good-offset .ensures))
+    → goodOffset (c .before .before .before .before .before .before .before .before .args .e .offset .0) ≡ c .good-offset .result
+offset-test c = sym (c .good-offset .ensures)
 
 is-row-requires : tie.Need-is-row-requires
 is-row-requires c κs = search needs
@@ -50,7 +48,7 @@ good-offset-requires c κs = search needs
 
 returns-3 : tie.Need-returns-3
 returns-3 c g e =
-    let t = c .before .before in
+    let t = c .before in
     let s = t .before .before .before in
     simp (edge-parts, from-test (s .before) g e ∙ not-false _ (s .if1 .left), to-test (t .before) g e ∙ not-false _ (t .if2 .left), offset-test c)
 

@@ -29,13 +29,9 @@ unit-good : (c : tie.Else2) → isUnit (c .before .before .before .before .befor
 unit-good c = unit-test (c .before) ∙ not-false _ (c .if2 .left)
 
 extent-test : (c : tie.After-good-extent)
-    → goodExtent (c .before .before .before .before .before .before .before .before .before .before .before .args .n .base .0)
-    (c .before .before .before .before .before .before .before .before .before .before .before .args .n .range .0) ≡ c .good-extent .result
-extent-test c =
-    let n = c .before .before .before .before .before .before .before .before .before .before .before .args .n in
-    let f : SFits w64 (n .base .0) = search needs in
-    let g : SFits w64 (n .range .0) = search needs in
-    sym (simp (toZ-ofZ, f, g) at (c .good-extent .ensures))
+    → goodExtent (c .before .before .before .before .before .before .before .before .before .args .n .base .0)
+    (c .before .before .before .before .before .before .before .before .before .args .n .range .0) ≡ c .good-extent .result
+extent-test c = sym (c .good-extent .ensures)
 
 is-kind-requires : tie.Need-is-kind-requires
 is-kind-requires c κs = search needs
@@ -54,12 +50,12 @@ good-extent-requires c κs = search needs
 
 returns-3 : tie.Need-returns-3
 returns-3 c =
-    let s = c .before .before .before .before in
+    let s = c .before .before in
     simp (node-parts, kind-good (s .before .before .before), unit-good s, extent-test (c .before) ∙ not-true _ (c .if3 .taken))
 
 returns-4 : tie.Need-returns-4
 returns-4 c =
-    let s = c .before .before .before .before in
+    let s = c .before .before in
     simp (node-parts, kind-good (s .before .before .before), unit-good s, extent-test (c .before) ∙ not-false _ (c .if3 .left))
 
 pub good-node-spec : {M : Type 1} → statement M

@@ -3,6 +3,8 @@ use native.Mathlib.Omega.{arith}
 use borrow.Author.Needs.{needs}
 use lib.IntN.{pos, negℤ}
 use lib.Signed.{_≤ℤ_}
+use mir.Syntax.{w64}
+use mir.Val.{SFits}
 use mir.Facts.{toZ-ofZ}
 use Rattle.integers.proofs.Linear.{ints}
 use Rattle.integers.proofs.Range.{ltZ-true, ltZ-false}
@@ -17,15 +19,20 @@ sub-if1 c = search needs
 
 returns : tie.Need-returns
 returns c =
-    let o = c .before .args .offset in
-    let h = ltZ-true o (negℤ (pos maxUnits)) (simp (toZ-ofZ, c .before .fits .offset) at (c .if1 .taken)) in
+    let s = c .before .before .before in
+    let o = s .args .offset .0 in
+    let f : SFits w64 (s .args .offset .0) = search needs in
+    let h = ltZ-true o (negℤ (pos maxUnits)) (simp (toZ-ofZ, f) at (c .if1 .taken)) in
     decides-false (offset? o) (λ g. omega (arith, ints, h, g .0))
 
 returns-2 : tie.Need-returns-2
 returns-2 c =
-    let o = c .before .args .offset in
-    let low : negℤ (pos maxUnits) ≤ℤ c .before .args .offset = ltZ-false o (negℤ (pos maxUnits)) (simp (toZ-ofZ, c .before .fits .offset) at (c .if1 .left)) in
-    simp (toZ-ofZ, c .before .fits .offset)
+    let t = c .before .before in
+    let s = t .before .before .before in
+    let o = s .args .offset .0 in
+    let f : SFits w64 (s .args .offset .0) = search needs in
+    let low : negℤ (pos maxUnits) ≤ℤ s .args .offset .0 = ltZ-false o (negℤ (pos maxUnits)) (simp (toZ-ofZ, f) at (t .if1 .left)) in
+    simp (toZ-ofZ, f)
     (decides-same (decides-as (λ h. (low, h), λ h. h .1) (decides-le o (pos maxUnits))) (offset? o))
 
 pub good-offset-spec : {M : Type 1} → statement M

@@ -9,17 +9,11 @@ ghost use Rattle.model.specs.Answers.{checkedAnswer};
 ghost use Rattle.depth.specs.Check.{GraphChecked};
 ghost use Rattle.depth.specs.Passes.{upTo, Placed, stamped, entersStamped, SplitInto, Orderable, Unpeeled, OrderedInto};
 use model::Checked;
+use model::EDGE_WIDTH;
+use model::MAX_CHAIN;
+use model::MAX_EDGES;
+use model::MAX_NODES;
 use model::Reason;
-
-// Numbers of an edge row.
-const EDGE_WIDTH: usize = 3;
-
-// Nodes and edges of a graph, and edges of a chain, at most.
-const MAX_NODES: usize = 2000;
-
-const MAX_EDGES: usize = 2600;
-
-const MAX_CHAIN: usize = 64;
 
 // What the edges of a graph are: ordered from the leaves up, or with a chain of more than 64 edges, or with a cycle.
 pub enum Chained {

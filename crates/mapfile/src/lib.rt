@@ -14,6 +14,9 @@ ghost use Rattle.model.specs.Reader.{allowed, brokenOff, checkText, fieldsOf, m
 ghost use Rattle.mapfile.specs.Parts.{firstLine, laterLines, firstField, blankFirst, innerValue, lastValue, restOf, scanned};
 ghost use Rattle.mapfile.specs.Given.{tableOf, roomOf, isLast, lent, Lent, maxNames, NameGiven, ColumnsGiven, Roomy, PassGiven, FieldGiven, digitsValue, signedValue, Placed, Stands, NumGiven, LineGiven, columnFound, columnList, GoodColumns, rowNumbers, RowGiven, Appended, RowsGiven, ReadGiven};
 use model::Checked;
+use model::MAX_EDGES;
+use model::MAX_NODES;
+use model::MAX_PAIRS;
 use model::Reason;
 
 // Bytes of a text and digits of a value at most.
@@ -29,13 +32,6 @@ const EDGE_NAMES: usize = 4;
 const PAIR_NAMES: usize = 3;
 
 const MAX_NAMES: usize = NODE_NAMES;
-
-// Rows of each table at most.
-const MAX_NODES: usize = 2000;
-
-const MAX_EDGES: usize = 2600;
-
-const MAX_PAIRS: usize = 1000;
 
 // Numbers that are kept of each table at most: those of one row more than its limit, without side or role.
 const NODE_ROOM: usize = (NODE_NAMES - 1) * (MAX_NODES + 1);

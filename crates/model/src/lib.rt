@@ -5,6 +5,51 @@ ghost use lib.IntN.{pos, negℤ, _+ℤ_, _-ℤ_, _*ℤ_};
 ghost use lib.Signed.{_≤ℤ_};
 ghost use Rattle.model.specs.Quantities.{Addable, Scalable, Movable};
 
+// Numbers of a node row, of an edge row and of a pair.
+pub const NODE_WIDTH: usize = 4;
+
+pub const EDGE_WIDTH: usize = 3;
+
+pub const PAIR_WIDTH: usize = 2;
+
+// Rows of a table at most.
+pub const MAX_NODES: usize = 2000;
+
+pub const MAX_EDGES: usize = 2600;
+
+pub const MAX_PAIRS: usize = 1000;
+
+// Edges of a chain, and paths from a root to a leaf, at most.
+pub const MAX_CHAIN: usize = 64;
+
+pub const MAX_PATHS: usize = 1024;
+
+// Base + range of a node, and the size of an offset, in address units, at most: 2^48.
+pub const MAX_UNITS: i64 = 281474976710656;
+
+// What a root row counts for in the place of a pair in visiting order: its place is root row × ROOT_STRIDE + leaf row.
+pub const ROOT_STRIDE: usize = 1000;
+
+// Tables, by the numbers that refusals give.
+pub const SPEC_NODES: usize = 0;
+
+pub const SPEC_EDGES: usize = 1;
+
+pub const IMPL_NODES: usize = 2;
+
+pub const IMPL_EDGES: usize = 3;
+
+pub const ROOT_PAIRS: usize = 4;
+
+pub const LEAF_PAIRS: usize = 5;
+
+// Kinds of nodes.
+pub const SPACE: i64 = 0;
+
+pub const SEGMENT: i64 = 1;
+
+pub const BLOCK: i64 = 2;
+
 // A count of address units.
 pub struct Units(pub i64);
 

@@ -13,30 +13,18 @@ ghost use Rattle.model.specs.Calls.{answer};
 ghost use Rattle.model.specs.Answers.{checkedAnswer};
 ghost use Rattle.pairing.specs.Classes.{Classifiable, classesOver, kindClass, kindsOver, enteredClass, enteredBy, EntersWithin, hasClass};
 ghost use Rattle.pairing.specs.Pairs.{pairAt, checkPairs, checkSome, checkSizes, checkClassified, checkPairingRows, isMarked, Unmarked, tablesOf};
+use model::BLOCK;
 use model::Checked;
+use model::EDGE_WIDTH;
+use model::LEAF_PAIRS;
+use model::MAX_NODES;
+use model::MAX_PAIRS;
+use model::NODE_WIDTH;
+use model::PAIR_WIDTH;
+use model::ROOT_PAIRS;
 use model::Reason;
 use tables::check_shape;
 use tables::edge_to;
-
-// Numbers of a node row, an edge row and a pair row.
-const NODE_WIDTH: usize = 4;
-
-const EDGE_WIDTH: usize = 3;
-
-const PAIR_WIDTH: usize = 2;
-
-// Rows of a table at most.
-const MAX_NODES: usize = 2000;
-
-const MAX_PAIRS: usize = 1000;
-
-// The tables of root pairs and of leaf pairs.
-const ROOT_PAIRS: usize = 4;
-
-const LEAF_PAIRS: usize = 5;
-
-// The kind of a block.
-const BLOCK: i64 = 2;
 
 // Classes of nodes.
 const OTHER: usize = 0;

@@ -8,16 +8,11 @@ ghost use Rattle.model.specs.Limits.{maxPaths};
 ghost use Rattle.model.specs.Graph.{graphOf};
 ghost use Rattle.reach.specs.Counting.{stopped, countsOver, Countable};
 ghost use Rattle.reach.specs.Links.{Linkable, Linked};
+use model::EDGE_WIDTH;
+use model::MAX_PATHS;
+use model::NODE_WIDTH;
 use tables::edge_from;
 use tables::edge_to;
-
-// Numbers of a node row and of an edge row.
-const NODE_WIDTH: usize = 4;
-
-const EDGE_WIDTH: usize = 3;
-
-// The most paths from a root to a leaf.
-const MAX_PATHS: usize = 1024;
 
 // The sum of two stopped counts, stopped.
 fn stopped_sum(a: usize, b: usize) -> usize

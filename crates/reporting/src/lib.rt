@@ -10,13 +10,11 @@ ghost use Rattle.model.specs.Report.{resultLine};
 ghost use Rattle.report.specs.Put.{Put};
 ghost use Rattle.reporting.specs.Lines.{lineNumbers, resultNumbers, lineOfRow, linesOf, pairLines, resultLines, reportFrom, SmallRow, SmallLines, SmallResult, measured, outputAnswer};
 use model::Comparison;
+use model::ROOT_STRIDE;
 use model::Reason;
 use model::Verdict;
 use model::Written;
 use sorting::Row;
-
-// The key of a pair is its root row times this, and its leaf row.
-const ROOT_STRIDE: usize = 1000;
 
 // The list lengths of a pair are the specification's times this, and the implementation's.
 const LENGTH_STRIDE: usize = 4096;

@@ -12,30 +12,18 @@ ghost use Rattle.model.specs.Checks.{firstOf, checkShape, isKind, isUnit, goodN
 ghost use Rattle.model.specs.Calls.{answer};
 ghost use Rattle.model.specs.Answers.{checkedAnswer};
 ghost use Rattle.tables.specs.Tables.{nodeAt, edgeAt, nodeOf, edgeOf, goodExtent, goodOffset, checkRows};
+use model::BLOCK;
 use model::Bits;
 use model::Checked;
+use model::EDGE_WIDTH;
+use model::MAX_EDGES;
+use model::MAX_NODES;
+use model::MAX_UNITS;
+use model::NODE_WIDTH;
 use model::Reason;
+use model::SEGMENT;
+use model::SPACE;
 use model::Units;
-
-// Numbers of a node row and of an edge row.
-const NODE_WIDTH: usize = 4;
-
-const EDGE_WIDTH: usize = 3;
-
-// Rows of a table at most.
-const MAX_NODES: usize = 2000;
-
-const MAX_EDGES: usize = 2600;
-
-// Base + range of a node, and the size of an offset, in address units, at most: 2^48.
-const MAX_UNITS: i64 = 281474976710656;
-
-// Kinds of nodes.
-const SPACE: i64 = 0;
-
-const SEGMENT: i64 = 1;
-
-const BLOCK: i64 = 2;
 
 // A node row.
 pub struct NodeRow {

@@ -116,7 +116,7 @@ returns-2 : tie.Need-returns-2 Inv-loop μ-loop
 returns-2 c =
     let l = c .before .before in
     let s = entry l in
-    peeling-long (s .args .edges .now) (s .args .order .now) (s .pre .table) (l .loop .inv .4) (omega arith) (c .if2 .taken)
+    peeling-long (s .args .edges .now) (s .args .order .now) (s .pre .table) (l .loop .inv .4) (omega arith) (omega arith)
 
 same-length-7 : tie.Need-same-length-7 Inv-loop μ-loop
 same-length-7 c = c .before .before .loop .inv .0
@@ -131,7 +131,7 @@ returns-3 : tie.Need-returns-3 Inv-loop μ-loop
 returns-3 c =
     let l = c .before .before in
     let s = entry l in
-    peeling-ordered (s .args .edges .now) (s .args .order .now) (s .pre .table) (l .loop .inv .4) (omega arith) (c .if2 .left)
+    peeling-ordered (s .args .edges .now) (s .args .order .now) (s .pre .table) (l .loop .inv .4) (omega arith) (omega arith)
 
 pub peel-spec : {M : Type 1} → statement M
 peel-spec =

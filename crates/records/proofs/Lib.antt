@@ -1,0 +1,4 @@
+pub mod Putting
+pub mod Promises
+pub mod Buffers
+pub mod Sharing

@@ -1,6 +1,8 @@
-//! Links the verified static library when HEALDRIP_LIB_DIR names the folder that
-//! holds libhealdrip.a, and sets the condition `healdrip_library` for the code
-//! that uses it. Without the variable nothing is linked.
+//! Links the verified static libraries: libhealdrip.a from the folder that
+//! HEALDRIP_LIB_DIR names, and libbenchcalls.a, the comparison on tables, from the
+//! folder that BENCHCALLS_LIB_DIR names. Sets the conditions `healdrip_library` and
+//! `benchcalls_library` for the code that uses them. Without a variable its library
+//! is not linked; with one it must be there.
 //!
 //! A static library may bring a panic handler and a standard library of its own,
 //! which would clash with or replace those of the tests. So it is first joined
@@ -8,22 +10,33 @@
 
 use std::process::Command;
 
-const CALL: &str = "healdrip_text_check";
+/// Name of the library, the variable that names its folder, and its C call.
+const LIBRARIES: [(&str, &str, &str); 2] = [
+    ("healdrip", "HEALDRIP_LIB_DIR", "healdrip_text_check"),
+    ("benchcalls", "BENCHCALLS_LIB_DIR", "benchcalls_compare"),
+];
 
 fn run(program: &str, arguments: &[&str]) {
     let status = Command::new(program).args(arguments).status();
     assert!(status.is_ok_and(|status| status.success()), "{program} {arguments:?} failed");
 }
 
-fn main() {
-    println!("cargo:rustc-check-cfg=cfg(healdrip_library)");
-    println!("cargo:rerun-if-env-changed=HEALDRIP_LIB_DIR");
-    let Ok(folder) = std::env::var("HEALDRIP_LIB_DIR") else { return };
+fn link(name: &str, folder: &str, call: &str) {
     let out = std::env::var("OUT_DIR").expect("cargo sets OUT_DIR");
-    let (library, object) = (format!("{folder}/libhealdrip.a"), format!("{out}/healdrip.o"));
-    run("ld", &["-r", "--force-group-allocation", "-u", CALL, "-o", &object, &library]);
-    run("objcopy", &[&format!("--keep-global-symbol={CALL}"), &object]);
+    let (library, object) = (format!("{folder}/lib{name}.a"), format!("{out}/{name}.o"));
     println!("cargo:rerun-if-changed={library}");
+    run("ld", &["-r", "--force-group-allocation", "-u", call, "-o", &object, &library]);
+    run("objcopy", &[&format!("--keep-global-symbol={call}"), &object]);
     println!("cargo:rustc-link-arg={object}");
-    println!("cargo:rustc-cfg=healdrip_library");
+    println!("cargo:rustc-cfg={name}_library");
+}
+
+fn main() {
+    for (name, variable, call) in LIBRARIES {
+        println!("cargo:rustc-check-cfg=cfg({name}_library)");
+        println!("cargo:rerun-if-env-changed={variable}");
+        if let Ok(folder) = std::env::var(variable) {
+            link(name, &folder, call);
+        }
+    }
 }

@@ -2,9 +2,10 @@
 //! come out equal, partial and different, the same as texts, damaged texts, and
 //! maps at both sides of every limit.
 
-use crate::reference::{refusal, Refusal, Tables, BLOCK, MAX_UNITS, UNITS};
+use crate::reference::{refusal, Refusal, Tables, BLOCK, UNITS};
 use crate::reference::{EDGE_NAMES, NODE_NAMES, PAIR_NAMES, WIDTHS};
 use crate::reference::{IMPL_EDGES, IMPL_NODES, LEAF_PAIRS, ROOT_PAIRS, SPEC_EDGES, SPEC_NODES};
+use crate::reference::{MAX_EDGES, MAX_NODES, MAX_PAIRS, MAX_TEXT, MAX_UNITS};
 
 pub const SPACE: i64 = 0;
 pub const SEGMENT: i64 = 1;
@@ -54,6 +55,22 @@ impl Random {
         self.shuffle(&mut order);
         order
     }
+}
+
+/// Every order of that many things.
+pub fn permutations(count: usize) -> Vec<Vec<usize>> {
+    if count == 0 {
+        return vec![Vec::new()];
+    }
+    let mut orders = Vec::new();
+    for shorter in permutations(count - 1) {
+        for place in 0..count {
+            let mut order = shorter.clone();
+            order.insert(place, count - 1);
+            orders.push(order);
+        }
+    }
+    orders
 }
 
 // Drafts of graphs
@@ -454,6 +471,116 @@ pub fn small_map(random: &mut Random) -> Tables {
     tables(&spec, &implementation)
 }
 
+/// A map with its nodes moved up, some as far as they may be: the lists move with
+/// their root, which moves alike on both sides. Sometimes all nodes are counted in
+/// units of 128 first, so that addresses up to 2^55 occur.
+pub fn raised(random: &mut Random, tables: &Tables) -> Tables {
+    /// Units that are left for the map's own bases, ranges and offsets.
+    const LEFT: i64 = 1 << 13;
+    const STEP: i64 = 128;
+    let mut tables = tables.clone();
+    let coarse = random.chance(30);
+    let mut smallest = STEP;
+    for node in [SPEC_NODES, IMPL_NODES].map(|table| tables[table].clone()).concat().chunks(4) {
+        smallest = smallest.min(if coarse { STEP } else { node[3] });
+    }
+    let most = (MAX_UNITS - LEFT) * smallest / STEP;
+    let mut steps = [SPEC_NODES, IMPL_NODES].map(|table| {
+        let count = tables[table].len() / 4;
+        let draw = |_| match random.below(6) {
+            0 => 0,
+            1 => most,
+            2 => most - 1,
+            3 => most / 2,
+            _ => random.between(0, most),
+        };
+        (0..count).map(draw).collect::<Vec<i64>>()
+    });
+    for pair in tables[ROOT_PAIRS].chunks(2) {
+        steps[1][pair[1] as usize] = steps[0][pair[0] as usize];
+    }
+    for (side, nodes) in [SPEC_NODES, IMPL_NODES].into_iter().enumerate() {
+        let steps = &steps[side];
+        for (node, step) in tables[nodes].chunks_mut(4).zip(steps) {
+            node[3] = if coarse { STEP } else { node[3] };
+            node[1] += step * (STEP / node[3]);
+        }
+        let units: Vec<i64> = tables[nodes].chunks(4).map(|node| node[3]).collect();
+        for edge in tables[nodes + 1].chunks_mut(3) {
+            let (from, to) = (edge[0] as usize, edge[1] as usize);
+            edge[2] += (steps[from] - steps[to]) * (STEP / units[to]);
+        }
+    }
+    tables
+}
+
+// Long maps
+
+/// Adds the rows of another map, its node rows counted on.
+fn append_map(tables: &mut Tables, more: &Tables) {
+    let counts = [SPEC_NODES, IMPL_NODES].map(|table| tables[table].len() as i64 / 4);
+    for table in [SPEC_NODES, IMPL_NODES] {
+        tables[table].extend(&more[table]);
+    }
+    for (side, table) in [SPEC_EDGES, IMPL_EDGES].into_iter().enumerate() {
+        let count = counts[side];
+        let edges = more[table].chunks(3);
+        tables[table].extend(edges.flat_map(|edge| [edge[0] + count, edge[1] + count, edge[2]]));
+    }
+    for table in [ROOT_PAIRS, LEAF_PAIRS] {
+        let pairs = more[table].chunks(2);
+        tables[table].extend(pairs.flat_map(|pair| [pair[0] + counts[0], pair[1] + counts[1]]));
+    }
+}
+
+fn shuffle_rows(random: &mut Random, table: &mut Vec<i64>, width: usize) {
+    let order = random.shuffled(table.len() / width);
+    *table = order.into_iter().flat_map(|row| table[row * width..][..width].to_vec()).collect();
+}
+
+/// The same map with the rows of every table in any order.
+pub fn reordered(random: &mut Random, tables: &Tables) -> Tables {
+    let mut tables = tables.clone();
+    for (side, nodes) in [SPEC_NODES, IMPL_NODES].into_iter().enumerate() {
+        let places = random.shuffled(tables[nodes].len() / 4);
+        let old = tables[nodes].clone();
+        for (row, node) in old.chunks(4).enumerate() {
+            tables[nodes][places[row] * 4..][..4].copy_from_slice(node);
+        }
+        let move_row = |row: &mut i64| *row = places[*row as usize] as i64;
+        for edge in tables[nodes + 1].chunks_mut(3) {
+            edge[..2].iter_mut().for_each(move_row);
+        }
+        for table in [ROOT_PAIRS, LEAF_PAIRS] {
+            tables[table].chunks_mut(2).for_each(|pair| move_row(&mut pair[side]));
+        }
+    }
+    for table in [SPEC_EDGES, IMPL_EDGES, ROOT_PAIRS, LEAF_PAIRS] {
+        shuffle_rows(random, &mut tables[table], WIDTHS[table]);
+    }
+    tables
+}
+
+/// Many small maps beside one another as one, rows in any order: a map whose text
+/// has about that many bytes, at most what a text may have.
+pub fn long_map(random: &mut Random, bytes: usize) -> Tables {
+    let mut tables = small_map(random);
+    let mut length = plain_text(&tables).len();
+    while length < bytes {
+        let more = small_map(random);
+        let mut longer = tables.clone();
+        append_map(&mut longer, &more);
+        let limits = [MAX_NODES, MAX_EDGES, MAX_NODES, MAX_EDGES, MAX_PAIRS, MAX_PAIRS];
+        let within = |table: usize| longer[table].len() / WIDTHS[table] <= limits[table];
+        length = plain_text(&longer).len();
+        if length > MAX_TEXT || !(0..6).all(within) {
+            break;
+        }
+        tables = longer;
+    }
+    reordered(random, &tables)
+}
+
 // Texts
 
 /// The rows of two tables with the number that tells them apart before each.
@@ -501,6 +628,12 @@ pub fn plain_text(tables: &Tables) -> Vec<u8> {
     text_by(tables, |columns, rows| ((0..columns).collect(), rows))
 }
 
+/// The text with the columns of each table in the given orders.
+pub fn text_with_columns(tables: &Tables, orders: [&[usize]; 3]) -> Vec<u8> {
+    let mut next = orders.into_iter();
+    text_by(tables, |_, rows| (next.next().unwrap().to_vec(), rows))
+}
+
 /// The text with columns in any order, sides and roles interleaved.
 pub fn mixed_text(random: &mut Random, tables: &Tables) -> Vec<u8> {
     text_by(tables, |columns, rows| (random.shuffled(columns), interleave(random, &rows)))
@@ -509,7 +642,7 @@ pub fn mixed_text(random: &mut Random, tables: &Tables) -> Vec<u8> {
 // Damage
 
 /// Parted by single spaces; the first is empty.
-const WRONG_FIELDS: &str = " - -0 00 01 -01 --1 1- 1-1 a side x1 -1 2 3 24 129 2000 \
+pub const WRONG_FIELDS: &str = " - -0 00 01 -01 --1 1- 1-1 a side x1 -1 2 3 24 129 2000 \
     999999999999999999 1000000000000000000 -999999999999999999 -1000000000000000000 \
     9223372036854775808 18446744073709551617 281474976710656 281474976710657 \
     -281474976710656 -281474976710657";
@@ -636,6 +769,14 @@ pub fn chained(edges: usize) -> Draft {
     draft
 }
 
+/// Doubled edges one behind the other, and beside them more edges from root to leaf.
+fn doubled(stages: usize, beside: usize) -> Draft {
+    let mut draft = chained(stages);
+    draft.edges.extend(draft.edges.clone());
+    (0..beside).for_each(|_| draft.join(draft.roots[0], draft.leaves[0], 3));
+    draft
+}
+
 fn with_node(base: i64, range: i64) -> Draft {
     let mut draft = joined(1);
     draft.node(SEGMENT, base, range, 128);
@@ -678,10 +819,18 @@ fn crowded(root: usize, leaf: usize) -> Draft {
 /// Each limit from both sides, in the specification and in the implementation.
 pub fn limits() -> Vec<Limit> {
     let graphs = [
+        ("1,999 nodes", filled(1_999, 1), None),
         ("2,000 nodes", filled(2_000, 1), None),
         ("2,001 nodes", filled(2_001, 1), Some((1, 0, 0))),
+        ("2,599 edges", filled(3, 2_599), None),
         ("2,600 edges", filled(3, 2_600), None),
         ("2,601 edges", filled(3, 2_601), Some((1, 1, 0))),
+        ("base 0", with_node(0, 1), None),
+        ("base below 0", with_node(-1, 2), Some((2, 0, 2))),
+        ("range 0", with_node(0, 0), Some((2, 0, 2))),
+        ("range at 2^48", with_node(0, MAX_UNITS), None),
+        ("range above 2^48", with_node(0, MAX_UNITS + 1), Some((2, 0, 2))),
+        ("base below 2^48", with_node(MAX_UNITS - 1, 1), None),
         ("base + range at 2^48", with_node(1, MAX_UNITS - 1), None),
         ("base + range above 2^48", with_node(1, MAX_UNITS), Some((2, 0, 2))),
         ("base at 2^48", with_node(MAX_UNITS, 1), Some((2, 0, 2))),
@@ -689,10 +838,16 @@ pub fn limits() -> Vec<Limit> {
         ("offset above 2^48", with_offset(MAX_UNITS + 1), Some((3, 1, 1))),
         ("offset at -2^48", with_offset(-MAX_UNITS), None),
         ("offset below -2^48", with_offset(-MAX_UNITS - 1), Some((3, 1, 1))),
+        ("chain of 63", chained(63), None),
         ("chain of 64", chained(64), None),
         ("chain of 65", chained(65), Some((6, 0, 0))),
+        ("1,023 paths", joined(1_023), None),
         ("1,024 paths", joined(1_024), None),
         ("1,025 paths", joined(1_025), Some((10, 1, 0))),
+        ("1,024 paths over doubled edges", doubled(10, 0), None),
+        ("1,025 paths over doubled edges", doubled(10, 1), Some((10, 1, 0))),
+        ("2,048 paths over doubled edges", doubled(11, 0), Some((10, 1, 0))),
+        ("doubled edges along a chain of 64", doubled(64, 0), Some((10, 1, 0))),
         ("no edge", joined(0), None),
         ("2,000 nodes, 2,600 edges", filled(2_000, 2_600), None),
     ];
@@ -709,6 +864,7 @@ pub fn limits() -> Vec<Limit> {
         }
     }
     let pairings = [
+        (999, 999, None),
         (1_000, 1_000, None),
         (1_001, 2, Some(refusal(1, ROOT_PAIRS, 0))),
         (2, 1_001, Some(refusal(1, LEAF_PAIRS, 0))),
@@ -731,6 +887,57 @@ pub fn limits() -> Vec<Limit> {
         let [spec, implementation] = pairs.map(|(root, leaf)| crowded(root, leaf));
         let tables = tables(&spec, &implementation);
         limits.push(Limit { name: name.to_string(), tables, expected: Some(expected) });
+    }
+    limits
+}
+
+/// Roots and leaves of which the last are joined by more than 1,024 paths.
+fn crowded_at_end(roots: usize, leaves: usize) -> Draft {
+    let mut draft = unjoined(roots, leaves);
+    let mut last = roots - 1;
+    for _ in 0..11 {
+        let next = draft.node(SEGMENT, 0, 1, 8);
+        (0..2).for_each(|_| draft.join(last, next, 0));
+        last = next;
+    }
+    draft.join(last, roots + leaves - 1, 0);
+    draft
+}
+
+/// Full tables whose last row alone is refused.
+pub fn far_rows() -> Vec<Limit> {
+    let mut last_unit = filled(2_000, 1);
+    last_unit.nodes[1_999].unit = 7;
+    let mut last_end = filled(3, 2_600);
+    last_end.edges[2_599].to = 3;
+    let mut last_start = filled(3, 2_600);
+    last_start.edges[2_599].from = 1;
+    let graphs = [
+        ("unit of the last node", last_unit, (2, 0, 1_999)),
+        ("end of the last edge", last_end, (3, 1, 2_599)),
+        ("start of the last edge", last_start, (4, 1, 2_599)),
+    ];
+    let mut limits = Vec::new();
+    for (name, draft, (number, table, row)) in graphs {
+        let sides = [tables(&draft, &joined(1)), tables(&joined(1), &draft)];
+        for (side, tables) in sides.into_iter().enumerate() {
+            let expected = Some(refusal(number, table + 2 * side, row));
+            limits.push(Limit { name: format!("{name}, side {side}"), tables, expected });
+        }
+    }
+    let full = unjoined(1_000, 1_000);
+    for (number, table, place, node) in
+        [(7, 4, 1_998, 1_000), (8, 4, 1_999, 0), (7, 5, 1_999, 0), (8, 5, 1_998, 1_000)]
+    {
+        let mut tables = tables(&full, &full);
+        tables[table][place] = node;
+        let expected = Some(refusal(number, table, 999));
+        limits.push(Limit { name: format!("last pair of table {table}"), tables, expected });
+    }
+    let (few, many) = (unjoined(980, 1_000), crowded_at_end(980, 1_000));
+    for (edges, tables) in [(SPEC_EDGES, tables(&many, &few)), (IMPL_EDGES, tables(&few, &many))] {
+        let expected = Some(refusal(10, edges, 979_999));
+        limits.push(Limit { name: format!("paths of the last pair, {edges}"), tables, expected });
     }
     limits
 }

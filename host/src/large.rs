@@ -9,6 +9,8 @@ pub struct Map {
     pub tables: Tables,
     /// A listing pair by pair ends in reasonable time.
     pub by_pair: bool,
+    /// A comparison takes seconds, whichever way it lists.
+    pub long: bool,
 }
 
 impl Map {
@@ -20,6 +22,10 @@ impl Map {
     pub fn pairs(&self) -> usize {
         self.tables[4].len() / 2 * (self.tables[5].len() / 2)
     }
+}
+
+fn whole(name: &'static str, tables: Tables) -> Map {
+    Map { name, tables, by_pair: true, long: false }
 }
 
 /// The map of the document.
@@ -90,7 +96,8 @@ impl Funnel {
     fn map(&self, name: &'static str) -> Map {
         let draft = self.draft();
         let by_pair = self.roots * self.leaves < 10_000;
-        Map { name, tables: tables(&draft, &draft), by_pair }
+        let long = !by_pair || self.chain > 0;
+        Map { name, tables: tables(&draft, &draft), by_pair, long }
     }
 }
 
@@ -104,7 +111,13 @@ fn diagonal(name: &'static str, count: i64) -> Map {
         draft.join(draft.roots[row as usize], hub, 0);
         draft.join(hub, draft.leaves[row as usize], row);
     }
-    Map { name, tables: tables(&draft, &draft), by_pair: true }
+    whole(name, tables(&draft, &draft))
+}
+
+/// That many roots and as many leaves around one hub, all connected.
+pub fn connected(count: usize) -> Map {
+    let funnel = Funnel { roots: count, leaves: count, stages: 0, ..FUNNEL };
+    funnel.map("connected through one hub")
 }
 
 /// One edge on the specification's side, 1,024 windows of a unit on the other.
@@ -121,7 +134,7 @@ fn touching_windows(name: &'static str) -> Map {
         implementation.join(0, window, 0);
         implementation.join(window, foot, 0);
     }
-    Map { name, tables: tables(&spec, &implementation), by_pair: true }
+    whole(name, tables(&spec, &implementation))
 }
 
 /// A system of usual form: each leaf behind a chain of bridges of mixed units that
@@ -168,14 +181,32 @@ fn system(name: &'static str) -> Map {
         implementation.edges.push(implementation.edges[number * 13]);
     }
     let reversed: Vec<usize> = (0..NODES).rev().collect();
-    Map { name, tables: tables(&spec, &implementation.renumbered(&reversed)), by_pair: true }
+    whole(name, tables(&spec, &implementation.renumbered(&reversed)))
+}
+
+/// A funnel in the specification, and the same with shorter leaves in the implementation.
+fn partial(name: &'static str, funnel: Funnel) -> Map {
+    let shorter = Funnel { leaf_range: funnel.leaf_range - 1, ..funnel };
+    whole(name, tables(&funnel.draft(), &shorter.draft()))
+}
+
+/// Maps with as many paths, records and edges along a path as may be, and few pairs.
+pub fn narrow_maps() -> Vec<Map> {
+    let merging = Funnel { roots: 3, leaves: 3, ..FUNNEL };
+    let records = Funnel { step: 1, ..merging };
+    let chain = Funnel { chain: 52, ..records };
+    vec![
+        merging.map("3 x 3, 1,024 paths, 1 record"),
+        records.map("3 x 3, 1,024 paths, no merging"),
+        partial("3 x 3, 1,024 records, partial", records),
+        chain.map("3 x 3, chain of 64, 1,024 paths"),
+        partial("3 x 3, chain of 64, partial", chain),
+    ]
 }
 
 pub fn maps() -> Vec<Map> {
-    let whole = |name, tables| Map { name, tables, by_pair: true };
     let none = unjoined(1_000, 1_000);
     let records = Funnel { step: 1, ..FUNNEL };
-    let narrower = Funnel { leaf_range: 3, ..records };
     let chain = Funnel { chain: 52, ..records };
     let wide = Funnel { leaves: 900, ..records };
     // Each leaf lies below every address that its edge can lead to.
@@ -194,7 +225,8 @@ pub fn maps() -> Vec<Map> {
         FUNNEL.map("60 x 60, 1,024 paths, 1 record"),
         touching_windows("60 x 60, 1,024 touching windows"),
         records.map("60 x 60, 1,024 paths, no merging"),
-        whole("60 x 60, 1,024 records, partial", tables(&records.draft(), &narrower.draft())),
+        Funnel { roots: 30, leaves: 30, ..records }.map("30 x 30, 1,024 paths, no merging"),
+        Map { long: true, ..partial("60 x 60, 1,024 records, partial", records) },
         chain.map("60 x 60, chain of 64, 1,024 paths"),
         Funnel { roots: 1, ..wide }.map("1 x 900, 1,024 paths"),
         Funnel { roots: 100, ..wide }.map("100 x 900, 1,024 paths"),

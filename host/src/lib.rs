@@ -2,15 +2,18 @@
 //! written from the document alone and shares no code with the program.
 //!
 //! ```text
-//! cargo test --offline -j1                            all tests without the library
+//! cargo test --offline                           all tests without the verified code
 //! HEALDRIP_LIB_DIR=<folder of libhealdrip.a> \
-//! cargo test --release --offline -j1 --test library   reference against library
-//! cargo run --release --offline -j1 --bin bench       timings; the variable adds the library
+//! BENCHCALLS_LIB_DIR=<folder of libbenchcalls.a> \
+//! cargo test --offline                           the same, and against it
 //! ```
+//!
+//! The scripts `test` and `bench` at the top of the repository build the archives
+//! and run this project.
 
 pub mod bitwalk;
+pub mod faults;
 pub mod generate;
 pub mod large;
-#[cfg(healdrip_library)]
 pub mod library;
 pub mod reference;

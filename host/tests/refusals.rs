@@ -1,7 +1,8 @@
 //! Refusals: the readings of the open places typed in by hand, every limit from
 //! both sides, and the order among any two faults.
 
-use host::generate::{joined, limits, plain_text, tables, text_of_length, Draft, SEGMENT};
+use host::faults::{base, row_faults, table_faults, text_faults};
+use host::generate::{far_rows, joined, limits, plain_text, text_of_length};
 use host::large::P1;
 use host::reference::*;
 
@@ -212,6 +213,11 @@ fn limits_from_both_sides() {
             assert_eq!(text_check(&text, REPORT_ROOM).err(), limit.expected, "{}", limit.name);
         }
     }
+    for limit in far_rows() {
+        let text = plain_text(&limit.tables);
+        assert!(text.len() <= MAX_TEXT, "{}", limit.name);
+        assert_eq!(text_check(&text, REPORT_ROOM).err(), limit.expected, "{}", limit.name);
+    }
     for length in 65_530..65_540 {
         let text = text_of_length(length);
         assert_eq!(text.len(), length);
@@ -222,109 +228,57 @@ fn limits_from_both_sides() {
 
 // Order
 
-/// Two roots and three leaves, each root joined with each leaf, and both sides alike.
-fn base() -> Tables {
-    let mut draft = Draft::default();
-    let roots = [draft.root(0, 64, 8), draft.root(8, 32, 16)];
-    let leaves = [draft.leaf(0, 16, 8), draft.leaf(4, 8, 32), draft.leaf(0, 1, 128)];
-    for (from, to) in roots.into_iter().flat_map(|root| leaves.map(|leaf| (root, leaf))) {
-        draft.join(from, to, 2);
-    }
-    tables(&draft, &draft)
-}
-
-type Fault = Box<dyn Fn(&mut Tables)>;
-
-fn put(table: usize, place: usize, number: i64) -> Fault {
-    Box::new(move |tables| {
-        if let Some(old) = tables[table].get_mut(place) {
-            *old = number;
-        }
-    })
-}
-
-fn append(table: usize, numbers: Vec<i64>) -> Fault {
-    Box::new(move |tables| tables[table].extend(&numbers))
-}
-
-/// Adds a chain of that many edges between nodes of its own; `closed` leads it back.
-fn add_chain(node_table: usize, edges: i64, closed: bool) -> Fault {
-    Box::new(move |tables| {
-        let start = tables[node_table].len() as i64 / 4;
-        for row in start..=start + edges {
-            tables[node_table].extend([SEGMENT, 0, 1, 8]);
-            let back = closed && row == start + edges;
-            if back || row < start + edges {
-                tables[node_table + 1].extend([row, if back { start } else { row + 1 }, 0]);
-            }
-        }
-    })
-}
-
-/// The faults of one graph in the order in which they are told.
-fn graph_faults(nodes: usize) -> Vec<(Refusal, Fault)> {
-    let edges = nodes + 1;
-    vec![
-        (refusal(1, nodes, 0), append(nodes, vec![0])),
-        (refusal(1, edges, 0), append(edges, vec![0, 0])),
-        (refusal(2, nodes, 1), put(nodes, 7, 7)),
-        (refusal(2, nodes, 3), put(nodes, 14, 0)),
-        (refusal(4, edges, 1), put(edges, 3, 2)),
-        (refusal(3, edges, 2), put(edges, 8, MAX_UNITS + 1)),
-        (refusal(3, edges, 3), put(edges, 9, -1)),
-        (refusal(4, edges, 4), put(edges, 12, 3)),
-        (refusal(5, nodes, 0), add_chain(nodes, 3, true)),
-        (refusal(6, nodes, 0), add_chain(nodes, 65, false)),
-    ]
-}
-
-/// All faults on tables in the order in which they are told.
-fn faults() -> Vec<(Refusal, Fault)> {
-    let mut faults = graph_faults(SPEC_NODES);
-    faults.extend(graph_faults(IMPL_NODES));
-    let clear = |table: usize| -> Fault { Box::new(move |tables| tables[table].clear()) };
-    faults.extend([
-        (refusal(1, 4, 0), append(4, vec![0])),
-        (refusal(1, 5, 0), append(5, vec![0])),
-        (refusal(9, 4, 0), clear(4)),
-        (refusal(9, 5, 0), clear(5)),
-        (refusal(7, 4, 0), put(4, 1, 2)),
-        (refusal(8, 4, 1), put(4, 2, 0)),
-        (refusal(8, 5, 1), put(5, 3, 2)),
-        (refusal(7, 5, 2), put(5, 4, 1)),
-        (refusal(10, 3, 1), append(3, [0, 3, 0].repeat(1_024))),
-        (refusal(10, 1, 1_000), append(1, [1, 2, 0].repeat(1_024))),
-        (refusal(10, 3, 1_002), append(3, [1, 4, 0].repeat(1_024))),
-    ]);
-    faults
-}
-
 #[test]
 fn order_of_any_two_faults() {
     assert_eq!(compare(&base()).unwrap().outcome.whole, 0);
-    let faults = faults();
-    for (place, (earlier_refusal, earlier)) in faults.iter().enumerate() {
-        let mut alone = base();
-        earlier(&mut alone);
-        assert_eq!(compare(&alone), Err(*earlier_refusal));
-        for (later_refusal, later) in &faults[place + 1..] {
+    for faults in [table_faults(false), table_faults(true)] {
+        for (place, (earlier_refusal, earlier)) in faults.iter().enumerate() {
+            let mut alone = base();
+            earlier(&mut alone);
+            assert_eq!(compare(&alone), Err(*earlier_refusal));
+            for (later_refusal, later) in &faults[place + 1..] {
+                let mut tables = base();
+                later(&mut tables);
+                earlier(&mut tables);
+                assert_eq!(compare(&tables), Err(*earlier_refusal), "with {later_refusal:?}");
+            }
+        }
+    }
+}
+
+#[test]
+fn order_of_faults_in_a_text() {
+    let number = |text: &[u8]| text_check(text, REPORT_ROOM).map_err(|refusal| refusal.number);
+    let faults = text_faults();
+    for (place, (earlier_number, earlier)) in faults.iter().enumerate() {
+        for (later_number, later) in &faults[place..] {
+            let mut text = plain_text(&base());
+            later(&mut text);
+            let alone = text.clone();
+            earlier(&mut text);
+            // A text that ends sooner may not have the place of the earlier fault.
+            if text != alone {
+                assert_eq!(number(&text), Err(*earlier_number), "with {later_number}");
+            }
+        }
+        // The text is told before the tables, and 11 last.
+        for (_, later) in table_faults(true) {
             let mut tables = base();
             later(&mut tables);
-            earlier(&mut tables);
-            assert_eq!(compare(&tables), Err(*earlier_refusal), "with {later_refusal:?}");
+            let mut text = plain_text(&tables);
+            earlier(&mut text);
+            assert_eq!(number(&text), Err(*earlier_number));
         }
     }
 }
 
 #[test]
 fn order_within_one_row() {
-    // 3 before 4: a block's edge with a bad offset. 7 before 8: twice, and no root.
-    let mut tables = base();
-    tables[1][..3].copy_from_slice(&[2, 3, MAX_UNITS + 1]);
-    assert_eq!(compare(&tables), Err(refusal(3, 1, 0)));
-    let mut tables = base();
-    tables[4][2..].copy_from_slice(&[0, 2]);
-    assert_eq!(compare(&tables), Err(refusal(7, 4, 1)));
+    for (expected, fault) in row_faults() {
+        let mut tables = base();
+        fault(&mut tables);
+        assert_eq!(compare(&tables), Err(expected));
+    }
     // Specification first within a pair.
     let many = host::generate::tables(&joined(1_025), &joined(1_025));
     assert_eq!(compare(&many), Err(refusal(10, 1, 0)));

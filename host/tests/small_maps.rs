@@ -1,7 +1,7 @@
 //! The reference against the bit-by-bit walker on small maps.
 
 use host::bitwalk;
-use host::generate::{damaged, disturbed, mixed_text, plain_text, small_map, Random};
+use host::generate::{damaged, disturbed, mixed_text, plain_text, raised, small_map, Random};
 use host::reference::*;
 use std::collections::BTreeSet;
 
@@ -35,7 +35,10 @@ fn small_maps_come_out_alike() {
     let (mut records, mut paths, mut without_line) = (0, 0, 0);
     for seed in 0..MAPS {
         let random = &mut Random::new(seed);
-        let tables = small_map(random);
+        let mut tables = small_map(random);
+        if seed % 4 == 3 {
+            tables = raised(random, &tables);
+        }
         let expected = bitwalk::compare(&tables);
         assert_eq!(compare(&tables).as_ref(), Ok(&expected), "seed {seed}");
         assert_eq!(compare_by(&tables, Listing::ByPair).as_ref(), Ok(&expected), "seed {seed}");

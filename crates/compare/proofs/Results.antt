@@ -1,9 +1,8 @@
 -- From totals and keys to the answer of a comparison, and from the answer to its promise.
 use mathlib.Core.Path.{_≡_, refl, sym, ap, subst, _∙_}
-use mathlib.Core.List.{List, [], _∷_, map}
+use mathlib.Core.List.{List, map}
 use mathlib.Core.Option.{none, some}
-use Prim.Native.Nat.{ℕ, _*_, _/_, _≤_, min}
-use native.Mathlib.Nat.{le-trans}
+use Prim.Native.Nat.{ℕ, _*_, _/_, _≤_}
 use native.Mathlib.Omega.{arith}
 use lib.IntN.{ℤ}
 use lib.ListN.{length}
@@ -19,8 +18,7 @@ use Rattle.model.specs.declared.Checked.{Checked}
 use Rattle.model.specs.declared.Checked.the-variants as variants
 use Rattle.model.specs.declared.Compared.{Compared}
 use Rattle.model.proofs.Demand.{compare-full, demand3}
-use Rattle.visiting.specs.Visiting.{byLeaf, noKey, totalsOf, resultFrom, manyKey, lowestFrom, refusalFrom}
-use Rattle.visiting.proofs.Turns.{lowest-nil, lowest-cons}
+use Rattle.visiting.specs.Visiting.{byLeaf, noKey, totalsOf, resultFrom, manyKey, refusalFrom}
 use Rattle.visiting.proofs.Result.{result-by-leaf}
 use Rattle.visiting.proofs.Refusal.{refusal-by-leaf}
 use Rattle.survey.specs.declared.Kept.{Kept}
@@ -32,6 +30,7 @@ use Rattle.survey.specs.Found.{asTotals, SurveyPromise}
 use Rattle.survey.proofs.Between.{between-all}
 use Rattle.compare.specs.Promises.{ComparePromise, FullLines}
 use Rattle.pairs.proofs.Rows.{rows-few}
+use Rattle.compare.proofs.Many.{lowest-below}
 use Rattle.compare.proofs.Checks.{then-none, full-none, answer-stops, answer-on, tables-checked, none-inputs, paths-few}
 
 -- ---- the full result
@@ -53,11 +52,6 @@ module _ {t : Tables} {kept : Kept} {lines : List ℤ} (p : SurveyPromise t 0 (r
   survey-lines = subst (λ (l : List Pair). LinesHeld (map (findingOf t) (visits l (leafRows t))) lines (kept .count)) (between-all (t .rootPairs)) (p .rows)
 
 -- ---- refusal 10
-
--- a lowest key is no higher than where it starts
-lowest-below : (k : ℕ) (ks : List ℕ) → lowestFrom k ks ≤ k
-lowest-below k [] = rw (lowest-nil k) (omega arith)
-lowest-below k (j ∷ ks) = rw (lowest-cons k j ks) (le-trans (lowest-below (min k j) ks) (omega arith))
 
 module _ {t : Tables} (k : Inputs t) {key : ℕ} (e : key ≡ lowestMany t) where
   -- the lowest key says what the check of the paths gives

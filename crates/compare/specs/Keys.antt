@@ -11,7 +11,8 @@ use Rattle.model.specs.Rows.{Pair, pairRows}
 use Rattle.model.specs.Compare.{Tables, specGraph, implGraph, rootRows, leafRows}
 use Rattle.depth.specs.Passes.{Within}
 use Rattle.reach.specs.Links.{countAt}
-use Rattle.visiting.specs.Visiting.{byLeaf, noKey, manyKey, lowestKey}
+use Rattle.pairing.specs.Pairs.{pairAt}
+use Rattle.visiting.specs.Visiting.{ofLeaf, byLeaf, noKey, manyKey, lowestKey}
 
 -- the key of a pair by the counts of its paths: twice its place in visiting order where the specification has too many, one more where the
 -- implementation alone has, else above all of them
@@ -27,6 +28,10 @@ pub record Keyed (rootPairs : List ℤ) (leafRow : ℕ) (specCounts implCounts :
   pub rows : length rootPairs ≤ pairWidth * maxPairs
   pub row : leafRow < maxPairs
   pub counted : (p : Pair) → p ∈ pairRows rootPairs → Within (length specCounts) (p .spec) × Within (length implCounts) (p .impl)
+
+-- the keys of leaf row j, root row by root row
+abbrev pub rowKeys : Tables → ℕ → List ℕ
+rowKeys t j = map (manyKey (specGraph t) (implGraph t)) (ofLeaf (rootRows t) (pairAt (t .leafPairs) j))
 
 -- the lowest key of all pairs, taken leaf row by leaf row
 unfoldable pub lowestMany : Tables → ℕ

@@ -16,7 +16,7 @@ ghost use Rattle.pairs.specs.Inputs.{Ordered, AllFew};
 ghost use Rattle.survey.specs.Lines.{LinesHeld, findingsBetween};
 ghost use Rattle.survey.specs.Found.{asTotals, wholeVerdict};
 ghost use Rattle.compare.specs.Inputs.{pathsAnswer, InputsChecked};
-ghost use Rattle.compare.specs.Keys.{keyBy, countKey, Keyed, lowestMany};
+ghost use Rattle.compare.specs.Keys.{keyBy, countKey, Keyed, rowKeys, lowestMany};
 ghost use Rattle.compare.specs.Promises.{ComparePromise, FullLines};
 use depth::check_graph_with;
 use depth::order_edges;
@@ -26,6 +26,7 @@ use model::Comparison;
 use model::Reason;
 use model::Verdict;
 use pairing::check_pairing;
+use pairs::either_entered;
 use pairs::impl_node;
 use pairs::place_of;
 use pairs::spec_node;
@@ -115,7 +116,44 @@ fn many_of_leaf(
     lowest
 }
 
-// The lowest key of all pairs, leaf row by leaf row: one count of the paths to a leaf in each graph serves all roots.
+// The lowest of `lowest` and the keys of one leaf row: one count of the paths to a leaf in each graph serves all roots. Where no edge enters either
+// leaf there is no path, and no key.
+fn many_of_row(
+    spec_nodes: &[i64],
+    spec_edges: &[i64],
+    impl_nodes: &[i64],
+    impl_edges: &[i64],
+    root_pairs: &[i64],
+    leaf_pairs: &[i64],
+    spec_order: &[usize],
+    impl_order: &[usize],
+    leaf_row: usize,
+    spec_counts: &mut [usize],
+    impl_counts: &mut [usize],
+    lowest: usize,
+) -> usize
+    requires { ⌜
+        Ordered (tablesOf (now «spec_nodes») (now «spec_edges») (now «impl_nodes») (now «impl_edges») (now «root_pairs») (now «leaf_pairs»))
+        (now «spec_order») (now «impl_order»)
+        × (maxNodes ≤ length (now «spec_counts»)) × (maxNodes ≤ length (now «impl_counts»)) × («leaf_row» < length (now «leaf_pairs») / 2)
+        × (lowest ≤ 2 * noKey) ⌝ }
+    ensures { λ r. ⌜
+        r
+        ≡ lowestFrom lowest (rowKeys
+        (tablesOf (now («spec_nodes» .entry)) (now («spec_edges» .entry)) (now («impl_nodes» .entry)) (now («impl_edges» .entry))
+        (now («root_pairs» .entry)) (now («leaf_pairs» .entry))) «leaf_row») ⌝ }
+{
+    let spec_leaf = spec_node(leaf_pairs, leaf_row);
+    let impl_leaf = impl_node(leaf_pairs, leaf_row);
+    if !either_entered(spec_edges, spec_leaf, impl_edges, impl_leaf) {
+        return lowest;
+    }
+    count_paths(spec_nodes, spec_edges, spec_order, spec_leaf, spec_counts);
+    count_paths(impl_nodes, impl_edges, impl_order, impl_leaf, impl_counts);
+    many_of_leaf(root_pairs, leaf_row, spec_counts, impl_counts, lowest)
+}
+
+// The lowest key of all pairs, leaf row by leaf row.
 fn many_of_all(
     spec_nodes: &[i64],
     spec_edges: &[i64],
@@ -142,11 +180,20 @@ fn many_of_all(
     let mut lowest = 2 * NO_KEY;
     let mut row: usize = 0;
     while row < count {
-        let spec_leaf = spec_node(leaf_pairs, row);
-        let impl_leaf = impl_node(leaf_pairs, row);
-        count_paths(spec_nodes, spec_edges, spec_order, spec_leaf, spec_counts);
-        count_paths(impl_nodes, impl_edges, impl_order, impl_leaf, impl_counts);
-        lowest = many_of_leaf(root_pairs, row, spec_counts, impl_counts, lowest);
+        lowest = many_of_row(
+            spec_nodes,
+            spec_edges,
+            impl_nodes,
+            impl_edges,
+            root_pairs,
+            leaf_pairs,
+            spec_order,
+            impl_order,
+            row,
+            spec_counts,
+            impl_counts,
+            lowest,
+        );
         row += 1;
     }
     lowest

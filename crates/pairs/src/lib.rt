@@ -1,5 +1,6 @@
 // One pair of a comparison: both graphs are swept for the leaves of its leaf row, the two lists are made along the links, and they are judged.
 ghost use mathlib.Core.Path.{_≡_};
+ghost use mathlib.Core.Bool.{_||_};
 ghost use Prim.Native.Nat.{_+_, _*_, _/_, _≤_, _<_};
 ghost use lib.IntN.{pos};
 ghost use lib.Signed.{_≤ℤ_};
@@ -12,16 +13,20 @@ ghost use Rattle.reach.specs.Links.{Linked};
 ghost use Rattle.pairing.specs.Pairs.{pairAt, tablesOf};
 ghost use Rattle.verdicts.specs.Records.{recordsOf, NormalList};
 ghost use Rattle.pairs.specs.Inputs.{findingAt, Sweepable, ListReady, LeafReady};
+ghost use Rattle.pairs.specs.Entering.{EntersNodes, isEntered};
 ghost use Rattle.pairs.specs.Found.{Listed, IsFound, IsFinding};
 use listing::list_linked;
 use model::Verdict;
 use reach::count_paths;
 use reach::link_edges;
+use tables::edge_to;
 use verdicts::lowest_of;
 use verdicts::verdict_of;
 
-// Numbers of a pair row.
+// Numbers of a pair row and of an edge row.
 const PAIR_WIDTH: usize = 2;
+
+const EDGE_WIDTH: usize = 3;
 
 // What a root row counts for in the place of a pair.
 const ROOT_STRIDE: usize = 1000;
@@ -56,6 +61,38 @@ pub fn place_of(root_row: usize, leaf_row: usize) -> usize
     ensures { λ r. ⌜ r ≡ «root_row» * rootStride + «leaf_row» ⌝ }
 {
     root_row * ROOT_STRIDE + leaf_row
+}
+
+// Whether an edge of the table enters the node.
+fn entered(edges: &[i64], node: usize) -> bool
+    requires { ⌜ EntersNodes (now edges) ⌝ }
+    ensures { λ r. ⌜ r ≡ isEntered (now (edges .entry)) (pos node) ⌝ }
+{
+    let count = edges.len() / EDGE_WIDTH;
+    let mut e: usize = 0;
+    while e < count {
+        if edge_to(edges, e) == node {
+            return true;
+        }
+        e += 1;
+    }
+    false
+}
+
+// Whether an edge enters either leaf of a leaf row. Where none does, no path leads from a root to either.
+pub fn either_entered(
+    spec_edges: &[i64],
+    spec_leaf: usize,
+    impl_edges: &[i64],
+    impl_leaf: usize,
+) -> bool
+    requires { ⌜ EntersNodes (now «spec_edges») × EntersNodes (now «impl_edges») ⌝ }
+    ensures { λ r. ⌜ r ≡ isEntered (now («spec_edges» .entry)) (pos «spec_leaf») || isEntered (now («impl_edges» .entry)) (pos «impl_leaf») ⌝ }
+{
+    if entered(spec_edges, spec_leaf) {
+        return true;
+    }
+    entered(impl_edges, impl_leaf)
 }
 
 // Sweeps a graph for a leaf: counts the paths to it from each node, and links the edges that can still reach it.

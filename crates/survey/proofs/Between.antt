@@ -5,8 +5,8 @@ use Prim.Native.Nat.{ℕ, zero, suc, _+_, _-_, _/_, _≤_, _<_}
 use native.Mathlib.Numerals.{add-one}
 use native.Mathlib.Omega.{arith}
 use lib.IntN.{ℤ}
-use lib.ListN.{length, take, drop}
-use lib.Seq.{take-all, drop-drop}
+use lib.ListN.{length, take, drop, length-drop}
+use lib.Seq.{take-all, drop-drop, length-take-le}
 use Rattle.lists.specs.Lists.{_∈_}
 use Rattle.model.specs.Limits.{pairWidth}
 use Rattle.model.specs.Rows.{pairsFrom, pairRows}
@@ -37,16 +37,20 @@ between-none ps i to h = let e : to - i ≡ 0 = omega arith in rw e refl
 -- ---- all rows
 
 -- as many as the table has
-rows-within : (n i : ℕ) (ps : List ℤ) → length ps / pairWidth ≤ n → length (pairsFrom i ps) ≤ n
+rows-from-count : (i : ℕ) (ps : List ℤ) → length (pairsFrom i ps) ≡ length ps / pairWidth
 unfolding pairsFrom
-rows-within n i [] h = omega arith
-rows-within n i (s ∷ []) h = omega arith
-rows-within zero i (s ∷ m ∷ ps) h = absurd (omega arith)
-rows-within (suc n) i (s ∷ m ∷ ps) h = omega (arith, rows-within n (suc i) ps (omega arith))
+rows-from-count i [] = refl
+rows-from-count i (s ∷ []) = refl
+rows-from-count i (s ∷ m ∷ ps) = omega (arith, rows-from-count (suc i) ps)
 
 -- from the first row up to the last they are all there
 pub between-all : (ps : List ℤ) → take (length ps / pairWidth - 0) (drop 0 (pairRows ps)) ≡ pairRows ps
-between-all ps = take-all (length ps / pairWidth - 0) (pairRows ps) (omega (arith, rows-within (length ps / pairWidth) 0 ps (omega arith)))
+between-all ps = take-all (length ps / pairWidth - 0) (pairRows ps) (omega (arith, rows-from-count 0 ps))
+
+-- how many there are
+pub between-length : (ps : List ℤ) (from to : ℕ) → to ≤ length ps / pairWidth → length (take (to - from) (drop from (pairRows ps))) ≡ to - from
+between-length ps from to h =
+    length-take-le (to - from) (drop from (pairRows ps)) (omega (arith, length-drop from (pairRows ps), rows-from-count 0 ps))
 
 -- ---- parts of lists
 

@@ -5,5 +5,6 @@ pub mod Lines
 pub mod Adding
 pub mod Passing
 pub mod Surveys
+pub mod Unentered
 pub mod Sizes
 pub mod Ready

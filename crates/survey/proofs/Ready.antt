@@ -12,10 +12,21 @@ use Rattle.model.specs.Paths.{Leaf}
 use Rattle.model.specs.Taken.{TakenTables}
 use Rattle.model.specs.Compare.{Tables}
 use Rattle.pairing.specs.Pairs.{pairAt}
-use Rattle.pairs.specs.Inputs.{InOrder, Sweepable, Swept, BothSwept, LeafReady}
+use Rattle.pairs.specs.Entering.{EntersNodes}
+use Rattle.pairs.specs.Inputs.{Inputs, InOrder, Sweepable, Swept, BothSwept, LeafReady}
 use Rattle.survey.specs.Inputs.{AllReady}
 use Rattle.survey.proofs.Sizes.{SweepSizes, WorkSizes}
 use Rattle.pairs.proofs.Inputs.{row-leaves}
+
+-- the edges of both graphs enter nodes
+module _ {t : Tables} (k : Inputs t) where
+  pub spec-enters : EntersNodes (t .specEdges)
+  unfolding graphOf
+  spec-enters e m = k .spec .graph .ends e m .1 .low
+
+  pub impl-enters : EntersNodes (t .implEdges)
+  unfolding graphOf
+  impl-enters e m = k .impl .graph .ends e m .1 .low
 
 -- the work areas may be those that other pairs were found in
 pub leaf-ready-on : {t : Tables} {j : ℕ} {sc sh sx mc mh mx : List ℕ} {sw mw e sw′ mw′ e′ : List ℤ} → LeafReady t j sc sh sx mc mh mx sw mw e
@@ -29,6 +40,25 @@ leaf-ready-on k p =
       specRoom = omega (arith, k .specRoom, p .spec);
       implRoom = omega (arith, k .implRoom, p .impl);
       spareRoom = omega (arith, k .spareRoom, p .spare);
+    }
+
+-- all buffers may be those that other leaf rows were worked through in
+pub all-ready-on : {t : Tables} {so mo sc sh sx mc mh mx sc′ sh′ sx′ mc′ mh′ mx′ : List ℕ} {sw mw e sw′ mw′ e′ : List ℤ}
+    → AllReady t so mo sc sh sx mc mh mx sw mw e → SweepSizes sc sh sx sc′ sh′ sx′ → SweepSizes mc mh mx mc′ mh′ mx′ → WorkSizes sw mw e sw′ mw′ e′
+    → AllReady t so mo sc′ sh′ sx′ mc′ mh′ mx′ sw′ mw′ e′
+all-ready-on k p q w =
+    record {
+      ordered = k .ordered;
+      few = k .few;
+      specCountRoom = omega (arith, k .specCountRoom, p .counts);
+      specHeadRoom = omega (arith, k .specHeadRoom, p .head);
+      specNextRoom = omega (arith, k .specNextRoom, p .next);
+      implCountRoom = omega (arith, k .implCountRoom, q .counts);
+      implHeadRoom = omega (arith, k .implHeadRoom, q .head);
+      implNextRoom = omega (arith, k .implNextRoom, q .next);
+      specRoom = omega (arith, k .specRoom, w .spec);
+      implRoom = omega (arith, k .implRoom, w .impl);
+      spareRoom = omega (arith, k .spareRoom, w .spare);
     }
 
 -- buffers that have room, and keep their sizes, serve for the sweep

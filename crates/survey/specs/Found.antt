@@ -57,6 +57,24 @@ pub record KeptMost (n : ℕ) (k : Kept) : Type 0 where
   pub totals : AtMost n (k .totals)
   pub count : k .count ≤ n
 
+-- totals with n more equal pairs
+abbrev pub equalTotals : ℕ → visiting.Totals → visiting.Totals
+equalTotals n t = record { equal = t .equal + n; partial = t .partial; different = t .different; key = t .key; address = t .address }
+
+-- what is kept with n more pairs that are equal and have no record
+abbrev pub equalKept : ℕ → Kept → Kept
+equalKept n k =
+    record {
+      totals = record {
+        equal = k .totals .equal + n;
+        partial = k .totals .partial;
+        different = k .totals .different;
+        key = k .totals .key;
+        address = k .totals .address;
+      };
+      count = k .count;
+    }
+
 -- before the first pair
 abbrev pub freshKept : Kept
 freshKept = record { totals = record { equal = 0; partial = 0; different = 0; key = noKey; address = negsuc 0 }; count = 0 }

@@ -1,7 +1,7 @@
 // What is kept of all pairs of a comparison. Pairs are worked through leaf row by leaf row, since one sweep of a graph serves all roots of a leaf;
 // keys keep their places in visiting order.
 ghost use mathlib.Core.Path.{_≡_};
-ghost use Prim.Native.Nat.{_+_, _*_, _≤_};
+ghost use Prim.Native.Nat.{_+_, _*_, _/_, _≤_, _<_};
 ghost use lib.IntN.{pos};
 ghost use lib.ListN.{length};
 ghost use Rattle.model.specs.Limits.{maxPairs};
@@ -10,10 +10,11 @@ ghost use Rattle.pairing.specs.Pairs.{tablesOf};
 ghost use Rattle.visiting.specs.Visiting.{withVerdict};
 ghost use Rattle.pairs.specs.Inputs.{Ordered, AllFew, LeafReady};
 ghost use Rattle.survey.specs.Lines.{Between, Collected, Sorts, FewFound, foundRow, foundRows};
-ghost use Rattle.survey.specs.Found.{asTotals, AtMost, placed, withCount, KeptMost, freshKept, LeafKept, AllKept, SurveyPromise};
+ghost use Rattle.survey.specs.Found.{asTotals, AtMost, placed, withCount, KeptMost, equalKept, freshKept, LeafKept, AllKept, SurveyPromise};
 ghost use Rattle.survey.specs.Inputs.{AllReady};
 use model::Verdict;
 use pairs::Found;
+use pairs::either_entered;
 use pairs::impl_node;
 use pairs::pair_found;
 use pairs::place_of;
@@ -227,6 +228,103 @@ fn found_of_leaf(
     }
 }
 
+// What is kept with so many more pairs that are equal and have no record.
+fn with_equal(kept: Kept, pairs: usize) -> Kept
+    requires { ⌜ KeptMost (maxPairs * maxPairs) kept × (pairs ≤ maxPairs) ⌝ }
+    ensures { λ r. ⌜ r ≡ equalKept pairs kept ⌝ }
+{
+    let mut totals = kept.totals;
+    totals.equal += pairs;
+    Kept {
+        totals: totals,
+        count: kept.count,
+    }
+}
+
+// What is kept with the pairs of one leaf row: one sweep of each graph serves all its roots. Where no edge enters either leaf there is no path, and
+// all pairs of the leaf row are equal.
+fn found_of_row(
+    spec_nodes: &[i64],
+    spec_edges: &[i64],
+    impl_nodes: &[i64],
+    impl_edges: &[i64],
+    root_pairs: &[i64],
+    leaf_pairs: &[i64],
+    spec_order: &[usize],
+    impl_order: &[usize],
+    leaf_row: usize,
+    spec_counts: &mut [usize],
+    spec_head: &mut [usize],
+    spec_next: &mut [usize],
+    impl_counts: &mut [usize],
+    impl_head: &mut [usize],
+    impl_next: &mut [usize],
+    spec_work: &mut [i64],
+    impl_work: &mut [i64],
+    spare: &mut [i64],
+    from: usize,
+    to: usize,
+    lines: &mut [i64],
+    kept: Kept,
+) -> Kept
+    requires { ⌜
+        AllReady (tablesOf (now «spec_nodes») (now «spec_edges») (now «impl_nodes») (now «impl_edges») (now «root_pairs») (now «leaf_pairs»))
+        (now «spec_order») (now «impl_order») (now «spec_counts») (now «spec_head») (now «spec_next») (now «impl_counts») (now «impl_head») (now «impl_next»)
+        (now «spec_work») (now «impl_work») (now spare)
+        × Between (tablesOf (now «spec_nodes») (now «spec_edges») (now «impl_nodes») (now «impl_edges») (now «root_pairs») (now «leaf_pairs»)) from to × («leaf_row» < length (now «leaf_pairs») / 2)
+        × KeptMost («leaf_row» * maxPairs) kept ⌝ }
+    ensures { λ r. ⌜
+        LeafKept
+        (tablesOf (now («spec_nodes» .entry)) (now («spec_edges» .entry)) (now («impl_nodes» .entry)) (now («impl_edges» .entry))
+        (now («root_pairs» .entry)) (now («leaf_pairs» .entry))) from to «leaf_row» kept r (now (lines .entry)) (now (lines .exit)) ⌝ }
+{
+    let spec_leaf = spec_node(leaf_pairs, leaf_row);
+    let impl_leaf = impl_node(leaf_pairs, leaf_row);
+    if !either_entered(spec_edges, spec_leaf, impl_edges, impl_leaf) {
+        return with_equal(kept, to - from);
+    }
+    sweep(
+        spec_nodes,
+        spec_edges,
+        spec_order,
+        spec_leaf,
+        spec_counts,
+        spec_head,
+        spec_next,
+    );
+    sweep(
+        impl_nodes,
+        impl_edges,
+        impl_order,
+        impl_leaf,
+        impl_counts,
+        impl_head,
+        impl_next,
+    );
+    found_of_leaf(
+        spec_nodes,
+        spec_edges,
+        impl_nodes,
+        impl_edges,
+        root_pairs,
+        leaf_pairs,
+        leaf_row,
+        spec_counts,
+        spec_head,
+        spec_next,
+        impl_counts,
+        impl_head,
+        impl_next,
+        spec_work,
+        impl_work,
+        spare,
+        from,
+        to,
+        lines,
+        kept,
+    )
+}
+
 // What is kept before the first pair.
 fn no_pair() -> Kept
     ensures { λ r. ⌜ r ≡ freshKept ⌝ }
@@ -244,7 +342,7 @@ fn no_pair() -> Kept
     }
 }
 
-// What is kept of the pairs of all leaf rows with these root rows, leaf row by leaf row: one sweep of each graph serves all roots of a leaf.
+// What is kept of the pairs of all leaf rows with these root rows, leaf row by leaf row.
 fn found_of_all(
     spec_nodes: &[i64],
     spec_edges: &[i64],
@@ -281,33 +379,15 @@ fn found_of_all(
     let mut kept = no_pair();
     let mut row: usize = 0;
     while row < count {
-        let spec_leaf = spec_node(leaf_pairs, row);
-        let impl_leaf = impl_node(leaf_pairs, row);
-        sweep(
-            spec_nodes,
-            spec_edges,
-            spec_order,
-            spec_leaf,
-            spec_counts,
-            spec_head,
-            spec_next,
-        );
-        sweep(
-            impl_nodes,
-            impl_edges,
-            impl_order,
-            impl_leaf,
-            impl_counts,
-            impl_head,
-            impl_next,
-        );
-        kept = found_of_leaf(
+        kept = found_of_row(
             spec_nodes,
             spec_edges,
             impl_nodes,
             impl_edges,
             root_pairs,
             leaf_pairs,
+            spec_order,
+            impl_order,
             row,
             spec_counts,
             spec_head,

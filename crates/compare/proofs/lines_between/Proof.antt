@@ -51,7 +51,7 @@ survey-requires c κs =
         inImpl = taken-ordered (k .0 .impl) _ (second .order-edges2 .ensures .order);
       },
       k .1,
-      record { low = s .pre .1; high = s .pre .2 },
+      record { low = omega (arith, s .pre .1); high = s .pre .2 },
       s .pre .3,
     )
 

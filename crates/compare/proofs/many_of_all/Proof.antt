@@ -2,13 +2,9 @@
 -- their sizes. The measure is what is left of the leaf rows.
 use Prim.Native.Nat.{_-_}
 use native.Mathlib.Omega.{arith}
-use Rattle.model.specs.Graph.{graphOf}
-use Rattle.model.specs.Paths.{Leaf}
-use Rattle.pairing.specs.Pairs.{pairAt, tablesOf}
+use Rattle.pairing.specs.Pairs.{tablesOf}
 use Rattle.pairs.specs.Inputs.{Ordered}
-use Rattle.pairs.proofs.Inputs.{row-leaves, leaf-row-below}
-use Rattle.compare.proofs.Many.{leaf-countable}
-use Rattle.compare.proofs.Keys.{row-keyed}
+use Rattle.pairs.proofs.Inputs.{leaf-row-below}
 use Rattle.compare.proofs.Many.{ManyPassed, many-start, many-next, many-end}
 use Rattle.compare.proofs.many_of_all.Statement.{statement}
 use Rattle.compare.proofs.many_of_all.Tie as tie
@@ -29,51 +25,22 @@ ordered : (l : tie.At-loop Inv-loop μ-loop) → let a = start l .args in
     (a .spec-order .now) (a .impl-order .now)
 ordered l = start l .pre .0
 
--- the nodes of the leaf row are leaves
-leaves : (c : tie.In-loop Inv-loop μ-loop) → let a = start (c .before) .args in let p = pairAt (a .leaf-pairs .now) (c .before .loop .row) in
-    Leaf (graphOf (a .spec-nodes .now) (a .spec-edges .now)) (p .spec) × Leaf (graphOf (a .impl-nodes .now) (a .impl-edges .now)) (p .impl)
-leaves c = row-leaves (ordered (c .before) .inputs) (c .before .loop .row) (c .loop-test .taken)
-
 mul-lowest : tie.Need-mul-lowest Inv-loop μ-loop
 mul-lowest c = omega arith
 
 loop-holds : tie.Need-loop-holds Inv-loop μ-loop
 loop-holds c = many-start _ _ _
 
-spec-node-requires : tie.Need-spec-node-requires Inv-loop μ-loop
-spec-node-requires c κs = (omega (arith, c .loop-test .taken), leaves c .0 .row .low)
-
-impl-node-requires : tie.Need-impl-node-requires Inv-loop μ-loop
-impl-node-requires c κs = (omega (arith, c .before .loop-test .taken), leaves (c .before) .1 .row .low)
-
-count-paths-requires : tie.Need-count-paths-requires Inv-loop μ-loop
-count-paths-requires c κs =
-    let i = c .before in
-    let l = i .before .before in
-    let top = ordered (l .before) in
-    leaf-countable _ (i .before .spec-node .result) (top .inputs .spec) (top .inSpec) (leaves l .0) (i .before .spec-node .ensures)
-    (omega (arith, start (l .before) .pre .1, l .before .loop .inv .specSize))
-
-count-paths-requires-2 : tie.Need-count-paths-requires-2 Inv-loop μ-loop
-count-paths-requires-2 c κs =
-    let i = c .before .before .before .before .before in
-    let l = i .before .before in
-    let top = ordered (l .before) in
-    leaf-countable _ (i .impl-node .result) (top .inputs .impl) (top .inImpl) (leaves l .1) (i .impl-node .ensures)
-    (omega (arith, start (l .before) .pre .2, l .before .loop .inv .implSize))
-
-many-of-leaf-requires : tie.Need-many-of-leaf-requires Inv-loop μ-loop
-many-of-leaf-requires c κs =
-    let second = c .before .before .before .before in
-    let first = second .before .before .before .before in
-    let l = first .before .before .before .before in
-    row-keyed (ordered (l .before) .inputs) (l .before .loop .row) _ _ (l .loop-test .taken)
-    (omega (arith, start (l .before) .pre .1, l .before .loop .inv .specSize, first .count-paths .kept .1 .1 .1 .1 .0))
-    (omega (arith, start (l .before) .pre .2, l .before .loop .inv .implSize, second .count-paths2 .kept .1 .1 .1 .1 .0))
+many-of-row-requires : tie.Need-many-of-row-requires Inv-loop μ-loop
+many-of-row-requires c κs =
+    let l = c .before .before in
+    let p = start (l .before) .pre in
+    let i = l .before .loop .inv in
+    (p .0, omega (arith, p .1, i .specSize), omega (arith, p .2, i .implSize), l .loop-test .taken, i .low)
 
 add-row : tie.Need-add-row Inv-loop μ-loop
 add-row c =
-    let l = c .before .before .before .before .before .before .before .before .before .before .before .before .before in
+    let l = c .before .before .before .before .before .before .before in
     omega (arith, leaf-row-below (ordered (l .before) .inputs) (l .before .loop .row) (l .loop-test .taken))
 
 loop-less : tie.Need-loop-less Inv-loop μ-loop
@@ -81,13 +48,10 @@ loop-less c = omega arith
 
 loop-again : tie.Need-loop-again Inv-loop μ-loop
 loop-again c =
-    let second = c .before .before .before .before .before in
-    let first = second .before .before .before .before in
-    let i = first .before .before in
-    let l = i .before .before in
-    many-next (l .before .loop .inv) (ordered (l .before) .inputs) (l .loop-test .taken) (i .before .spec-node .ensures) (i .impl-node .ensures)
-    (first .count-paths .ensures) (first .count-paths .kept .1 .1 .1 .1 .0) (second .count-paths2 .ensures) (second .count-paths2 .kept .1 .1 .1 .1 .0)
-    (c .many-of-leaf .ensures)
+    let r = c .before .before .before .before in
+    let l = r .before .before .before in
+    let sizes = r .many-of-row .kept .1 .1 .1 .1 .1 .1 .1 .1 .1 in
+    many-next (l .before .loop .inv) (l .loop-test .taken) (sizes .0) (sizes .1 .0) (r .many-of-row .ensures)
 
 same-length : tie.Need-same-length Inv-loop μ-loop
 same-length c = c .before .loop .inv .specSize
@@ -106,11 +70,7 @@ many-of-all-spec =
     μ-loop
     mul-lowest
     loop-holds
-    spec-node-requires
-    impl-node-requires
-    count-paths-requires
-    count-paths-requires-2
-    many-of-leaf-requires
+    many-of-row-requires
     add-row
     loop-less
     loop-again

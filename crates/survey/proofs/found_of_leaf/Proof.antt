@@ -53,7 +53,7 @@ loop-holds c = let s = c .before .before .before .before .before .before .before
 pair-found-requires : tie.Need-pair-found-requires Inv-loop μ-loop
 pair-found-requires c κs =
     let l = c .before .before .before in
-    (leaf-ready-on (start (l .before) .pre .0) (l .before .loop .inv .1), row-there l)
+    (leaf-ready-on (start (l .before) .pre .0) (l .before .loop .inv .1), omega (arith, row-there l))
 
 place-of-requires : tie.Need-place-of-requires Inv-loop μ-loop
 place-of-requires c κs = rows (turn (pair c))

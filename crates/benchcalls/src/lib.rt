@@ -1,0 +1,111 @@
+// The comparison of two graphs through C linkage, for the benchmark of host/: a text holds at most 65,536 bytes, and some of the maps that are
+// measured need more. The library that the design environment links has the text check alone.
+ghost use mathlib.Core.Path.{_≡_};
+ghost use Prim.Native.Nat.{_≤_};
+ghost use lib.IntN.{pos, negℤ};
+ghost use Rattle.model.specs.Answers.{comparisonResult, comparedAnswer, verdictNumber, refusalOf};
+ghost use Rattle.model.specs.Calls.{compareAnswer};
+ghost use Rattle.pairing.specs.Pairs.{tablesOf};
+ghost use Rattle.benchcalls.specs.Summary.{digits, packed, summary};
+use compare::compare;
+use model::Compared;
+use model::Comparison;
+use model::Reason;
+use model::Verdict;
+
+// The highest count that 20 binary digits hold.
+const MOST_COUNTED: usize = 1048575;
+
+// What the counts of equal and partial pairs and the whole verdict count for in the answer.
+const EQUAL_PLACE: usize = 1099511627776;
+
+const PARTIAL_PLACE: usize = 1048576;
+
+const VERDICT_PLACE: usize = 1152921504606846976;
+
+// A count in 20 binary digits.
+fn digits_of(count: usize) -> usize
+    ensures { λ r. ⌜ r ≡ digits count ⌝ }
+{
+    if count < MOST_COUNTED {
+        count
+    } else {
+        MOST_COUNTED
+    }
+}
+
+// The number of a verdict.
+fn verdict_number(verdict: Verdict) -> usize
+    ensures { λ r. ⌜ (r ≡ verdictNumber verdict) × (r ≤ 2) ⌝ }
+{
+    match verdict {
+        Verdict::Equal => 0,
+        Verdict::Partial => 1,
+        Verdict::Different => 2,
+    }
+}
+
+// A full result as one number.
+fn packed_of(c: Comparison) -> i64
+    ensures { λ r. ⌜ r ≡ pos (packed (comparisonResult c)) ⌝ }
+{
+    let verdict = c.verdict;
+    let number = verdict_number(verdict);
+    let equal = digits_of(c.equal);
+    let partial = digits_of(c.partial);
+    let different = digits_of(c.different);
+    (number * VERDICT_PLACE + equal * EQUAL_PLACE + partial * PARTIAL_PLACE + different) as i64
+}
+
+// The number of a refusal, below zero.
+fn refused_number(reason: Reason) -> i64
+    ensures { λ r. ⌜ r ≡ negℤ (pos (refusalOf reason .number)) ⌝ }
+{
+    match reason {
+        Reason::Shape { table: _ } => -1,
+        Reason::Node { table: _, row: _ } => -2,
+        Reason::Edge { table: _, row: _ } => -3,
+        Reason::FromBlock { table: _, row: _ } => -4,
+        Reason::Cycle { table: _ } => -5,
+        Reason::LongChain { table: _ } => -6,
+        Reason::NotRootOrLeaf { table: _, row: _ } => -7,
+        Reason::PairedBefore { table: _, row: _ } => -8,
+        Reason::NoPair { table: _ } => -9,
+        Reason::ManyPaths { table: _, row: _ } => -10,
+        Reason::LongOutput => -11,
+        Reason::Characters { line: _ } => -12,
+        Reason::Names { line: _ } => -13,
+        Reason::Values { line: _ } => -14,
+    }
+}
+
+// Compares two graphs and gives the answer as one number.
+#[no_mangle]
+pub extern "C" fn benchcalls_compare(
+    spec_nodes: &[i64],
+    spec_edges: &[i64],
+    impl_nodes: &[i64],
+    impl_edges: &[i64],
+    root_pairs: &[i64],
+    leaf_pairs: &[i64],
+) -> i64
+    ensures { λ r. ⌜
+        r
+        ≡ summary
+        (compareAnswer
+        (tablesOf (now («spec_nodes» .entry)) (now («spec_edges» .entry)) (now («impl_nodes» .entry)) (now («impl_edges» .entry))
+        (now («root_pairs» .entry)) (now («leaf_pairs» .entry)))) ⌝ }
+{
+    let answer = compare(
+        spec_nodes,
+        spec_edges,
+        impl_nodes,
+        impl_edges,
+        root_pairs,
+        leaf_pairs,
+    );
+    match answer {
+        Compared::Result(c) => packed_of(c),
+        Compared::Refused(reason) => refused_number(reason),
+    }
+}

@@ -1,22 +1,21 @@
 -- A leaf row whose leaves no edge enters: all its pairs are equal and have no record.
 use mathlib.Core.Path.{_≡_, refl, sym, ap, subst, _∙_}
-use mathlib.Core.Bool.{Bool, true, false, not, cond, _&&_, _||_}
-use mathlib.Core.List.{List, [], _∷_, map, List·Memᴰ·head, List·Memᴰ·tail}
-use Prim.Native.Nat.{ℕ, suc, _+_, _-_, _*_, _/_, _≤_, _<_}
+use mathlib.Core.Bool.{Bool, true, false, _||_}
+use mathlib.Core.List.{List, [], _∷_, List·Memᴰ·head, List·Memᴰ·tail}
+use Prim.Native.Nat.{ℕ, suc, _+_, _-_, _*_, _/_, _<_}
 use native.Mathlib.Nat.{add-zero}
 use native.Mathlib.Numerals.{add-one}
 use native.Mathlib.Omega.{arith}
-use lib.Dec.{T}
 use lib.IntN.{ℤ, pos}
 use lib.ListN.{length, length-map}
-use Rattle.lists.specs.Lists.{_∈_, all, isNil}
+use Rattle.lists.specs.Lists.{_∈_, isNil}
 use Rattle.lists.proofs.Membership.{keep-nil, map-out}
 use Rattle.model.specs.Limits.{pairWidth, maxPairs}
 use Rattle.model.specs.Verdicts.{sameList, verdict, lowest}
 use Rattle.model.specs.Compare.{Tables, rootRows, Finding, findingOf, verdictOf}
 use Rattle.pairing.specs.Pairs.{pairAt}
 use Rattle.sorting.specs.declared.Row.{Row}
-use Rattle.reporting.specs.Lines.{hasLine, rowOfFinding, rowsOfFindings}
+use Rattle.reporting.specs.Lines.{hasLine, rowsOfFindings}
 use Rattle.visiting.specs.Visiting as visiting
 use Rattle.visiting.specs.Visiting.{keyOf, isEarlier, withVerdict, withFinding, totalsFrom, ofLeaf}
 use Rattle.visiting.proofs.Turns.{totals-nil, totals-cons}

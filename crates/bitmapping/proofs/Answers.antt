@@ -103,7 +103,7 @@ then-both none b e = (refl, e)
 then-both (some r) b e = let z : _≡_ {A = ℕ} 0 1 = cc in absurd (omega arith)
 
 module _ (ns es : List ℤ) (r l : ℤ) (taken : full tt ≡ checked (checkAsked ns es r l)) where
-  asked-parts : (full tt ≡ checked (checkGraph 0 ns es)) × (full tt ≡ checked (checkNamed (graphOf ns es) r l))
+  pub asked-parts : (full tt ≡ checked (checkGraph 0 ns es)) × (full tt ≡ checked (checkNamed (graphOf ns es) r l))
   unfolding checkAsked
   asked-parts = then-both (checkGraph 0 ns es) (checkNamed (graphOf ns es) r l) taken
 

@@ -4,7 +4,7 @@ use mathlib.Core.List.{List}
 use Prim.Native.Nat.{ℕ, _*_, _≤_, _<_}
 use native.Mathlib.Omega.{arith}
 use lib.IntN.{ℤ, pos}
-use lib.ListN.{length, getD, take}
+use lib.ListN.{length, getD, take, replicate, length-replicate}
 use lib.Seq.{take-at}
 use Rattle.integers.proofs.Linear.{ints}
 use Rattle.model.specs.Limits.{maxNodes, maxEdges, maxPaths}
@@ -13,14 +13,17 @@ use Rattle.model.specs.Graph.{graphOf, NodeRow}
 use Rattle.model.specs.Paths.{Leaf}
 use Rattle.model.specs.Runs.{paths}
 use Rattle.model.specs.Calls.{full}
+use Rattle.depth.specs.Check.{orderAfter}
 use Rattle.tables.proofs.Checks.{checked}
 use Rattle.tables.proofs.Rows.{graph-nodes-length, nodes-length, edges-length}
 use Rattle.reach.specs.Counting.{pathCount, stopped, countsOf, countsOver}
 use Rattle.reach.proofs.Reaching.{count-at}
 use Rattle.reach.proofs.Values.{values-length}
-use Rattle.listing.specs.Listing.{Ready}
-use Rattle.bitmapping.specs.Checking.{checkAsked}
-use Rattle.bitmapping.proofs.Answers.{asked-tables, asked-root, asked-leaf, asked-few}
+use Rattle.windows.specs.Tables.{extentsOver, offsetsOver, windowsOver, Windowable}
+use Rattle.windows.proofs.Bits.{extents-in, offsets-in, windows-in}
+use Rattle.listing.specs.Listing.{Windowed, Ready}
+use Rattle.bitmapping.specs.Checking.{Asked, checkAsked}
+use Rattle.bitmapping.proofs.Answers.{asked-parts, graph-nameable, asked-tables, asked-root, asked-leaf, asked-few}
 
 module _ (ns es : List ℤ) {r : ℤ} (root : ℕ) (same : pos root ≡ r) (there : NodeRow (graphOf ns es) r) where
   -- the root is an index of the nodes
@@ -59,3 +62,56 @@ asked-ready ns es r l taken root leaf same last old e headRoom nextRoom workRoom
       workRoom = workRoom;
       spareRoom = spareRoom;
     }
+
+-- and with the edges in order, the windows can be found too
+pub asked-listable : (ns es : List ℤ) (r l : ℤ) → full tt ≡ checked (checkAsked ns es r l) → (root leaf : ℕ) → pos root ≡ r → pos leaf ≡ l
+    → (old buffer : List ℕ) {order counts : List ℕ} {work : List ℤ} → order ≡ orderAfter 0 ns es buffer → counts ≡ countsOver (graphOf ns es) l old
+    → 3 * maxPaths ≤ length work → Asked ns es order counts root leaf work
+asked-listable ns es r l taken root leaf same last old buffer {order} {counts} {work} o e room =
+    let ready =
+    asked-ready ns es r l taken root leaf same last old {head = replicate maxNodes 0} {next = replicate maxEdges 0} {work = work} {spare = work} e
+    (omega (arith, length-replicate {A = ℕ} maxNodes 0)) (omega (arith, length-replicate {A = ℕ} maxEdges 0)) room room in
+    record {
+      tables = ready .tables;
+      row = ready .row;
+      block = ready .block;
+      backward = graph-nameable ns es buffer order (replicate maxNodes 0) (asked-parts ns es r l taken .0) o (omega (arith, length-replicate {A = ℕ} maxNodes 0)) .backward;
+      counted = ready .counted;
+      few = ready .few;
+      room = room;
+    }
+
+-- ---- the bits and windows of a graph that is asked for
+
+module _ {ns es : List ℤ} {order counts : List ℕ} {root leaf : ℕ} {work : List ℤ} (p : Asked ns es order counts root leaf work) where
+  -- with its bits, its windows can be found
+  pub asked-windowable : {extents offsets : List ℤ} (oldExtents oldOffsets windows : List ℤ) → extents ≡ extentsOver (graphOf ns es) oldExtents
+      → offsets ≡ offsetsOver (graphOf ns es) oldOffsets → 2 * maxNodes ≤ length windows → Windowable ns es order leaf extents offsets windows
+  asked-windowable oldExtents oldOffsets windows x o h =
+      record {
+        tables = p .tables;
+        block = p .block;
+        backward = p .backward;
+        nodeBits = extents-in ns es oldExtents x;
+        edgeBits = offsets-in ns es oldOffsets o;
+        room = omega (arith, h, p .tables .nodes .few, nodes-length ns);
+      }
+
+  -- with these, the list of the root and the leaf can be made
+  pub asked-pair : {offsets windows : List ℤ} (head next : List ℕ) (spare oldOffsets oldWindows : List ℤ) → offsets ≡ offsetsOver (graphOf ns es) oldOffsets
+      → windows ≡ windowsOver (graphOf ns es) (pos leaf) oldWindows → maxNodes ≤ length head → maxEdges ≤ length next → 3 * maxPaths ≤ length spare
+      → Ready ns es root leaf counts head next work spare × Windowed ns es leaf offsets windows
+  asked-pair head next spare oldOffsets oldWindows o w headRoom nextRoom spareRoom = (
+    record {
+      tables = p .tables;
+      row = p .row;
+      block = p .block;
+      counted = p .counted;
+      few = p .few;
+      headRoom = omega (arith, headRoom, p .tables .nodes .few, nodes-length ns);
+      nextRoom = omega (arith, nextRoom, p .tables .edges .few, edges-length es);
+      workRoom = p .room;
+      spareRoom = spareRoom;
+    },
+    record { edgeBits = offsets-in ns es oldOffsets o; nodeSpans = windows-in ns es leaf oldWindows w },
+  )

@@ -3,12 +3,14 @@ use mathlib.Core.Path.{_≡_}
 use mathlib.Core.Bool.{cond}
 use mathlib.Core.List.{List, _++_, map}
 use mathlib.Core.Option.{Option}
-use Prim.Native.Nat.{ℕ, _≤_}
+use Prim.Native.Nat.{ℕ, _*_, _≤_}
 use lib.Dec.{ltb}
-use lib.IntN.{ℤ, negsuc}
-use lib.ListN.{length, take, drop}
+use lib.IntN.{ℤ, pos, negsuc}
+use lib.ListN.{length, getD, take, drop}
+use Rattle.model.specs.Limits.{maxPaths}
 use Rattle.model.specs.Rows.{nodeRows, edgeRows}
-use Rattle.model.specs.Graph.{Graph, graphOf, node}
+use Rattle.model.specs.Graph.{Graph, graphOf, NodeRow, node}
+use Rattle.model.specs.Paths.{Leaf}
 use Rattle.model.specs.Refusals.{Refusal}
 use Rattle.model.specs.Checks.{isRow, _then_, checkGraph, checkNamed}
 use Rattle.model.specs.Calls.{answer}
@@ -17,7 +19,7 @@ use Rattle.model.specs.Taken.{TakenTables}
 use Rattle.model.specs.declared.Checked.{Checked}
 use Rattle.model.specs.declared.Checked.the-variants.{Taken}
 use Rattle.depth.specs.Order.{edgeOrder}
-use Rattle.reach.specs.Counting.{countsOver}
+use Rattle.reach.specs.Counting.{countsOf, countsOver}
 
 -- the kind of node v, or −1 where v is no node row
 unfoldable pub kindOf : Graph → ℤ → ℤ
@@ -34,6 +36,17 @@ pub record Nameable (ns es : List ℤ) (order counts : List ℕ) : Type 0 where
 pub record Counted (check : Option Refusal) (ns es : List ℤ) (leaf : ℤ) (old : List ℕ) (given : Checked) (new : List ℕ) : Type 0 where
   pub answers : checkedAnswer given ≡ answer check tt
   pub counted : given ≡ Taken → new ≡ countsOver (graphOf ns es) leaf old
+
+-- what listing a checked root and leaf starts from: tables whose graph is taken, their edge rows in backward order in front of `order`, the counts
+-- of the paths to the leaf in front of `counts`, at most 1,024 of them at the root, and room for a row a path
+pub record Asked (ns es : List ℤ) (order counts : List ℕ) (root leaf : ℕ) (work : List ℤ) : Type 0 where
+  pub tables : TakenTables ns es
+  pub row : NodeRow (graphOf ns es) (pos root)
+  pub block : Leaf (graphOf ns es) (pos leaf)
+  pub backward : take (length (edgeRows es)) order ≡ map (λ e. e .row) (edgeOrder (edgeRows es))
+  pub counted : take (length (nodeRows ns)) counts ≡ countsOf (graphOf ns es) (pos leaf) (length (nodeRows ns))
+  pub few : getD counts root 0 ≤ maxPaths
+  pub room : 3 * maxPaths ≤ length work
 
 -- the refusals of list and walk, but for that of a long output
 unfoldable pub checkAsked : List ℤ → List ℤ → ℤ → ℤ → Option Refusal

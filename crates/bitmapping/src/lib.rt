@@ -1,8 +1,8 @@
 // The bitmapping list of a root and a leaf of one graph, and the walk of one bit address.
 ghost use mathlib.Core.Path.{_≡_};
 ghost use mathlib.Core.List.{List, _++_};
-ghost use Prim.Native.Nat.{_≤_};
-ghost use lib.IntN.{ℤ};
+ghost use Prim.Native.Nat.{_*_, _≤_};
+ghost use lib.IntN.{ℤ, pos};
 ghost use lib.ListN.{length, take, drop};
 ghost use Rattle.integers.specs.Integers.{eqZ};
 ghost use Rattle.lists.specs.Lists.{any};
@@ -10,44 +10,35 @@ ghost use Rattle.model.specs.Limits.{maxNodes, maxEdges};
 ghost use Rattle.model.specs.Rows.{edgeRows};
 ghost use Rattle.model.specs.Graph.{graphOf};
 ghost use Rattle.model.specs.Checks.{isRoot, isLeaf, checkNamed};
+ghost use Rattle.model.specs.Runs.{listOf};
+ghost use Rattle.model.specs.Calls.{numbersOf};
+ghost use Rattle.depth.specs.Check.{orderAfter};
 ghost use Rattle.bitmapping.specs.Promises.{ListPromise, WalkPromise};
-ghost use Rattle.bitmapping.specs.Checking.{kindOf, Nameable, Counted, checkAsked, Copied};
+ghost use Rattle.bitmapping.specs.Checking.{kindOf, Nameable, Counted, Asked, checkAsked, Copied};
+use model::BLOCK;
 use model::Checked;
+use model::EDGE_WIDTH;
+use model::LEAF_PAIRS;
+use model::MAX_EDGES;
+use model::MAX_NODES;
+use model::MAX_PATHS;
+use model::NODE_WIDTH;
+use model::ROOT_PAIRS;
 use model::Reason;
+use model::SEGMENT;
+use model::SPACE;
+use model::SPEC_EDGES;
 use model::Written;
+use windows::MAX_ENDS;
 
-// Numbers of a node row, of an edge row and of a record.
-const NODE_WIDTH: usize = 4;
-
-const EDGE_WIDTH: usize = 3;
-
+// Numbers of a record.
 const RECORD_WIDTH: usize = 3;
 
-// Rows of a table at most.
-const MAX_NODES: usize = 2000;
-
-const MAX_EDGES: usize = 2600;
-
-// The most paths from a root to a leaf, and the numbers of as many rows of three.
-const MAX_PATHS: usize = 1024;
-
+// The numbers of as many rows of three as a root and a leaf have paths at most.
 const MAX_NUMBERS: usize = 3072;
 
-// Kinds of nodes.
-const SPACE: i64 = 0;
-
-const SEGMENT: i64 = 1;
-
-const BLOCK: i64 = 2;
-
+// The kind of what is no node row.
 const NO_KIND: i64 = -1;
-
-// Tables as refusals name them: the edges of a single graph, roots and leaves.
-const EDGES: usize = 1;
-
-const ROOTS: usize = 4;
-
-const LEAVES: usize = 5;
 
 // Whether some edge of the table enters v.
 fn entered(edges: &[i64], v: i64) -> bool
@@ -112,13 +103,13 @@ fn check_named(
 {
     if !is_root(nodes, edges, root) {
         return Checked::Refused(Reason::NotRootOrLeaf {
-            table: ROOTS,
+            table: ROOT_PAIRS,
             row: 0,
         });
     }
     if !is_leaf(nodes, leaf) {
         return Checked::Refused(Reason::NotRootOrLeaf {
-            table: LEAVES,
+            table: LEAF_PAIRS,
             row: 0,
         });
     }
@@ -127,7 +118,7 @@ fn check_named(
     let paths = counts[from];
     if paths > MAX_PATHS {
         return Checked::Refused(Reason::ManyPaths {
-            table: EDGES,
+            table: SPEC_EDGES,
             row: 0,
         });
     }
@@ -147,6 +138,7 @@ fn check_asked(
     ensures { λ r. ⌜
         Counted (checkAsked (now (nodes .entry)) (now (edges .entry)) root leaf)
         (now (nodes .entry)) (now (edges .entry)) leaf (now (counts .entry)) r (now (counts .exit)) ⌝ }
+    ensures { λ _. ⌜ now (order .exit) ≡ orderAfter 0 (now (nodes .entry)) (now (edges .entry)) (now (order .entry)) ⌝ }
 {
     let checked = depth::check_graph_with(nodes, edges, 0, order);
     if let Checked::Refused(reason) = checked {
@@ -182,6 +174,44 @@ fn put_numbers(from: &[i64], n: usize, out: &mut [i64]) -> usize
     size
 }
 
+// The bitmapping list of a root and a leaf that are checked: its records stand in front of `work`, three numbers each. Returns how many they are.
+// What stands behind them is space that was worked in.
+fn list_checked(
+    nodes: &[i64],
+    edges: &[i64],
+    order: &[usize],
+    counts: &[usize],
+    root: usize,
+    leaf: usize,
+    work: &mut [i64],
+) -> usize
+    requires { ⌜ Asked (now nodes) (now edges) (now order) (now counts) root leaf (now work) ⌝ }
+    ensures { λ r. ⌜ r ≡ length (listOf (graphOf (now (nodes .entry)) (now (edges .entry))) (pos root) (pos leaf)) ⌝ }
+    ensures { λ r. ⌜ take (3 * r) (now (work .exit)) ≡ numbersOf (listOf (graphOf (now (nodes .entry)) (now (edges .entry))) (pos root) (pos leaf)) ⌝ }
+{
+    let mut extents = [0i64; MAX_ENDS];
+    let mut offsets = [0i64; MAX_EDGES];
+    let mut windows = [0i64; MAX_ENDS];
+    let mut head = [0usize; MAX_NODES];
+    let mut next = [0usize; MAX_EDGES];
+    let mut spare = [0i64; MAX_NUMBERS];
+    windows::measure(nodes, edges, &mut extents, &mut offsets);
+    windows::find_windows(nodes, edges, order, leaf, &extents, &offsets, &mut windows);
+    listing::list_pair(
+        nodes,
+        edges,
+        root,
+        leaf,
+        counts,
+        &offsets,
+        &windows,
+        &mut head,
+        &mut next,
+        work,
+        &mut spare,
+    )
+}
+
 // The bitmapping list of a root and a leaf: its records in order, three numbers each, in the front of `out`, and how many they are. Where the
 // tables, root, leaf or the length of `out` are not as they should be, the first refusal, with `out` untouched.
 pub fn list(nodes: &[i64], edges: &[i64], root: i64, leaf: i64, out: &mut [i64]) -> Written
@@ -193,20 +223,15 @@ pub fn list(nodes: &[i64], edges: &[i64], root: i64, leaf: i64, out: &mut [i64])
     if let Checked::Refused(reason) = checked {
         return Written::Refused(reason);
     }
-    let mut head = [0usize; MAX_NODES];
-    let mut next = [0usize; MAX_EDGES];
     let mut work = [0i64; MAX_NUMBERS];
-    let mut spare = [0i64; MAX_NUMBERS];
-    let records = listing::list_pair(
+    let records = list_checked(
         nodes,
         edges,
+        &order,
+        &counts,
         root as usize,
         leaf as usize,
-        &counts,
-        &mut head,
-        &mut next,
         &mut work,
-        &mut spare,
     );
     let numbers = RECORD_WIDTH * records;
     if put_numbers(&work, numbers, out) < numbers {

@@ -1,5 +1,6 @@
 pub mod Appending
 pub mod Passing
+pub mod Windowed
 pub mod Runs
 pub mod Arrivals
 pub mod Once

@@ -1,7 +1,8 @@
 -- From a root to a leaf: what the counts of the paths say, room for a row a path, and what the rows written give once they are normalised or
 -- sorted.
 use mathlib.Core.Path.{_≡_, sym, ap, _∙_, subst}
-use mathlib.Core.List.{List, _++_, map, map-map}
+use mathlib.Core.List.{List, [], _++_, map, map-map}
+use mathlib.Core.Option.{none, some}
 use Prim.Native.Nat.{ℕ, _+_, _*_, _≤_}
 use native.Mathlib.Omega.{arith}
 use lib.IntN.{ℤ, pos}
@@ -9,8 +10,8 @@ use lib.ListN.{length, getD, drop, length-take, take-append-drop}
 use Rattle.integers.proofs.Linear.{ints}
 use Rattle.model.specs.Limits.{maxChain, maxPaths}
 use Rattle.model.specs.Rows.{nodeRows}
-use Rattle.model.specs.Graph.{graphOf, node}
-use Rattle.model.specs.Runs.{whole, paths, runs, recordOf, normal, listOf}
+use Rattle.model.specs.Graph.{Graph, graphOf, node}
+use Rattle.model.specs.Runs.{Run, whole, paths, runs, recordOf, normal, listOf}
 use Rattle.model.specs.Calls.{leafBits}
 use Rattle.sorting.specs.declared.Row.{Row}
 use Rattle.sorting.specs.Rows.{rowsOf, numbersOf, sorted}
@@ -21,12 +22,20 @@ use Rattle.reach.specs.Counting.{pathCount, stopped, countsOf, countsOver}
 use Rattle.reach.specs.Links.{Linked, Linkable}
 use Rattle.reach.proofs.Values.{values-length}
 use Rattle.reach.proofs.Reaching.{count-at}
-use Rattle.listing.specs.Listing.{LinkedTo, Ready, Listable, Appended, runRow, runRows, arrivalRows, once, firstsOf}
-use Rattle.listing.proofs.Appending.{append-length, append-rows}
-use Rattle.listing.proofs.Runs.{runRows-within-paths}
+use Rattle.model.proofs.Taken.{taken-fit}
+use Rattle.steps.specs.Steps.{living, SmallRun, Clippable}
+use Rattle.steps.proofs.Bounds.{whole-small}
+use Rattle.steps.proofs.Runs.{living-none, living-some}
+use Rattle.windows.specs.Windows.{Span, cut}
+use Rattle.windows.specs.Tables.{spanAt}
+use Rattle.windows.proofs.Spans.{cut-small}
+use Rattle.listing.specs.Listing.{LinkedTo, Windowed, Ready, Listable, Appended, runRow, runRows, arrivalRows, once, firstsOf}
+use Rattle.listing.proofs.Appending.{append-none, append-length, append-rows}
+use Rattle.listing.proofs.Runs.{rows-empty, rows-cut, runRows-within-paths}
 use Rattle.listing.proofs.Arrivals.{arrivalRows-within-paths}
 use Rattle.listing.proofs.Once.{once-leafBits}
-use Rattle.listing.proofs.Small.{runs-small}
+use Rattle.listing.proofs.Small.{small-clippable, runs-small}
+use Rattle.listing.proofs.Windowed.{row-cuttable, row-window}
 
 -- rows behind none whose records are those of runs
 records-listed : (ns es : List ℤ) (r l : ℤ) {old new : List ℤ} {n : ℕ} → Appended (runRows maxChain (graphOf ns es) r l (whole (node (graphOf ns es) r))) old new 0 n
@@ -131,3 +140,51 @@ module _ {ns es : List ℤ} {root leaf : ℕ} {head next : List ℕ} {work spare
           ap (λ (l : List ℤ). once (firstsOf (rowsOf l n))) e
           ∙ ap (λ (l : List Row). once (firstsOf l)) (sorts ∙ ap sorted (append-rows a))
           ∙ once-leafBits (graphOf ns es) (pos root) (pos leaf) x
+
+-- ---- from the window of the root
+
+module _ {ns es : List ℤ} {root leaf : ℕ} {head next : List ℕ} {work spare offsets windows : List ℤ} (p : Listable ns es root leaf head next work spare)
+    (w : Windowed ns es leaf offsets windows)
+  where
+    abbrev g : Graph
+    g = graphOf ns es
+
+    abbrev all : Run
+    all = whole (node g (pos root))
+
+    small : SmallRun all
+    small = whole-small (node g (pos root)) (p .linked .tables .graph .good (pos root) (p .row))
+
+    -- all bits of the root can be clipped
+    pub root-clippable : Clippable (whole (node (graphOf ns es) (pos root)))
+    root-clippable = small-clippable small
+
+    -- and have the rows that are left of them in the window
+    root-rows : runRows maxChain g (pos root) (pos leaf) all ≡ runRows maxChain g (pos root) (pos leaf) (cut (spanAt windows root) all)
+    unfolding whole
+    root-rows =
+        let taken = p .linked .tables .graph in
+        rows-cut taken (taken-fit taken (p .linked .block)) maxChain (pos root) all (record { low = omega (arith, ints); high = omega (arith, ints) })
+        ∙ ap (λ (s : Span). runRows maxChain g (pos root) (pos leaf) (cut s all)) (sym (row-window (p .linked) w (p .row)))
+
+    module _ {s : Run} (left : some s ≡ living (cut (spanAt windows root) (whole (node (graphOf ns es) (pos root))))) where
+      -- what is left is small
+      pub root-small : SmallRun s
+      root-small =
+          let k = living-some (cut (spanAt windows root) all) s left in
+          subst SmallRun (sym (k .0)) (cut-small (spanAt windows root) root-clippable (row-cuttable (p .linked) w (p .row) .small) (k .1))
+
+      -- its rows are those of all bits
+      pub root-same : runRows maxChain (graphOf ns es) (pos root) (pos leaf) s
+          ≡ runRows maxChain (graphOf ns es) (pos root) (pos leaf) (whole (node (graphOf ns es) (pos root)))
+      root-same =
+          let k = living-some (cut (spanAt windows root) all) s left in
+          ap (runRows maxChain g (pos root) (pos leaf)) (k .0) ∙ sym root-rows
+
+    -- where nothing is left, the list is empty
+    pub root-none : none ≡ living (cut (spanAt windows root) (whole (node (graphOf ns es) (pos root)))) → listOf (graphOf ns es) (pos root) (pos leaf) ≡ []
+    unfolding normal rowsOf
+    root-none nothing =
+        let run = cut (spanAt windows root) all in
+        let rows = root-rows ∙ rows-empty maxChain g (pos root) (pos leaf) run (living-none run nothing) in
+        sym (runs-normal p (subst (λ (l : List Row). Appended l work work 0 0) (sym rows) (append-none work 0)))

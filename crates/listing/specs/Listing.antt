@@ -20,6 +20,7 @@ use Rattle.sorting.specs.Rows.{numbersOf}
 use Rattle.normalisation.specs.Merging.{byDisplacement}
 use Rattle.reach.specs.Counting.{countsOf, countsOver}
 use Rattle.reach.specs.Links.{Linked}
+use Rattle.windows.specs.Tables.{OffsetsIn, WindowsIn}
 
 -- ---- links
 
@@ -32,6 +33,11 @@ pub record LinkedTo (ns es : List ℤ) (leaf : ℕ) (head next : List ℕ) : Typ
   pub oldHead : List ℕ
   pub oldNext : List ℕ
   pub links : Linked (countsOver (graphOf ns es) (pos leaf) counts) (graphOf ns es) oldHead oldNext head next
+
+-- the bit offsets of all edges stand in front of `offsets`, and the windows of all nodes for the leaf in front of `windows`
+pub record Windowed (ns es : List ℤ) (leaf : ℕ) (offsets windows : List ℤ) : Type 0 where
+  pub edgeBits : OffsetsIn ns es offsets
+  pub nodeSpans : WindowsIn ns es leaf windows
 
 -- what listing or walking from a root to a leaf starts from: taken tables, the counts of the paths to the leaf in front of `counts`, at most 1,024
 -- of them at the root, and room for the links and for a row a path

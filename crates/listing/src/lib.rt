@@ -11,17 +11,13 @@ ghost use Rattle.model.specs.Calls.{numbersOf, leafBits};
 ghost use Rattle.sorting.specs.Rows.{rowsOf};
 ghost use Rattle.reach.specs.Links.{Linked};
 ghost use Rattle.steps.specs.Steps.{runOf, SmallRun, SmallAddress, GoodRow};
-ghost use Rattle.listing.specs.Listing.{LinkedTo, Ready, Listable, Appended, runRow, runRows, arrivalRow, arrivalRows, once, firstsOf};
+ghost use Rattle.listing.specs.Listing.{LinkedTo, Windowed, Ready, Listable, Appended, runRow, runRows, arrivalRow, arrivalRows, once, firstsOf};
 use model::Bits;
+use model::EDGE_WIDTH;
+use model::MAX_CHAIN;
 use sorting::Row;
 use steps::Clipped;
 use steps::Run;
-
-// Numbers of an edge row.
-const EDGE_WIDTH: usize = 3;
-
-// Edges of a chain at most.
-const MAX_CHAIN: usize = 64;
 
 // The row of a run at the leaf: displacement, first and last bit of its record.
 fn run_row(nodes: &[i64], leaf: usize, run: Run) -> Row
@@ -73,12 +69,14 @@ fn edge_behind(next: &[usize], e: usize) -> usize
 }
 
 // Lists the runs at the leaf of a run at node v, over at most `left` edges: a row each, behind the first n rows of `out`. Returns how many rows
-// stand there then. Goes over the linked edges alone, and over those that some bit of the run crosses.
+// stand there then. Goes over the linked edges alone, and over those that some bit of the run crosses into the window of the node entered.
 pub fn list_from(
     nodes: &[i64],
     edges: &[i64],
     head: &[usize],
     next: &[usize],
+    offsets: &[i64],
+    windows: &[i64],
     leaf: usize,
     v: usize,
     run: Run,
@@ -88,6 +86,7 @@ pub fn list_from(
 ) -> usize
     requires { ⌜
         LinkedTo (now nodes) (now edges) leaf (now head) (now next)
+        × Windowed (now nodes) (now edges) leaf (now offsets) (now windows)
         × NodeRow (graphOf (now nodes) (now edges)) (pos v)
         × SmallRun (runOf run)
         × (3 * (n + length (runRows left (graphOf (now nodes) (now edges)) (pos v) (pos leaf) (runOf run))) ≤ length (now out)) ⌝ }
@@ -104,14 +103,16 @@ pub fn list_from(
     let mut m = n;
     let mut e = head[v];
     while e < edges.len() / EDGE_WIDTH {
-        let crossed = steps::cross(nodes, edges, e, run);
+        let to = tables::edge_to(edges, e);
+        let crossed = windows::cross(offsets, windows, e, to, run);
         if let Clipped::Left(entered) = crossed {
-            let to = tables::edge_to(edges, e);
             m = list_from(
                 nodes,
                 edges,
                 head,
                 next,
+                offsets,
+                windows,
                 leaf,
                 to,
                 entered,
@@ -168,8 +169,8 @@ pub fn walk_from(
 }
 
 // Lists the bitmapping list of a root and the leaf that the edges are linked for, in n log n steps for n paths, each of at most MAX_CHAIN edges:
-// its records stand in front of `work`, first, last and displacement of each. Returns how many they are. What stands behind them, and in
-// `spare`, is space that was worked in.
+// its records stand in front of `work`, first, last and displacement of each. Returns how many they are: none, without more work, where no bit of
+// the root lies in its window. What stands behind them, and in `spare`, is space that was worked in.
 pub fn list_linked(
     nodes: &[i64],
     edges: &[i64],
@@ -177,27 +178,36 @@ pub fn list_linked(
     leaf: usize,
     head: &[usize],
     next: &[usize],
+    offsets: &[i64],
+    windows: &[i64],
     work: &mut [i64],
     spare: &mut [i64],
 ) -> usize
-    requires { ⌜ Listable (now nodes) (now edges) root leaf (now head) (now next) (now work) (now spare) ⌝ }
+    requires { ⌜
+        Listable (now nodes) (now edges) root leaf (now head) (now next) (now work) (now spare)
+        × Windowed (now nodes) (now edges) leaf (now offsets) (now windows) ⌝ }
     ensures { λ r. ⌜ r ≡ length (listOf (graphOf (now (nodes .entry)) (now (edges .entry))) (pos root) (pos leaf)) ⌝ }
     ensures { λ r. ⌜ take (3 * r) (now (work .exit)) ≡ numbersOf (listOf (graphOf (now (nodes .entry)) (now (edges .entry))) (pos root) (pos leaf)) ⌝ }
 {
-    let run = steps::whole(nodes, root);
-    let n = list_from(
-        nodes,
-        edges,
-        head,
-        next,
-        leaf,
-        root,
-        run,
-        MAX_CHAIN,
-        work,
-        0,
-    );
-    normalisation::normalise(work, n, spare)
+    let reaching = windows::cut(windows, root, steps::whole(nodes, root));
+    if let Clipped::Left(run) = reaching {
+        let n = list_from(
+            nodes,
+            edges,
+            head,
+            next,
+            offsets,
+            windows,
+            leaf,
+            root,
+            run,
+            MAX_CHAIN,
+            work,
+            0,
+        );
+        return normalisation::normalise(work, n, spare);
+    }
+    0
 }
 
 // Links the edges for a leaf, and lists the bitmapping list of a root and this leaf as list_linked does.
@@ -207,12 +217,16 @@ pub fn list_pair(
     root: usize,
     leaf: usize,
     counts: &[usize],
+    offsets: &[i64],
+    windows: &[i64],
     head: &mut [usize],
     next: &mut [usize],
     work: &mut [i64],
     spare: &mut [i64],
 ) -> usize
-    requires { ⌜ Ready (now nodes) (now edges) root leaf (now counts) (now head) (now next) (now work) (now spare) ⌝ }
+    requires { ⌜
+        Ready (now nodes) (now edges) root leaf (now counts) (now head) (now next) (now work) (now spare)
+        × Windowed (now nodes) (now edges) leaf (now offsets) (now windows) ⌝ }
     ensures { λ r. ⌜ r ≡ length (listOf (graphOf (now (nodes .entry)) (now (edges .entry))) (pos root) (pos leaf)) ⌝ }
     ensures { λ r. ⌜ take (3 * r) (now (work .exit)) ≡ numbersOf (listOf (graphOf (now (nodes .entry)) (now (edges .entry))) (pos root) (pos leaf)) ⌝ }
     ensures { λ _. ⌜
@@ -220,7 +234,18 @@ pub fn list_pair(
         (now (head .entry)) (now (next .entry)) (now (head .exit)) (now (next .exit)) ⌝ }
 {
     reach::link_edges(nodes, edges, counts, head, next);
-    list_linked(nodes, edges, root, leaf, head, next, work, spare)
+    list_linked(
+        nodes,
+        edges,
+        root,
+        leaf,
+        head,
+        next,
+        offsets,
+        windows,
+        work,
+        spare,
+    )
 }
 
 // Keeps the first number of each of n rows once, where equal ones stand next to each other: in front of `work`. Returns how many they are.

@@ -61,28 +61,30 @@ list-few g r l h =
 
 -- ---- the counts of a swept graph
 
-module _ {ns es : List ℤ} {root : ℕ} {leaf : ℤ} {counts head next : List ℕ} {work e : List ℤ} (p : ListReady ns es (pos root) leaf counts head next work e) where
-  -- the root is one of the nodes
-  root-below : root < length (graphOf ns es .nodes)
-  root-below = omega (arith, ints, p .row .high)
+module _ {ns es : List ℤ} {root : ℕ} {leaf : ℤ} {counts head next : List ℕ} {offsets windows work e : List ℤ}
+    (p : ListReady ns es (pos root) leaf counts head next offsets windows work e)
+  where
+    -- the root is one of the nodes
+    root-below : root < length (graphOf ns es .nodes)
+    root-below = omega (arith, ints, p .row .high)
 
-  -- there is a count for the root
-  pub root-counted : root < length counts
-  unfolding countsOver countsOf
-  root-counted =
-      let g = graphOf ns es in
-      let n = length (g .nodes) in
-      let values : ℕ → ℕ = λ v. stopped (pathCount g (pos v) leaf) in
-      let size = ap length (p .swept .counted) ∙ length-append (valuesOf values n) (drop n (p .swept .held)) in
-      omega (arith, size, values-length values n, root-below)
+    -- there is a count for the root
+    pub root-counted : root < length counts
+    unfolding countsOver countsOf
+    root-counted =
+        let g = graphOf ns es in
+        let n = length (g .nodes) in
+        let values : ℕ → ℕ = λ v. stopped (pathCount g (pos v) leaf) in
+        let size = ap length (p .swept .counted) ∙ length-append (valuesOf values n) (drop n (p .swept .held)) in
+        omega (arith, size, values-length values n, root-below)
 
-  -- where it is 0, the list is empty
-  pub none-listed : getD counts root 0 ≡ 0 → Listed (listOf (graphOf ns es) (pos root) leaf) work 0
-  unfolding numbersOf
-  none-listed z =
-      let g = graphOf ns es in
-      let count = ap (λ (c : List ℕ). getD c root 0) (p .swept .counted) ∙ count-at g leaf (p .swept .held) root root-below in
-      rw (list-none g (pos root) leaf (omega (arith, z, count))) (record { count = refl; numbers = refl })
+    -- where it is 0, the list is empty
+    pub none-listed : getD counts root 0 ≡ 0 → Listed (listOf (graphOf ns es) (pos root) leaf) work 0
+    unfolding numbersOf
+    none-listed z =
+        let g = graphOf ns es in
+        let count = ap (λ (c : List ℕ). getD c root 0) (p .swept .counted) ∙ count-at g leaf (p .swept .held) root root-below in
+        rw (list-none g (pos root) leaf (omega (arith, z, count))) (record { count = refl; numbers = refl })
 
 -- ---- the records of a list
 
@@ -124,12 +126,14 @@ numbers-count (r ∷ rs) = let h = numbers-count rs in omega arith
 pub listed-records : {records : List Record} {work : List ℤ} {n : ℕ} → Listed records work n → recordsOf work n ≡ records
 listed-records {work} {n} p = recordsOf-front work n (sym (p .count)) (p .numbers)
 
-module _ {ns es : List ℤ} {root leaf : ℕ} {counts head next : List ℕ} {w e : List ℤ} (p : ListReady ns es (pos root) (pos leaf) counts head next w e) where
-  -- the bitmapping list in front of a work area is a normal list there
-  pub listed-normal : {work : List ℤ} {n : ℕ} → Listed (listOf (graphOf ns es) (pos root) (pos leaf)) work n → NormalList work n
-  listed-normal {work} {n} q =
-      let k = p .swept .linked in
-      let list = listOf (graphOf ns es) (pos root) (pos leaf) in
-      let within : 3 * n ≤ length work = omega (arith, ap length (q .numbers), length-take (3 * n) work, numbers-count list, q .count) in
-      stored-normal work n within (sym (q .count)) (q .numbers) (list-of-reached (taken-fit (k .tables .graph) (k .block)))
-      (list-small (k .tables .graph) (p .row) (k .block))
+module _ {ns es : List ℤ} {root leaf : ℕ} {counts head next : List ℕ} {offsets windows w e : List ℤ}
+    (p : ListReady ns es (pos root) (pos leaf) counts head next offsets windows w e)
+  where
+    -- the bitmapping list in front of a work area is a normal list there
+    pub listed-normal : {work : List ℤ} {n : ℕ} → Listed (listOf (graphOf ns es) (pos root) (pos leaf)) work n → NormalList work n
+    listed-normal {work} {n} q =
+        let k = p .swept .linked in
+        let list = listOf (graphOf ns es) (pos root) (pos leaf) in
+        let within : 3 * n ≤ length work = omega (arith, ap length (q .numbers), length-take (3 * n) work, numbers-count list, q .count) in
+        stored-normal work n within (sym (q .count)) (q .numbers) (list-of-reached (taken-fit (k .tables .graph) (k .block)))
+        (list-small (k .tables .graph) (p .row) (k .block))

@@ -1,5 +1,5 @@
 -- The lists of a pair, once both graphs are swept for its leaf row, and what is found of them. Counts, heads and nexts are sc, sh and sx for the
--- specification, mc, mh and mx for the implementation; work areas are sw, mw and e.
+-- specification, mc, mh and mx for the implementation; bit offsets and windows are sf and sv, mf and mv; work areas are sw, mw and e.
 use mathlib.Core.Path.{_≡_}
 use mathlib.Core.List.{List}
 use Prim.Native.Nat.{ℕ, _*_, _/_, _≤_, _<_}
@@ -19,24 +19,24 @@ use Rattle.pairs.proofs.Inputs.{row-roots}
 use Rattle.pairs.proofs.Lists.{list-few, listed-records}
 
 -- the nodes of a pair as the code has them
-pub list-ready-at : {ns es : List ℤ} {root leaf : ℤ} {counts head next : List ℕ} {work spare : List ℤ} {r l : ℕ} → pos r ≡ root → pos l ≡ leaf
-    → ListReady ns es root leaf counts head next work spare → ListReady ns es (pos r) (pos l) counts head next work spare
+pub list-ready-at : {ns es : List ℤ} {root leaf : ℤ} {counts head next : List ℕ} {offsets windows work spare : List ℤ} {r l : ℕ} → pos r ≡ root → pos l ≡ leaf
+    → ListReady ns es root leaf counts head next offsets windows work spare → ListReady ns es (pos r) (pos l) counts head next offsets windows work spare
 list-ready-at e f p = rw (e, f) p
 
-module _ {t : Tables} {j : ℕ} {sc sh sx mc mh mx : List ℕ} {sw mw e : List ℤ} (k : LeafReady t j sc sh sx mc mh mx sw mw e) {i : ℕ} (h : i < length (t .rootPairs) / pairWidth) where
+module _ {t : Tables} {j : ℕ} {sc sh sx mc mh mx : List ℕ} {sf sv mf mv sw mw e : List ℤ} (k : LeafReady t j sc sh sx sf sv mc mh mx mf mv sw mw e) {i : ℕ} (h : i < length (t .rootPairs) / pairWidth) where
   -- a pair has few paths in both graphs
   pair-few : FewPaths (specGraph t) (pairAt (t .rootPairs) i .spec) (pairAt (t .leafPairs) j .spec)
       × FewPaths (implGraph t) (pairAt (t .rootPairs) i .impl) (pairAt (t .leafPairs) j .impl)
   pair-few = k .few (visitAt t i j) (visits-in (rootRows t) (leafRows t) .1 (row-member (t .rootPairs) i h, row-member (t .leafPairs) j (k .row)))
 
   -- the list of the specification can be made
-  pub spec-list-ready : ListReady (t .specNodes) (t .specEdges) (pairAt (t .rootPairs) i .spec) (pairAt (t .leafPairs) j .spec) sc sh sx sw e
+  pub spec-list-ready : ListReady (t .specNodes) (t .specEdges) (pairAt (t .rootPairs) i .spec) (pairAt (t .leafPairs) j .spec) sc sh sx sf sv sw e
   spec-list-ready =
       record { swept = k .swept .spec; row = row-roots (k .inputs) i h .0 .row; few = pair-few .0; workRoom = k .specRoom; spareRoom = k .spareRoom }
 
   -- and that of the implementation, in any spare area with room
   pub impl-list-ready : (after : List ℤ) → 3 * maxPaths ≤ length after
-      → ListReady (t .implNodes) (t .implEdges) (pairAt (t .rootPairs) i .impl) (pairAt (t .leafPairs) j .impl) mc mh mx mw after
+      → ListReady (t .implNodes) (t .implEdges) (pairAt (t .rootPairs) i .impl) (pairAt (t .leafPairs) j .impl) mc mh mx mf mv mw after
   impl-list-ready after room =
       record { swept = k .swept .impl; row = row-roots (k .inputs) i h .1 .row; few = pair-few .1; workRoom = k .implRoom; spareRoom = room }
 

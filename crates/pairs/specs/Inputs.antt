@@ -15,7 +15,8 @@ use Rattle.model.specs.Taken.{GoodShape, TakenTables}
 use Rattle.model.specs.Compare.{Tables, specGraph, implGraph, rootRows, leafRows, Visit, visits, Finding, findingOf}
 use Rattle.depth.specs.Order.{edgeOrder}
 use Rattle.reach.specs.Counting.{countsOver}
-use Rattle.listing.specs.Listing.{LinkedTo}
+use Rattle.windows.specs.Tables.{spanWidth, ExtentsIn, OffsetsIn}
+use Rattle.listing.specs.Listing.{LinkedTo, Windowed}
 use Rattle.pairing.specs.Pairs.{pairAt}
 
 -- tables that the checks of the inputs take: two taken graphs, and pairs of their roots and of their leaves
@@ -56,40 +57,46 @@ AllFew t = (v : Visit) → v ∈ visits (rootRows t) (leafRows t)
 
 -- ---- a graph swept for a leaf
 
--- what a sweep of a graph for a leaf starts from: taken tables, their edges in order, and room for a number for each node and each edge
-pub record Sweepable (ns es : List ℤ) (order : List ℕ) (leaf : ℤ) (counts head next : List ℕ) : Type 0 where
+-- what a sweep of a graph for a leaf starts from: taken tables, their edges in order, the extents of the nodes and the bit offsets of the edges, and
+-- room for the counts, links and windows
+pub record Sweepable (ns es : List ℤ) (order : List ℕ) (leaf : ℤ) (extents offsets : List ℤ) (counts head next : List ℕ) (windows : List ℤ) : Type 0 where
   pub tables : TakenTables ns es
   pub inOrder : InOrder es order
   pub block : Leaf (graphOf ns es) leaf
   pub countRoom : maxNodes ≤ length counts
   pub headRoom : maxNodes ≤ length head
   pub nextRoom : maxEdges ≤ length next
+  pub nodeBits : ExtentsIn ns es extents
+  pub edgeBits : OffsetsIn ns es offsets
+  pub windowRoom : spanWidth * maxNodes ≤ length windows
 
--- after the sweep: the counts of the paths to the leaf in front of what `counts` held, and the links of the edges that can still reach it
-pub record Swept (ns es : List ℤ) (leaf : ℤ) (counts head next : List ℕ) : Type 0 where
+-- after the sweep: the counts of the paths to the leaf in front of what `counts` held, the links of the edges that can still reach it, and the
+-- windows of the nodes beside the bit offsets of the edges
+pub record Swept (ns es : List ℤ) (leaf : ℤ) (counts head next : List ℕ) (offsets windows : List ℤ) : Type 0 where
   pub held : List ℕ
   pub counted : counts ≡ countsOver (graphOf ns es) leaf held
   pub linked : LinkedTo ns es (natAbs leaf) head next
+  pub windowed : Windowed ns es (natAbs leaf) offsets windows
 
 -- both graphs swept for the leaves of leaf row j
-pub record BothSwept (t : Tables) (j : ℕ) (specCounts specHead specNext implCounts implHead implNext : List ℕ) : Type 0 where
-  pub spec : Swept (t .specNodes) (t .specEdges) (pairAt (t .leafPairs) j .spec) specCounts specHead specNext
-  pub impl : Swept (t .implNodes) (t .implEdges) (pairAt (t .leafPairs) j .impl) implCounts implHead implNext
+pub record BothSwept (t : Tables) (j : ℕ) (specCounts specHead specNext : List ℕ) (specOffsets specWindows : List ℤ) (implCounts implHead implNext : List ℕ) (implOffsets implWindows : List ℤ) : Type 0 where
+  pub spec : Swept (t .specNodes) (t .specEdges) (pairAt (t .leafPairs) j .spec) specCounts specHead specNext specOffsets specWindows
+  pub impl : Swept (t .implNodes) (t .implEdges) (pairAt (t .leafPairs) j .impl) implCounts implHead implNext implOffsets implWindows
 
 -- what a list along the links starts from: a swept graph, a root with few paths, and room for a record a path
-pub record ListReady (ns es : List ℤ) (root leaf : ℤ) (counts head next : List ℕ) (work spare : List ℤ) : Type 0 where
-  pub swept : Swept ns es leaf counts head next
+pub record ListReady (ns es : List ℤ) (root leaf : ℤ) (counts head next : List ℕ) (offsets windows work spare : List ℤ) : Type 0 where
+  pub swept : Swept ns es leaf counts head next offsets windows
   pub row : NodeRow (graphOf ns es) root
   pub few : FewPaths (graphOf ns es) root leaf
   pub workRoom : 3 * maxPaths ≤ length work
   pub spareRoom : 3 * maxPaths ≤ length spare
 
 -- what the pairs of leaf row j start from: checked tables with few paths, both graphs swept, and room for two lists
-pub record LeafReady (t : Tables) (j : ℕ) (specCounts specHead specNext implCounts implHead implNext : List ℕ) (specWork implWork spare : List ℤ) : Type 0 where
+pub record LeafReady (t : Tables) (j : ℕ) (specCounts specHead specNext : List ℕ) (specOffsets specWindows : List ℤ) (implCounts implHead implNext : List ℕ) (implOffsets implWindows specWork implWork spare : List ℤ) : Type 0 where
   pub inputs : Inputs t
   pub few : AllFew t
   pub row : j < length (t .leafPairs) / pairWidth
-  pub swept : BothSwept t j specCounts specHead specNext implCounts implHead implNext
+  pub swept : BothSwept t j specCounts specHead specNext specOffsets specWindows implCounts implHead implNext implOffsets implWindows
   pub specRoom : 3 * maxPaths ≤ length specWork
   pub implRoom : 3 * maxPaths ≤ length implWork
   pub spareRoom : 3 * maxPaths ≤ length spare

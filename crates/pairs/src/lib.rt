@@ -10,26 +10,23 @@ ghost use Rattle.model.specs.Graph.{graphOf};
 ghost use Rattle.model.specs.Runs.{listOf};
 ghost use Rattle.reach.specs.Counting.{countsOver};
 ghost use Rattle.reach.specs.Links.{Linked};
+ghost use Rattle.windows.specs.Tables.{windowsOver};
 ghost use Rattle.pairing.specs.Pairs.{pairAt, tablesOf};
 ghost use Rattle.verdicts.specs.Records.{recordsOf, NormalList};
 ghost use Rattle.pairs.specs.Inputs.{findingAt, Sweepable, ListReady, LeafReady};
 ghost use Rattle.pairs.specs.Entering.{EntersNodes, isEntered};
 ghost use Rattle.pairs.specs.Found.{Listed, IsFound, IsFinding};
 use listing::list_linked;
+use model::EDGE_WIDTH;
+use model::PAIR_WIDTH;
+use model::ROOT_STRIDE;
 use model::Verdict;
 use reach::count_paths;
 use reach::link_edges;
 use tables::edge_to;
 use verdicts::lowest_of;
 use verdicts::verdict_of;
-
-// Numbers of a pair row and of an edge row.
-const PAIR_WIDTH: usize = 2;
-
-const EDGE_WIDTH: usize = 3;
-
-// What a root row counts for in the place of a pair.
-const ROOT_STRIDE: usize = 1000;
+use windows::find_windows;
 
 // What is found of a pair: its verdict, the lengths of its lists, and the lowest bit address at which they differ, -1 where they do not.
 pub struct Found {
@@ -95,24 +92,30 @@ pub fn either_entered(
     entered(impl_edges, impl_leaf)
 }
 
-// Sweeps a graph for a leaf: counts the paths to it from each node, and links the edges that can still reach it.
+// Sweeps a graph for a leaf: counts the paths to it from each node, links the edges that can still reach it, and finds the windows of the nodes.
 pub fn sweep(
     nodes: &[i64],
     edges: &[i64],
     order: &[usize],
     leaf: usize,
+    extents: &[i64],
+    offsets: &[i64],
     counts: &mut [usize],
     head: &mut [usize],
     next: &mut [usize],
+    windows: &mut [i64],
 )
-    requires { ⌜ Sweepable (now nodes) (now edges) (now order) (pos leaf) (now counts) (now head) (now next) ⌝ }
+    requires { ⌜
+        Sweepable (now nodes) (now edges) (now order) (pos leaf) (now extents) (now offsets) (now counts) (now head) (now next) (now windows) ⌝ }
     ensures { λ _. ⌜ now (counts .exit) ≡ countsOver (graphOf (now (nodes .entry)) (now (edges .entry))) (pos leaf) (now (counts .entry)) ⌝ }
     ensures { λ _. ⌜
         Linked (now (counts .exit)) (graphOf (now (nodes .entry)) (now (edges .entry)))
         (now (head .entry)) (now (next .entry)) (now (head .exit)) (now (next .exit)) ⌝ }
+    ensures { λ _. ⌜ now (windows .exit) ≡ windowsOver (graphOf (now (nodes .entry)) (now (edges .entry))) (pos leaf) (now (windows .entry)) ⌝ }
 {
     count_paths(nodes, edges, order, leaf, counts);
     link_edges(nodes, edges, counts, head, next);
+    find_windows(nodes, edges, order, leaf, extents, offsets, windows);
 }
 
 // Lists the bitmapping list of a root and the leaf that the graph is swept for, in front of `work`. Returns how many records it has. Where no
@@ -125,16 +128,30 @@ fn list_swept(
     counts: &[usize],
     head: &[usize],
     next: &[usize],
+    offsets: &[i64],
+    windows: &[i64],
     work: &mut [i64],
     spare: &mut [i64],
 ) -> usize
-    requires { ⌜ ListReady (now nodes) (now edges) (pos root) (pos leaf) (now counts) (now head) (now next) (now work) (now spare) ⌝ }
+    requires { ⌜
+        ListReady (now nodes) (now edges) (pos root) (pos leaf) (now counts) (now head) (now next) (now offsets) (now windows) (now work) (now spare) ⌝ }
     ensures { λ r. ⌜ Listed (listOf (graphOf (now (nodes .entry)) (now (edges .entry))) (pos root) (pos leaf)) (now (work .exit)) r ⌝ }
 {
     if counts[root] == 0 {
         return 0;
     }
-    list_linked(nodes, edges, root, leaf, head, next, work, spare)
+    list_linked(
+        nodes,
+        edges,
+        root,
+        leaf,
+        head,
+        next,
+        offsets,
+        windows,
+        work,
+        spare,
+    )
 }
 
 // What is found of the list of the specification and that of the implementation.
@@ -165,17 +182,21 @@ pub fn pair_found(
     spec_counts: &[usize],
     spec_head: &[usize],
     spec_next: &[usize],
+    spec_offsets: &[i64],
+    spec_windows: &[i64],
     impl_counts: &[usize],
     impl_head: &[usize],
     impl_next: &[usize],
+    impl_offsets: &[i64],
+    impl_windows: &[i64],
     spec_work: &mut [i64],
     impl_work: &mut [i64],
     spare: &mut [i64],
 ) -> Found
     requires { ⌜
         LeafReady (tablesOf (now «spec_nodes») (now «spec_edges») (now «impl_nodes») (now «impl_edges») (now «root_pairs») (now «leaf_pairs»)) «leaf_row»
-        (now «spec_counts») (now «spec_head») (now «spec_next») (now «impl_counts») (now «impl_head») (now «impl_next»)
-        (now «spec_work») (now «impl_work») (now spare)
+        (now «spec_counts») (now «spec_head») (now «spec_next») (now «spec_offsets») (now «spec_windows»)
+        (now «impl_counts») (now «impl_head») (now «impl_next») (now «impl_offsets») (now «impl_windows») (now «spec_work») (now «impl_work») (now spare)
         × («root_row» < length (now «root_pairs») / 2) ⌝ }
     ensures { λ r. ⌜
         IsFinding
@@ -194,6 +215,8 @@ pub fn pair_found(
         spec_counts,
         spec_head,
         spec_next,
+        spec_offsets,
+        spec_windows,
         spec_work,
         spare,
     );
@@ -207,6 +230,8 @@ pub fn pair_found(
         impl_counts,
         impl_head,
         impl_next,
+        impl_offsets,
+        impl_windows,
         impl_work,
         spare,
     );

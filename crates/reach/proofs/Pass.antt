@@ -28,7 +28,7 @@ use Rattle.reach.proofs.Sweep.{Cut, cut-start, cut-next, Swept, swept-s
 use Rattle.reach.proofs.Ends.{edge-ends, from-below, to-below, row-below}
 
 -- what stands at a place, and behind it, where a list from there on is known
-drop-head : {A : Type 0} (d : A) (l : List A) (i : ℕ) {x : A} {rest : List A} → drop i l ≡ x ∷ rest
+pub drop-head : {A : Type 0} (d : A) (l : List A) (i : ℕ) {x : A} {rest : List A} → drop i l ≡ x ∷ rest
     → (i < length l) × (getD l i d ≡ x) × (drop (suc i) l ≡ rest)
 drop-head d [] zero e = absurd (let z : _≡_ {A = ℕ} 0 1 = cc in omega arith)
 drop-head d [] (suc i) e = absurd (let z : _≡_ {A = ℕ} 0 1 = cc in omega arith)
@@ -36,14 +36,14 @@ drop-head d (y ∷ l) zero e = (omega arith, cc, cc)
 drop-head d (y ∷ l) (suc i) e = let w = drop-head d l i e in (omega (arith, w .0), w .1, w .2)
 
 -- the order from the leaves up has each edge of a taken graph once, behind all edges that leave the node it enters
-order-cut : (ns es : List ℤ) → TakenTables ns es → Cut (edgeRows es) [] (edgeOrder (edgeRows es))
+pub order-cut : (ns es : List ℤ) → TakenTables ns es → Cut (edgeRows es) [] (edgeOrder (edgeRows es))
 unfolding graphOf
 order-cut ns es k =
     let same = order-members (k .graph) in
     cut-start (order-backward (edgeRows es)) (order-distinct (edges-distinct es)) (λ e m. same e .0 m) (λ e m. same e .1 m)
 
 -- an order that has each edge once has as many
-cut-length : {graph order : List Edge} → Distinct graph → Cut graph [] order → length order ≡ length graph
+pub cut-length : {graph order : List Edge} → Distinct graph → Cut graph [] order → length order ≡ length graph
 cut-length {graph} {order} d c =
     le-antisymm (distinct-length (c .ahead-once) graph (c .ahead-in))
     (distinct-length d order (λ e m. ⊎-elim (λ j. absurd (List·Memᴰ·not-nil j)) (λ j. j) (c .whole e m)))

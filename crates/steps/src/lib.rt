@@ -96,7 +96,7 @@ fn extent_of(nodes: &[i64], v: usize) -> Extent
 }
 
 // The bit offset of edge e: its offset in units of the node that it enters.
-fn offset_of(nodes: &[i64], edges: &[i64], e: usize) -> Bits
+pub fn offset_of(nodes: &[i64], edges: &[i64], e: usize) -> Bits
     requires { ⌜ TakenTables (now nodes) (now edges) × (3 * e + 3 ≤ length (now edges)) ⌝ }
     ensures { λ r. ⌜ r .0 ≡ bitOffset (graphOf (now (nodes .entry)) (now (edges .entry))) (edgeAt (now (edges .entry)) e) ⌝ }
 {

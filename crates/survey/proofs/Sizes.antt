@@ -5,11 +5,12 @@ use Prim.Native.Nat.{ℕ}
 use lib.IntN.{ℤ}
 use lib.ListN.{length}
 
--- the counts and links of a graph have the sizes that they had
-pub record SweepSizes (c h n c′ h′ n′ : List ℕ) : Type 0 where
+-- the counts, links and windows of a graph have the sizes that they had
+pub record SweepSizes (c h n : List ℕ) (w : List ℤ) (c′ h′ n′ : List ℕ) (w′ : List ℤ) : Type 0 where
   pub counts : length c′ ≡ length c
   pub head : length h′ ≡ length h
   pub next : length n′ ≡ length n
+  pub windows : length w′ ≡ length w
 
 -- the work areas have the sizes that they had
 pub record WorkSizes (s m e s′ m′ e′ : List ℤ) : Type 0 where
@@ -18,12 +19,14 @@ pub record WorkSizes (s m e s′ m′ e′ : List ℤ) : Type 0 where
   pub spare : length e′ ≡ length e
 
 -- at first, and from one to the next
-pub sweep-same : {counts head next : List ℕ} → SweepSizes counts head next counts head next
-sweep-same = record { counts = refl; head = refl; next = refl }
+pub sweep-same : {counts head next : List ℕ} {windows : List ℤ} → SweepSizes counts head next windows counts head next windows
+sweep-same = record { counts = refl; head = refl; next = refl; windows = refl }
 
-pub sweep-on : {counts head next counts′ head′ next′ counts″ head″ next″ : List ℕ} → SweepSizes counts head next counts′ head′ next′
-    → SweepSizes counts′ head′ next′ counts″ head″ next″ → SweepSizes counts head next counts″ head″ next″
-sweep-on p q = record { counts = q .counts ∙ p .counts; head = q .head ∙ p .head; next = q .next ∙ p .next }
+pub sweep-on : {counts head next counts′ head′ next′ counts″ head″ next″ : List ℕ} {windows windows′ windows″ : List ℤ}
+    → SweepSizes counts head next windows counts′ head′ next′ windows′ → SweepSizes counts′ head′ next′ windows′ counts″ head″ next″ windows″
+    → SweepSizes counts head next windows counts″ head″ next″ windows″
+sweep-on p q =
+    record { counts = q .counts ∙ p .counts; head = q .head ∙ p .head; next = q .next ∙ p .next; windows = q .windows ∙ p .windows }
 
 pub work-same : {spec impl spare : List ℤ} → WorkSizes spec impl spare spec impl spare
 work-same = record { spec = refl; impl = refl; spare = refl }

@@ -5,18 +5,32 @@ use lib.IntN.{ℤ}
 use lib.ListN.{length}
 use Rattle.model.specs.Limits.{maxNodes, maxEdges, maxPaths}
 use Rattle.model.specs.Compare.{Tables}
+use Rattle.windows.specs.Tables.{spanWidth, ExtentsIn, OffsetsIn}
 use Rattle.pairs.specs.Inputs.{Ordered, AllFew}
 
--- what the pairs of all leaf rows start from: checked tables with few paths, the edges of both graphs in order, and room for all that is computed
-pub record AllReady (t : Tables) (specOrder implOrder specCounts specHead specNext implCounts implHead implNext : List ℕ) (specWork implWork spare : List ℤ) : Type 0 where
+-- the extents of the nodes and the bit offsets of the edges of both graphs
+pub record Measured (t : Tables) (specExtents specOffsets implExtents implOffsets : List ℤ) : Type 0 where
+  pub specNodes : ExtentsIn (t .specNodes) (t .specEdges) specExtents
+  pub specEdges : OffsetsIn (t .specNodes) (t .specEdges) specOffsets
+  pub implNodes : ExtentsIn (t .implNodes) (t .implEdges) implExtents
+  pub implEdges : OffsetsIn (t .implNodes) (t .implEdges) implOffsets
+
+-- what the pairs of all leaf rows start from: checked tables with few paths, the edges of both graphs in order, the bits of both graphs, and room for
+-- all that is computed
+pub record AllReady (t : Tables) (specOrder implOrder : List ℕ) (specExtents specOffsets implExtents implOffsets : List ℤ)
+    (specCounts specHead specNext : List ℕ) (specWindows : List ℤ) (implCounts implHead implNext : List ℕ) (implWindows specWork implWork spare : List ℤ)
+    : Type 0 where
   pub ordered : Ordered t specOrder implOrder
   pub few : AllFew t
+  pub measured : Measured t specExtents specOffsets implExtents implOffsets
   pub specCountRoom : maxNodes ≤ length specCounts
   pub specHeadRoom : maxNodes ≤ length specHead
   pub specNextRoom : maxEdges ≤ length specNext
+  pub specWindowRoom : spanWidth * maxNodes ≤ length specWindows
   pub implCountRoom : maxNodes ≤ length implCounts
   pub implHeadRoom : maxNodes ≤ length implHead
   pub implNextRoom : maxEdges ≤ length implNext
+  pub implWindowRoom : spanWidth * maxNodes ≤ length implWindows
   pub specRoom : 3 * maxPaths ≤ length specWork
   pub implRoom : 3 * maxPaths ≤ length implWork
   pub spareRoom : 3 * maxPaths ≤ length spare

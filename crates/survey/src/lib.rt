@@ -11,7 +11,10 @@ ghost use Rattle.visiting.specs.Visiting.{withVerdict};
 ghost use Rattle.pairs.specs.Inputs.{Ordered, AllFew, LeafReady};
 ghost use Rattle.survey.specs.Lines.{Between, Collected, Sorts, FewFound, foundRow, foundRows};
 ghost use Rattle.survey.specs.Found.{asTotals, AtMost, placed, withCount, KeptMost, equalKept, freshKept, LeafKept, AllKept, SurveyPromise};
-ghost use Rattle.survey.specs.Inputs.{AllReady};
+ghost use Rattle.survey.specs.Inputs.{Measured, AllReady};
+use model::MAX_EDGES;
+use model::MAX_NODES;
+use model::PAIR_WIDTH;
 use model::Verdict;
 use pairs::Found;
 use pairs::either_entered;
@@ -23,20 +26,14 @@ use pairs::sweep;
 use sorting::Row;
 use sorting::put_row;
 use sorting::sort_rows;
-
-// Numbers of a pair row.
-const PAIR_WIDTH: usize = 2;
+use windows::MAX_ENDS;
+use windows::measure;
 
 // Numbers of a line's row.
 const LINE_WIDTH: usize = 3;
 
 // The list lengths of a pair are the specification's times this, and the implementation's.
 const LENGTH_STRIDE: usize = 4096;
-
-// Rows of a table at most.
-const MAX_NODES: usize = 2000;
-
-const MAX_EDGES: usize = 2600;
 
 // The numbers of the most records that a list has.
 const LIST_ROOM: usize = 3072;
@@ -172,9 +169,13 @@ fn found_of_leaf(
     spec_counts: &[usize],
     spec_head: &[usize],
     spec_next: &[usize],
+    spec_offsets: &[i64],
+    spec_windows: &[i64],
     impl_counts: &[usize],
     impl_head: &[usize],
     impl_next: &[usize],
+    impl_offsets: &[i64],
+    impl_windows: &[i64],
     spec_work: &mut [i64],
     impl_work: &mut [i64],
     spare: &mut [i64],
@@ -185,8 +186,8 @@ fn found_of_leaf(
 ) -> Kept
     requires { ⌜
         LeafReady (tablesOf (now «spec_nodes») (now «spec_edges») (now «impl_nodes») (now «impl_edges») (now «root_pairs») (now «leaf_pairs»)) «leaf_row»
-        (now «spec_counts») (now «spec_head») (now «spec_next») (now «impl_counts») (now «impl_head») (now «impl_next»)
-        (now «spec_work») (now «impl_work») (now spare)
+        (now «spec_counts») (now «spec_head») (now «spec_next») (now «spec_offsets») (now «spec_windows»)
+        (now «impl_counts») (now «impl_head») (now «impl_next») (now «impl_offsets») (now «impl_windows») (now «spec_work») (now «impl_work») (now spare)
         × Between (tablesOf (now «spec_nodes») (now «spec_edges») (now «impl_nodes») (now «impl_edges») (now «root_pairs») (now «leaf_pairs»)) from to
         × KeptMost («leaf_row» * maxPairs) kept ⌝ }
     ensures { λ r. ⌜
@@ -210,9 +211,13 @@ fn found_of_leaf(
             spec_counts,
             spec_head,
             spec_next,
+            spec_offsets,
+            spec_windows,
             impl_counts,
             impl_head,
             impl_next,
+            impl_offsets,
+            impl_windows,
             spec_work,
             impl_work,
             spare,
@@ -252,13 +257,19 @@ fn found_of_row(
     leaf_pairs: &[i64],
     spec_order: &[usize],
     impl_order: &[usize],
+    spec_extents: &[i64],
+    spec_offsets: &[i64],
+    impl_extents: &[i64],
+    impl_offsets: &[i64],
     leaf_row: usize,
     spec_counts: &mut [usize],
     spec_head: &mut [usize],
     spec_next: &mut [usize],
+    spec_windows: &mut [i64],
     impl_counts: &mut [usize],
     impl_head: &mut [usize],
     impl_next: &mut [usize],
+    impl_windows: &mut [i64],
     spec_work: &mut [i64],
     impl_work: &mut [i64],
     spare: &mut [i64],
@@ -269,8 +280,9 @@ fn found_of_row(
 ) -> Kept
     requires { ⌜
         AllReady (tablesOf (now «spec_nodes») (now «spec_edges») (now «impl_nodes») (now «impl_edges») (now «root_pairs») (now «leaf_pairs»))
-        (now «spec_order») (now «impl_order») (now «spec_counts») (now «spec_head») (now «spec_next») (now «impl_counts») (now «impl_head») (now «impl_next»)
-        (now «spec_work») (now «impl_work») (now spare)
+        (now «spec_order») (now «impl_order») (now «spec_extents») (now «spec_offsets») (now «impl_extents») (now «impl_offsets»)
+        (now «spec_counts») (now «spec_head») (now «spec_next») (now «spec_windows»)
+        (now «impl_counts») (now «impl_head») (now «impl_next») (now «impl_windows») (now «spec_work») (now «impl_work») (now spare)
         × Between (tablesOf (now «spec_nodes») (now «spec_edges») (now «impl_nodes») (now «impl_edges») (now «root_pairs») (now «leaf_pairs»)) from to × («leaf_row» < length (now «leaf_pairs») / 2)
         × KeptMost («leaf_row» * maxPairs) kept ⌝ }
     ensures { λ r. ⌜
@@ -288,18 +300,24 @@ fn found_of_row(
         spec_edges,
         spec_order,
         spec_leaf,
+        spec_extents,
+        spec_offsets,
         spec_counts,
         spec_head,
         spec_next,
+        spec_windows,
     );
     sweep(
         impl_nodes,
         impl_edges,
         impl_order,
         impl_leaf,
+        impl_extents,
+        impl_offsets,
         impl_counts,
         impl_head,
         impl_next,
+        impl_windows,
     );
     found_of_leaf(
         spec_nodes,
@@ -312,9 +330,13 @@ fn found_of_row(
         spec_counts,
         spec_head,
         spec_next,
+        spec_offsets,
+        spec_windows,
         impl_counts,
         impl_head,
         impl_next,
+        impl_offsets,
+        impl_windows,
         spec_work,
         impl_work,
         spare,
@@ -352,12 +374,18 @@ fn found_of_all(
     leaf_pairs: &[i64],
     spec_order: &[usize],
     impl_order: &[usize],
+    spec_extents: &[i64],
+    spec_offsets: &[i64],
+    impl_extents: &[i64],
+    impl_offsets: &[i64],
     spec_counts: &mut [usize],
     spec_head: &mut [usize],
     spec_next: &mut [usize],
+    spec_windows: &mut [i64],
     impl_counts: &mut [usize],
     impl_head: &mut [usize],
     impl_next: &mut [usize],
+    impl_windows: &mut [i64],
     spec_work: &mut [i64],
     impl_work: &mut [i64],
     spare: &mut [i64],
@@ -367,8 +395,9 @@ fn found_of_all(
 ) -> Kept
     requires { ⌜
         AllReady (tablesOf (now «spec_nodes») (now «spec_edges») (now «impl_nodes») (now «impl_edges») (now «root_pairs») (now «leaf_pairs»))
-        (now «spec_order») (now «impl_order») (now «spec_counts») (now «spec_head») (now «spec_next») (now «impl_counts») (now «impl_head») (now «impl_next»)
-        (now «spec_work») (now «impl_work») (now spare)
+        (now «spec_order») (now «impl_order») (now «spec_extents») (now «spec_offsets») (now «impl_extents») (now «impl_offsets»)
+        (now «spec_counts») (now «spec_head») (now «spec_next») (now «spec_windows»)
+        (now «impl_counts») (now «impl_head») (now «impl_next») (now «impl_windows») (now «spec_work») (now «impl_work») (now spare)
         × Between (tablesOf (now «spec_nodes») (now «spec_edges») (now «impl_nodes») (now «impl_edges») (now «root_pairs») (now «leaf_pairs»)) from to ⌝ }
     ensures { λ r. ⌜
         AllKept
@@ -388,13 +417,19 @@ fn found_of_all(
             leaf_pairs,
             spec_order,
             impl_order,
+            spec_extents,
+            spec_offsets,
+            impl_extents,
+            impl_offsets,
             row,
             spec_counts,
             spec_head,
             spec_next,
+            spec_windows,
             impl_counts,
             impl_head,
             impl_next,
+            impl_windows,
             spec_work,
             impl_work,
             spare,
@@ -405,6 +440,82 @@ fn found_of_all(
         );
         row += 1;
     }
+    kept
+}
+
+// What is kept of all leaf rows with the root rows `from`, .., `to` - 1, by the bits of both graphs: the totals of their verdicts, and the rows of the
+// pairs with a record on either side, in visiting order, in front of `lines` where there is room for all of them.
+fn survey_measured(
+    spec_nodes: &[i64],
+    spec_edges: &[i64],
+    impl_nodes: &[i64],
+    impl_edges: &[i64],
+    root_pairs: &[i64],
+    leaf_pairs: &[i64],
+    spec_order: &[usize],
+    impl_order: &[usize],
+    spec_extents: &[i64],
+    spec_offsets: &[i64],
+    impl_extents: &[i64],
+    impl_offsets: &[i64],
+    from: usize,
+    to: usize,
+    lines: &mut [i64],
+    spare: &mut [i64],
+) -> Kept
+    requires { ⌜
+        Ordered (tablesOf (now «spec_nodes») (now «spec_edges») (now «impl_nodes») (now «impl_edges») (now «root_pairs») (now «leaf_pairs»))
+        (now «spec_order») (now «impl_order»)
+        × AllFew (tablesOf (now «spec_nodes») (now «spec_edges») (now «impl_nodes») (now «impl_edges») (now «root_pairs») (now «leaf_pairs»))
+        × Between (tablesOf (now «spec_nodes») (now «spec_edges») (now «impl_nodes») (now «impl_edges») (now «root_pairs») (now «leaf_pairs»)) from to
+        × (length (now lines) ≤ length (now spare))
+        × Measured (tablesOf (now «spec_nodes») (now «spec_edges») (now «impl_nodes») (now «impl_edges») (now «root_pairs») (now «leaf_pairs»))
+        (now «spec_extents») (now «spec_offsets») (now «impl_extents») (now «impl_offsets») ⌝ }
+    ensures { λ r. ⌜
+        SurveyPromise
+        (tablesOf (now («spec_nodes» .entry)) (now («spec_edges» .entry)) (now («impl_nodes» .entry)) (now («impl_edges» .entry))
+        (now («root_pairs» .entry)) (now («leaf_pairs» .entry))) from to r (now (lines .exit)) ⌝ }
+{
+    let mut spec_counts = [0usize; MAX_NODES];
+    let mut spec_head = [0usize; MAX_NODES];
+    let mut spec_next = [0usize; MAX_EDGES];
+    let mut spec_windows = [0i64; MAX_ENDS];
+    let mut impl_counts = [0usize; MAX_NODES];
+    let mut impl_head = [0usize; MAX_NODES];
+    let mut impl_next = [0usize; MAX_EDGES];
+    let mut impl_windows = [0i64; MAX_ENDS];
+    let mut spec_work = [0i64; LIST_ROOM];
+    let mut impl_work = [0i64; LIST_ROOM];
+    let mut list_spare = [0i64; LIST_ROOM];
+    let kept = found_of_all(
+        spec_nodes,
+        spec_edges,
+        impl_nodes,
+        impl_edges,
+        root_pairs,
+        leaf_pairs,
+        spec_order,
+        impl_order,
+        spec_extents,
+        spec_offsets,
+        impl_extents,
+        impl_offsets,
+        &mut spec_counts,
+        &mut spec_head,
+        &mut spec_next,
+        &mut spec_windows,
+        &mut impl_counts,
+        &mut impl_head,
+        &mut impl_next,
+        &mut impl_windows,
+        &mut spec_work,
+        &mut impl_work,
+        &mut list_spare,
+        from,
+        to,
+        lines,
+    );
+    sort_lines(lines, kept.count, spare);
     kept
 }
 
@@ -435,16 +546,13 @@ pub fn survey(
         (tablesOf (now («spec_nodes» .entry)) (now («spec_edges» .entry)) (now («impl_nodes» .entry)) (now («impl_edges» .entry))
         (now («root_pairs» .entry)) (now («leaf_pairs» .entry))) from to r (now (lines .exit)) ⌝ }
 {
-    let mut spec_counts = [0usize; MAX_NODES];
-    let mut spec_head = [0usize; MAX_NODES];
-    let mut spec_next = [0usize; MAX_EDGES];
-    let mut impl_counts = [0usize; MAX_NODES];
-    let mut impl_head = [0usize; MAX_NODES];
-    let mut impl_next = [0usize; MAX_EDGES];
-    let mut spec_work = [0i64; LIST_ROOM];
-    let mut impl_work = [0i64; LIST_ROOM];
-    let mut list_spare = [0i64; LIST_ROOM];
-    let kept = found_of_all(
+    let mut spec_extents = [0i64; MAX_ENDS];
+    let mut spec_offsets = [0i64; MAX_EDGES];
+    let mut impl_extents = [0i64; MAX_ENDS];
+    let mut impl_offsets = [0i64; MAX_EDGES];
+    measure(spec_nodes, spec_edges, &mut spec_extents, &mut spec_offsets);
+    measure(impl_nodes, impl_edges, &mut impl_extents, &mut impl_offsets);
+    survey_measured(
         spec_nodes,
         spec_edges,
         impl_nodes,
@@ -453,19 +561,13 @@ pub fn survey(
         leaf_pairs,
         spec_order,
         impl_order,
-        &mut spec_counts,
-        &mut spec_head,
-        &mut spec_next,
-        &mut impl_counts,
-        &mut impl_head,
-        &mut impl_next,
-        &mut spec_work,
-        &mut impl_work,
-        &mut list_spare,
+        &spec_extents,
+        &spec_offsets,
+        &impl_extents,
+        &impl_offsets,
         from,
         to,
         lines,
-    );
-    sort_lines(lines, kept.count, spare);
-    kept
+        spare,
+    )
 }

@@ -26,8 +26,10 @@ same-length c = search needs
 
 returns : tie.Need-returns
 returns c =
-    asked-refused _ _ _ _ _ _ (c .before .checked .given .0 .0)
-    (ap checkedAnswer (sym (c .before .checked .given .1)) ∙ c .before .before .before .before .before .check-graph-with .ensures .answers)
+    let k = c .before .before .before .before .before .check-graph-with .ensures in (
+      asked-refused _ _ _ _ _ _ (c .before .checked .given .0 .0) (ap checkedAnswer (sym (c .before .checked .given .1)) ∙ k .answers),
+      k .order,
+    )
 
 enum-told : tie.Need-enum-told
 enum-told c = search needs
@@ -48,10 +50,13 @@ same-length-3 c = search needs
 returns-2 : tie.Need-returns-2
 returns-2 c =
     let n = c .before .before in
-    let s = n .before .before .before .before .before .before .before .before .before .before .before in
+    let k = n .before .before .before in
+    let s = k .before .before .before .before .before .before .before .before in
     let same = toZ-ofZ (s .fits .leaf) in
-    let rooted = toZ-ofZ (s .fits .root) in
-    asked-named _ _ _ _ _ _ (taken (n .before .before .before)) (simp (same, rooted) at (n .check-named .ensures))
+    let rooted = toZ-ofZ (s .fits .root) in (
+      asked-named _ _ _ _ _ _ (taken k) (simp (same, rooted) at (n .check-named .ensures)),
+      k .before .before .before .before .check-graph-with .ensures .order,
+    )
 
 pub check-asked-spec : {M : Type 1} → statement M
 check-asked-spec =

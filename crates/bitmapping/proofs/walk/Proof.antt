@@ -26,7 +26,7 @@ asked-told : (c : tie.After-check-asked) → let a = c .before .before .before .
     checkedAnswer (c .check-asked .result) ≡ checked (checkAsked (a .nodes .now) (a .edges .now) (a .root) (a .leaf))
 asked-told c =
     let s = c .before .before .before in
-    simp (toZ-ofZ, s .fits .root, s .fits .leaf) at (c .check-asked .ensures .answers)
+    simp (toZ-ofZ, s .fits .root, s .fits .leaf) at (c .check-asked .ensures .0 .answers)
 
 taken : (c : tie.After-enum-told) → let a = c .before .before .before .before .before .before .before .args in
     full tt ≡ checked (checkAsked (a .nodes .now) (a .edges .now) (a .root) (a .leaf))
@@ -107,7 +107,7 @@ walk-pair-requires c κs =
     let s = k .before .before .before .before .before .before .before in
     asked-ready (s .args .nodes .now) (s .args .edges .now) (s .args .root) (s .args .leaf) (taken k) _ _ (root-same k) (leaf-same k)
     (replicate maxNodes 0)
-    (simp (toZ-ofZ, s .fits .leaf) at (k .before .before .before .before .check-asked .ensures .counted (k .enum-told .given .1)))
+    (simp (toZ-ofZ, s .fits .leaf) at (k .before .before .before .before .check-asked .ensures .0 .counted (k .enum-told .given .1)))
     (omega (arith, length-replicate {A = ℕ} maxNodes 0))
     (omega (arith, length-replicate {A = ℕ} maxEdges 0))
     (omega (arith, length-replicate {A = ℤ} (3 * maxPaths) (pos 0)))

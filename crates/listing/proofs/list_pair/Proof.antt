@@ -5,12 +5,13 @@ use Rattle.listing.proofs.list_pair.Statement.{statement}
 use Rattle.listing.proofs.list_pair.Tie as tie
 
 link-edges-requires : tie.Need-link-edges-requires
-link-edges-requires c κs = pair-linkable (c .before .before .before .before .before .pre)
+link-edges-requires c κs = pair-linkable (c .before .before .before .before .before .pre .0)
 
 list-linked-requires : tie.Need-list-linked-requires
 list-linked-requires c κs =
     let l = c .before .before .before .before .before .before .before .before in
-    pair-listable (l .before .before .before .before .before .before .pre) (l .link-edges .ensures)
+    let p = l .before .before .before .before .before .before .pre in
+    (pair-listable (p .0) (l .link-edges .ensures), p .1)
 
 same-length : tie.Need-same-length
 same-length c = search needs

@@ -26,14 +26,14 @@ abbrev begin : tie.After-either-entered → tie.Start
 begin c = start (c .before .before .before)
 
 -- from the pairs of the leaf row back to the second sweep, from there to the first, and to the test
-abbrev second : tie.After-found-of-leaf-arg10 → tie.After-sweep2
-second c = c .before .before .before .before .before .before .before .before .before .before .before .before .before .before .before .before
+abbrev second : tie.After-found-of-leaf-arg12 → tie.After-sweep2
+second c = c .before .before .before .before .before .before .before .before .before .before .before .before .before .before .before .before .before .before .before
 
 abbrev first : tie.After-sweep2 → tie.After-sweep
-first c = c .before .before .before .before .before .before .before .before .before .before
+first c = c .before .before .before .before .before .before .before .before .before .before .before .before
 
 abbrev tested : tie.After-sweep → tie.After-either-entered
-tested c = c .before .before .before .before .before
+tested c = c .before .before .before .before .before .before
 
 -- the nodes of the leaf row are leaves
 leaves : (s : tie.Start) → let a = s .args in let p = pairAt (a .leaf-pairs .now) (a .leaf-row) in
@@ -43,13 +43,13 @@ leaves s = row-leaves (s .pre .0 .ordered .inputs) (s .args .leaf-row) (s .pre .
 -- the specification can be swept for the leaf row
 spec-ready : (c : tie.After-either-entered) → let a = begin c .args in
     Sweepable (a .spec-nodes .now) (a .spec-edges .now) (a .spec-order .now) (pos (c .before .before .spec-node .result))
-    (a .spec-counts .now) (a .spec-head .now) (a .spec-next .now)
+    (a .spec-extents .now) (a .spec-offsets .now) (a .spec-counts .now) (a .spec-head .now) (a .spec-next .now) (a .spec-windows .now)
 spec-ready c = let s = begin c in spec-sweepable (s .pre .0) (s .args .leaf-row) (s .pre .2) (c .before .before .spec-node .ensures) sweep-same
 
 -- and so can the implementation
 impl-ready : (c : tie.After-either-entered) → let a = begin c .args in
     Sweepable (a .impl-nodes .now) (a .impl-edges .now) (a .impl-order .now) (pos (c .before .impl-node .result))
-    (a .impl-counts .now) (a .impl-head .now) (a .impl-next .now)
+    (a .impl-extents .now) (a .impl-offsets .now) (a .impl-counts .now) (a .impl-head .now) (a .impl-next .now) (a .impl-windows .now)
 impl-ready c = let s = begin c in impl-sweepable (s .pre .0) (s .args .leaf-row) (s .pre .2) (c .before .impl-node .ensures) sweep-same
 
 spec-node-requires : tie.Need-spec-node-requires
@@ -81,10 +81,10 @@ returns c =
     (unentered-kept (s .pre .0 .ordered .inputs) (s .pre .1) (s .pre .2) (e .before .before .spec-node .ensures) (e .before .impl-node .ensures) none (s .pre .3))
 
 sweep-requires : tie.Need-sweep-requires
-sweep-requires c κs = spec-ready (c .before .before .before .before)
+sweep-requires c κs = spec-ready (c .before .before .before .before .before)
 
 sweep-requires-2 : tie.Need-sweep-requires-2
-sweep-requires-2 c κs = impl-ready (tested (c .before .before .before .before .before .before .before .before .before))
+sweep-requires-2 c κs = impl-ready (tested (c .before .before .before .before .before .before .before .before .before .before .before))
 
 found-of-leaf-requires : tie.Need-found-of-leaf-requires
 found-of-leaf-requires c κs =
@@ -93,46 +93,52 @@ found-of-leaf-requires c κs =
     let e = tested f in
     let s = begin e in (
       leaf-ready (s .pre .0) (s .args .leaf-row) (s .pre .2) (e .before .before .spec-node .ensures) (e .before .impl-node .ensures)
-          (sweep-done (spec-ready e) (f .sweep .ensures .0) (f .sweep .ensures .1))
-          (sweep-done (impl-ready e) (m .sweep2 .ensures .0) (m .sweep2 .ensures .1))
+          (sweep-done (spec-ready e) (f .sweep .ensures .0) (f .sweep .ensures .1 .0) (f .sweep .ensures .1 .1))
+          (sweep-done (impl-ready e) (m .sweep2 .ensures .0) (m .sweep2 .ensures .1 .0) (m .sweep2 .ensures .1 .1))
           work-same,
       s .pre .1,
       s .pre .3,
     )
 
--- the first sweep, from the end
+-- the sweeps, from the end
 abbrev swept : tie.After-lines → tie.After-sweep
 swept c = first (second (c .before .before .before .before .before))
 
 same-length : tie.Need-same-length
-same-length c = swept c .sweep .kept .1 .1 .1 .1 .0
+same-length c = swept c .sweep .kept .1 .1 .1 .1 .1 .1 .0
 
 same-length-2 : tie.Need-same-length-2
-same-length-2 c = swept c .sweep .kept .1 .1 .1 .1 .1 .0
+same-length-2 c = swept c .sweep .kept .1 .1 .1 .1 .1 .1 .1 .0
 
 same-length-3 : tie.Need-same-length-3
-same-length-3 c = swept c .sweep .kept .1 .1 .1 .1 .1 .1 .0
+same-length-3 c = swept c .sweep .kept .1 .1 .1 .1 .1 .1 .1 .1 .0
 
 same-length-4 : tie.Need-same-length-4
-same-length-4 c = search needs
+same-length-4 c = swept c .sweep .kept .1 .1 .1 .1 .1 .1 .1 .1 .1 .0
 
 same-length-5 : tie.Need-same-length-5
-same-length-5 c = search needs
+same-length-5 c = second (c .before .before .before .before .before) .sweep2 .kept .1 .1 .1 .1 .1 .1 .0
 
 same-length-6 : tie.Need-same-length-6
-same-length-6 c = search needs
+same-length-6 c = second (c .before .before .before .before .before) .sweep2 .kept .1 .1 .1 .1 .1 .1 .1 .0
 
 same-length-7 : tie.Need-same-length-7
-same-length-7 c = search needs
+same-length-7 c = second (c .before .before .before .before .before) .sweep2 .kept .1 .1 .1 .1 .1 .1 .1 .1 .0
 
 same-length-8 : tie.Need-same-length-8
-same-length-8 c = search needs
+same-length-8 c = second (c .before .before .before .before .before) .sweep2 .kept .1 .1 .1 .1 .1 .1 .1 .1 .1 .0
 
 same-length-9 : tie.Need-same-length-9
 same-length-9 c = search needs
 
 same-length-10 : tie.Need-same-length-10
 same-length-10 c = search needs
+
+same-length-11 : tie.Need-same-length-11
+same-length-11 c = search needs
+
+same-length-12 : tie.Need-same-length-12
+same-length-12 c = search needs
 
 returns-2 : tie.Need-returns-2
 returns-2 c = c .before .before .before .before .found-of-leaf .ensures
@@ -160,4 +166,6 @@ found-of-row-spec =
     same-length-8
     same-length-9
     same-length-10
+    same-length-11
+    same-length-12
     returns-2)

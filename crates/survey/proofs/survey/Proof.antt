@@ -1,61 +1,64 @@
--- The buffers have room, and what is kept of all pairs has its rows sorted.
-use Rattle.survey.proofs.Surveys.{survey-kept}
+-- The bits of both graphs are found, and with them what is kept of all pairs.
+use Prim.Native.Nat.{_*_}
+use native.Mathlib.Omega.{arith}
+use lib.IntN.{ℤ, pos}
+use lib.ListN.{replicate, length-replicate}
+use Rattle.model.specs.Limits.{maxNodes, maxEdges}
+use Rattle.pairing.specs.Pairs.{tablesOf}
+use Rattle.listing.proofs.Windowed.{tables-measurable}
+use Rattle.survey.proofs.Ready.{tables-measured}
 use borrow.Author.Needs.{needs}
 use Rattle.survey.proofs.survey.Statement.{statement}
 use Rattle.survey.proofs.survey.Tie as tie
 
--- where the function begins
-abbrev begin : tie.After-found-of-all-arg → tie.Start
-begin c = c .before .before .before .before .before .before .before .before .before .before .before .before
+slice-aggregate-measure : tie.Need-slice-aggregate-measure
+slice-aggregate-measure c = search needs
 
-slice-aggregate-found-of-all : tie.Need-slice-aggregate-found-of-all
-slice-aggregate-found-of-all c = search needs
+slice-aggregate-measure-2 : tie.Need-slice-aggregate-measure-2
+slice-aggregate-measure-2 c = search needs
 
-slice-aggregate-found-of-all-2 : tie.Need-slice-aggregate-found-of-all-2
-slice-aggregate-found-of-all-2 c = search needs
+measure-requires : tie.Need-measure-requires
+measure-requires c κs =
+    tables-measurable (c .before .before .before .before .pre .0 .inputs .spec) (replicate (2 * maxNodes) (pos 0)) (replicate maxEdges (pos 0))
+    (omega (arith, length-replicate {A = ℤ} (2 * maxNodes) (pos 0))) (omega (arith, length-replicate {A = ℤ} maxEdges (pos 0)))
 
-slice-aggregate-found-of-all-3 : tie.Need-slice-aggregate-found-of-all-3
-slice-aggregate-found-of-all-3 c = search needs
+slice-aggregate-measure-3 : tie.Need-slice-aggregate-measure-3
+slice-aggregate-measure-3 c = search needs
 
-slice-aggregate-found-of-all-4 : tie.Need-slice-aggregate-found-of-all-4
-slice-aggregate-found-of-all-4 c = search needs
+slice-aggregate-measure-4 : tie.Need-slice-aggregate-measure-4
+slice-aggregate-measure-4 c = search needs
 
-slice-aggregate-found-of-all-5 : tie.Need-slice-aggregate-found-of-all-5
-slice-aggregate-found-of-all-5 c = search needs
+measure-requires-2 : tie.Need-measure-requires-2
+measure-requires-2 c κs =
+    tables-measurable (c .before .before .before .before .before .before .before .before .before .pre .0 .inputs .impl) (replicate (2 * maxNodes) (pos 0)) (replicate maxEdges (pos 0))
+    (omega (arith, length-replicate {A = ℤ} (2 * maxNodes) (pos 0))) (omega (arith, length-replicate {A = ℤ} maxEdges (pos 0)))
 
-slice-aggregate-found-of-all-6 : tie.Need-slice-aggregate-found-of-all-6
-slice-aggregate-found-of-all-6 c = search needs
+slice-aggregate-survey-measured : tie.Need-slice-aggregate-survey-measured
+slice-aggregate-survey-measured c = search needs
 
-slice-aggregate-found-of-all-7 : tie.Need-slice-aggregate-found-of-all-7
-slice-aggregate-found-of-all-7 c = search needs
+slice-aggregate-survey-measured-2 : tie.Need-slice-aggregate-survey-measured-2
+slice-aggregate-survey-measured-2 c = search needs
 
-slice-aggregate-found-of-all-8 : tie.Need-slice-aggregate-found-of-all-8
-slice-aggregate-found-of-all-8 c = search needs
+slice-aggregate-survey-measured-3 : tie.Need-slice-aggregate-survey-measured-3
+slice-aggregate-survey-measured-3 c = search needs
 
-slice-aggregate-found-of-all-9 : tie.Need-slice-aggregate-found-of-all-9
-slice-aggregate-found-of-all-9 c = search needs
+slice-aggregate-survey-measured-4 : tie.Need-slice-aggregate-survey-measured-4
+slice-aggregate-survey-measured-4 c = search needs
 
-found-of-all-requires : tie.Need-found-of-all-requires
-found-of-all-requires c κs =
-    let s = begin c in (
-      record {
-        ordered = s .pre .0;
-        few = s .pre .1;
-        specCountRoom = search needs;
-        specHeadRoom = search needs;
-        specNextRoom = search needs;
-        implCountRoom = search needs;
-        implHeadRoom = search needs;
-        implNextRoom = search needs;
-        specRoom = search needs;
-        implRoom = search needs;
-        spareRoom = search needs;
-      },
+survey-measured-requires : tie.Need-survey-measured-requires
+survey-measured-requires c κs =
+    let i = c .before .before .before .before .before .before .before .before in
+    let m = i .before .before .before .before .before in
+    let s = m .before .before .before .before .before in
+    let a = s .args in
+    let t = tablesOf (a .spec-nodes .now) (a .spec-edges .now) (a .impl-nodes .now) (a .impl-edges .now) (a .root-pairs .now) (a .leaf-pairs .now) in (
+      s .pre .0,
+      s .pre .1,
       s .pre .2,
+      s .pre .3,
+      tables-measured t (replicate (2 * maxNodes) (pos 0)) (replicate maxEdges (pos 0)) (replicate (2 * maxNodes) (pos 0)) (replicate maxEdges (pos 0))
+          (m .measure .ensures .0) (m .measure .ensures .1) (i .measure2 .ensures .0) (i .measure2 .ensures .1),
     )
-
-sort-lines-requires : tie.Need-sort-lines-requires
-sort-lines-requires c κs = search needs
 
 same-length : tie.Need-same-length
 same-length c = search needs
@@ -64,26 +67,23 @@ same-length-2 : tie.Need-same-length-2
 same-length-2 c = search needs
 
 returns : tie.Need-returns
-returns c =
-    let r = c .before .before in
-    let f = r .before .before .before .before .before .before .before .before .before .before .before .before .before in
-    survey-kept (begin (f .before) .pre .0 .inputs) _ _ (f .found-of-all .ensures) (r .sort-lines .ensures)
+returns c = search needs
 
 pub survey-spec : {M : Type 1} → statement M
 survey-spec =
     tie.close
     (tie.spec
-    slice-aggregate-found-of-all
-    slice-aggregate-found-of-all-2
-    slice-aggregate-found-of-all-3
-    slice-aggregate-found-of-all-4
-    slice-aggregate-found-of-all-5
-    slice-aggregate-found-of-all-6
-    slice-aggregate-found-of-all-7
-    slice-aggregate-found-of-all-8
-    slice-aggregate-found-of-all-9
-    found-of-all-requires
-    sort-lines-requires
+    slice-aggregate-measure
+    slice-aggregate-measure-2
+    measure-requires
+    slice-aggregate-measure-3
+    slice-aggregate-measure-4
+    measure-requires-2
+    slice-aggregate-survey-measured
+    slice-aggregate-survey-measured-2
+    slice-aggregate-survey-measured-3
+    slice-aggregate-survey-measured-4
+    survey-measured-requires
     same-length
     same-length-2
     returns)

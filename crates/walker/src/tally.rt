@@ -1,0 +1,219 @@
+// What was tried, counted by kind, and printed line by line.
+use crate::numbers::cell;
+use crate::numbers::store;
+use crate::numbers::sum;
+
+// What is counted, in the order in which it is printed.
+pub(crate) const MAPS: usize = 0;
+
+pub(crate) const CHECKS: usize = 1;
+
+pub(crate) const LISTS: usize = 2;
+
+pub(crate) const RECORDS: usize = 3;
+
+pub(crate) const WALKS: usize = 4;
+
+pub(crate) const WALKS_OUTSIDE: usize = 5;
+
+pub(crate) const WALKS_TO_SEVERAL: usize = 6;
+
+pub(crate) const PAIRS: usize = 7;
+
+pub(crate) const PAIRS_BOTH: usize = 8;
+
+// Three verdicts each: pairs with records on both sides, pairs without, and maps.
+pub(crate) const VERDICTS_BOTH: usize = 9;
+
+pub(crate) const VERDICTS_OTHER: usize = 12;
+
+pub(crate) const VERDICTS_WHOLE: usize = 15;
+
+// Five styles of maps, and sixteen habits by which the implementation comes from the specification.
+pub(crate) const STYLES: usize = 18;
+
+pub(crate) const HABITS: usize = 23;
+
+// What maps and lists have in them.
+pub(crate) const MIXED_UNITS: usize = 39;
+
+pub(crate) const SEVERAL_ROOTS: usize = 40;
+
+pub(crate) const SEVERAL_LEAVES: usize = 41;
+
+pub(crate) const LEAVES_WITH_BASE: usize = 42;
+
+pub(crate) const DEAD_ENDS: usize = 43;
+
+pub(crate) const NEGATIVE_OFFSETS: usize = 44;
+
+pub(crate) const PARALLEL_EDGES: usize = 45;
+
+pub(crate) const ORDERS: usize = 46;
+
+pub(crate) const NEGATIVE_DISPLACEMENTS: usize = 49;
+
+pub(crate) const LIKE_UNIT_OPEN: usize = 50;
+
+pub(crate) const UNLIKE_TOUCHING: usize = 51;
+
+pub(crate) const UNLIKE_OVERLAPPING: usize = 52;
+
+pub(crate) const CLIPPED_LOW: usize = 53;
+
+pub(crate) const CLIPPED_HIGH: usize = 54;
+
+pub(crate) const CLIPPED_BOTH: usize = 55;
+
+pub(crate) const DIFFERENCES: usize = 56;
+
+pub(crate) const COUNTS: usize = 57;
+
+// No count here comes to this.
+const MOST: usize = 1000000000;
+
+// Differences printed at most.
+const SHOWN: usize = 20;
+
+const STANDARD_OUTPUT: i32 = 1;
+
+const LINE_FEED: u8 = b'\n';
+
+pub(crate) fn add(counts: &mut [usize; COUNTS], kind: usize, more: usize) {
+    let before = cell(counts, kind);
+    if before < MOST {
+        if more < MOST {
+            store(counts, kind, before + more);
+        }
+    }
+}
+
+pub(crate) fn count(counts: &mut [usize; COUNTS], kind: usize) {
+    add(counts, kind, 1);
+}
+
+// Counts where a condition holds.
+pub(crate) fn count_if(counts: &mut [usize; COUNTS], kind: usize, holds: bool) {
+    if holds {
+        add(counts, kind, 1);
+    }
+}
+
+pub(crate) fn say(text: &[u8]) {
+    io::write_all(STANDARD_OUTPUT, text);
+}
+
+fn say_number(n: usize) {
+    io::print_decimal(STANDARD_OUTPUT, n as u64);
+}
+
+// A call that does not answer as the walk by single addresses says: counted, and printed with the map's number.
+pub(crate) fn differs(counts: &mut [usize; COUNTS], what: &[u8], map: usize) {
+    count(counts, DIFFERENCES);
+    if cell(counts, DIFFERENCES) > SHOWN {
+        return;
+    }
+    say(b"map ");
+    say_number(map);
+    say(b": ");
+    say(what);
+    say(b"\n");
+}
+
+// Whether a line begins at a place of a text.
+fn begins_line(names: &[u8], i: usize) -> bool {
+    if i == 0 {
+        return true;
+    }
+    if i <= names.len() {
+        return names[i - 1] == LINE_FEED;
+    }
+    false
+}
+
+// Prints a count before the line that names it.
+fn print_count(counts: &[usize; COUNTS], kind: usize, names: &[u8], i: usize) {
+    if begins_line(names, i) {
+        say_number(cell(counts, kind));
+        say(b" ");
+    }
+}
+
+// Prints one byte of a text. Gives the kind that the byte after it belongs to.
+fn print_byte(kind: usize, names: &[u8], i: usize) -> usize {
+    if i >= names.len() {
+        return kind;
+    }
+    say(&names[i..i + 1]);
+    if names[i] == LINE_FEED {
+        sum(kind, 1)
+    } else {
+        kind
+    }
+}
+
+// Prints the lines of a text, each with the count that it names before it. The first names `first`.
+fn print_lines(counts: &[usize; COUNTS], first: usize, names: &[u8]) {
+    let mut kind = first;
+    for i in 0..names.len() {
+        print_count(counts, kind, names, i);
+        kind = print_byte(kind, names, i);
+    }
+}
+
+fn print_calls(counts: &[usize; COUNTS]) {
+    print_lines(
+        counts,
+        MAPS,
+        b"pairs of maps\ngraphs checked\nlists\nrecords\nwalks\nwalks from an address outside the root\nwalks to several leaf bits\n",
+    );
+}
+
+fn print_verdicts(counts: &[usize; COUNTS]) {
+    print_lines(
+        counts,
+        PAIRS,
+        b"pairs\npairs with records on both sides\nequal with records on both sides\npartial with records on both sides\ndifferent with records on both sides\nequal without records\npartial without records on both sides\ndifferent with records on one side\nmaps equal\nmaps partial\nmaps different\n",
+    );
+}
+
+fn print_styles(counts: &[usize; COUNTS]) {
+    print_lines(
+        counts,
+        STYLES,
+        b"trees\nchains\nblocks at the roots\ndiamonds\nrows of windows that touch, overlap or leave a unit open\n",
+    );
+}
+
+fn print_habits(counts: &[usize; COUNTS]) {
+    print_lines(
+        counts,
+        HABITS,
+        b"the same map\na bridge in an edge\na range cut\na base raised\nan offset moved\nan edge left out\nan edge twice\na parallel edge one unit off\na node in two touching parts\na node in two overlapping parts\na node in two parts with a unit open\na smaller unit\na block shortened\nleaves paired crosswise\nanother map\na clipping bridge\n",
+    );
+}
+
+fn print_traits(counts: &[usize; COUNTS]) {
+    print_lines(
+        counts,
+        MIXED_UNITS,
+        b"maps with mixed units\nmaps with several roots\nmaps with several leaves\nleaves with a base\ndead ends\nnegative offsets\nparallel edges\ntables in the edges' direction\ntables against the edges' direction\ntables shuffled\n",
+    );
+}
+
+fn print_records(counts: &[usize; COUNTS]) {
+    print_lines(
+        counts,
+        NEGATIVE_DISPLACEMENTS,
+        b"records of negative displacement\nneighbours of like displacement, 8 bits open\nneighbours of unlike displacement that touch\nneighbours of unlike displacement that overlap\nrecords that lack the leaf's first bits\nrecords that lack the leaf's last bits\nrecords that lack both\ndifferences\n",
+    );
+}
+
+pub(crate) fn print(counts: &[usize; COUNTS]) {
+    print_calls(counts);
+    print_verdicts(counts);
+    print_styles(counts);
+    print_habits(counts);
+    print_traits(counts);
+    print_records(counts);
+}

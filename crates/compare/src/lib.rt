@@ -23,7 +23,16 @@ use depth::order_edges;
 use model::Checked;
 use model::Compared;
 use model::Comparison;
+use model::IMPL_EDGES;
+use model::IMPL_NODES;
+use model::MAX_EDGES;
+use model::MAX_NODES;
+use model::MAX_PATHS;
+use model::PAIR_WIDTH;
+use model::ROOT_STRIDE;
 use model::Reason;
+use model::SPEC_EDGES;
+use model::SPEC_NODES;
 use model::Verdict;
 use pairing::check_pairing;
 use pairs::either_entered;
@@ -34,31 +43,8 @@ use reach::count_paths;
 use survey::Totals;
 use survey::survey;
 
-// Numbers of a pair row.
-const PAIR_WIDTH: usize = 2;
-
-// Rows of a table at most.
-const MAX_NODES: usize = 2000;
-
-const MAX_EDGES: usize = 2600;
-
-// The most paths from a root to a leaf.
-const MAX_PATHS: usize = 1024;
-
-// What a root row counts for in the place of a pair.
-const ROOT_STRIDE: usize = 1000;
-
 // Above every place of a pair.
 const NO_KEY: usize = 1000000;
-
-// Tables of nodes and edges of the specification and of the implementation.
-const SPEC_NODES: usize = 0;
-
-const SPEC_EDGES: usize = 1;
-
-const IMPL_NODES: usize = 2;
-
-const IMPL_EDGES: usize = 3;
 
 // The answer of a comparison and, where it is a full result, how many pairs have a record on either side.
 pub struct Lined {

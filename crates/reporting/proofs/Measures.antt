@@ -39,7 +39,7 @@ unfolding resultLine
 result-line-short r = line-short _
 
 -- the lines of two lists of rows, one behind the other
-lines-append : (rs ss : List Row) → linesOf (rs ++ ss) ≡ linesOf rs ++ linesOf ss
+pub lines-append : (rs ss : List Row) → linesOf (rs ++ ss) ≡ linesOf rs ++ linesOf ss
 unfolding linesOf flatMap
 lines-append [] ss = refl
 lines-append (r ∷ rs) ss = ap (λ (l : Bytes). lineOfRow r ++ l) (lines-append rs ss) ∙ rw append-assoc refl

@@ -105,7 +105,7 @@ fn put_result(out: &mut [u8], result: Comparison) -> usize
 }
 
 // The length of `fixed` bytes and the lines of n rows, or room + 1 where that is longer than room: rows behind that are not measured.
-fn lines_length(lines: &[i64], n: usize, fixed: usize, room: usize) -> usize
+pub fn lines_length(lines: &[i64], n: usize, fixed: usize, room: usize) -> usize
     requires { ⌜ SmallLines (now lines) n × (fixed < 2 ^ 32) × (room < 2 ^ 63) ⌝ }
     ensures { λ r. ⌜ r ≡ measured room (fixed + length (linesOf (rowsOf (now (lines .entry)) n))) ⌝ }
 {
@@ -134,7 +134,7 @@ pub fn report_length(lines: &[i64], n: usize, result: Comparison, room: usize) -
 }
 
 // Writes the lines of n rows, each into what remains of the buffer.
-fn put_lines(out: &mut [u8], lines: &[i64], n: usize) -> usize
+pub fn put_lines(out: &mut [u8], lines: &[i64], n: usize) -> usize
     requires { ⌜ SmallLines (now lines) n × (length (linesOf (rowsOf (now lines) n)) ≤ length (now out)) ⌝ }
     ensures { λ r. ⌜ Put (linesOf (rowsOf (now (lines .entry)) n)) (now (out .entry)) (now (out .exit)) r ⌝ }
 {
@@ -158,7 +158,7 @@ fn put_pairs(out: &mut [u8], lines: &[i64], n: usize) -> usize
 }
 
 // Writes an empty line and the names and, into what remains of the buffer, the result's line.
-fn put_ending(out: &mut [u8], result: Comparison) -> usize
+pub fn put_ending(out: &mut [u8], result: Comparison) -> usize
     requires { ⌜ SmallResult (comparisonResult result) × (length (resultLines (comparisonResult result)) ≤ length (now out)) ⌝ }
     ensures { λ r. ⌜ Put (resultLines (comparisonResult result)) (now (out .entry)) (now (out .exit)) r ⌝ }
 {

@@ -10,7 +10,7 @@ use lib.ListN.{length, getD, drop, set, length-set, length-append, length-map, L
 use lib.Seq.{getD-set-same, getD-set-other, drop-set-lt}
 use Rattle.integers.proofs.Tests.{Test, passed, failed, ltb?}
 use Rattle.integers.proofs.Linear.{ints}
-use Rattle.model.specs.Rows.{Node, Edge, nodeRows, edgeRows}
+use Rattle.model.specs.Rows.{Node, nodeRows, edgeRows}
 use Rattle.model.specs.Graph.{graphOf, NodeRow, node, bitOffset}
 use Rattle.model.specs.Paths.{Leaf}
 use Rattle.model.specs.Runs.{Run, whole}

@@ -1,18 +1,17 @@
 -- Windows hold every walk to the leaf: a run and what its window leaves of it give the same runs at the leaf.
 use mathlib.Core.Path.{_≡_, refl, sym, ap, subst, _∙_}
-use mathlib.Core.Bool.{Bool, true, false, not, cond}
+use mathlib.Core.Bool.{not, cond}
 use mathlib.Core.List.{List, [], _∷_, map, List·Memᴰ·head, List·Memᴰ·tail}
 use mathlib.Core.Option.{some}
 use Prim.Native.Nat.{ℕ}
-use lib.Dec.{T, T-not, not-T}
 use lib.IntN.{ℤ}
-use Rattle.integers.proofs.Tests.{is-true, is-false}
+use Rattle.integers.proofs.Tests.{is-true}
 use Rattle.lists.specs.Lists.{_∈_, keep}
 use Rattle.lists.proofs.Membership.{map-in}
 use Rattle.model.specs.Rows.{Edge}
-use Rattle.model.specs.Graph.{Graph, NodeRow, node, bitOffset}
+use Rattle.model.specs.Graph.{Graph, node, bitOffset}
 use Rattle.model.specs.Paths.{Way, stay, over}
-use Rattle.model.specs.Runs.{Run, empty, shift, clip, across, along, leaving, pathsWithin}
+use Rattle.model.specs.Runs.{Run, empty, shift, clip, across, along, pathsWithin}
 use Rattle.model.specs.Taken.{Taken}
 use Rattle.model.proofs.Paths.{Fit, leaving-in, within-sound}
 use Rattle.model.proofs.Steps.{along-empty}

@@ -4,7 +4,7 @@ use mathlib.Core.List.{List, [], _∷_, _++_, map, List·Memᴰ·head}
 use Prim.Native.Nat.{ℕ, suc, _+_, _*_, _/_, _≤_, _<_, _^_}
 use native.Mathlib.Numerals.{add-one}
 use native.Mathlib.Omega.{arith}
-use lib.IntN.{ℤ, pos, _+ℤ_}
+use lib.IntN.{ℤ, pos}
 use lib.Signed.{_≤ℤ_}
 use lib.ListN.{length, getD, take, drop, length-take}
 use lib.Seq.{getD-take, drop-at}
@@ -23,15 +23,14 @@ use Rattle.depth.specs.Order.{edgeOrder}
 use Rattle.tables.specs.Tables.{edgeAt}
 use Rattle.tables.proofs.Rows.{nodes-length, edges-length, edge-own}
 use Rattle.tables.proofs.Limits.{first-address, last-address}
-use Rattle.steps.proofs.Rows.{node-good}
 use Rattle.reach.proofs.Sweep.{Cut, cut-next}
 use Rattle.reach.proofs.Pass.{drop-head, order-cut, cut-length, leaf-below}
 use Rattle.reach.proofs.Ends.{Ends, edge-ends, from-below, to-below}
 use Rattle.windows.specs.Windows.{Span, nowhere, extent, shared, raised, carried, window}
-use Rattle.windows.specs.Tables.{spanWidth, spanAt, setSpan, spansOf, Raisable, Carriable, widened, windowsOver, Windowable}
+use Rattle.windows.specs.Tables.{spanWidth, spanAt, setSpan, spansOf, Carriable, widened, windowsOver, Windowable}
 use Rattle.windows.proofs.Spans.{Within}
 use Rattle.windows.proofs.Windows.{carriedBack, window-within}
-use Rattle.windows.proofs.Tables.{span-length, span-kept, spans-length, widened-length, widened-kept}
+use Rattle.windows.proofs.Tables.{span-kept, spans-length, widened-length, widened-kept}
 use Rattle.windows.proofs.Sweep.{Swept, swept-start, swept-onward, swept-next, swept-end}
 
 -- the table before the pass: the extent at the leaf, nowhere at the other nodes, and past them what stood there

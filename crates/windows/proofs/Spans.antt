@@ -1,12 +1,10 @@
 -- Spans: which bits they share, what a hull holds, and runs that are cut by spans.
 use mathlib.Core.Path.{_≡_, refl, sym, ap, subst, _∙_}
 use mathlib.Core.Bool.{Bool, true, false, not, cond}
-use mathlib.Core.List.{List, [], _∷_, map, List·Memᴰ·head, List·Memᴰ·tail}
-use mathlib.Core.Logic.{_⊎_, inl, inr}
-use Prim.Native.Nat.{_^_}
+use mathlib.Core.List.{List, [], _∷_, List·Memᴰ·head, List·Memᴰ·tail}
 use native.Mathlib.Omega.{arith}
 use lib.Dec.{T}
-use lib.IntN.{ℤ, pos, negsuc, _+ℤ_, _-ℤ_, one, *ℤ-one}
+use lib.IntN.{ℤ, pos, _+ℤ_, _-ℤ_, one, *ℤ-one}
 use lib.Signed.{ltZ, _≤ℤ_, _<ℤ_}
 use Rattle.integers.specs.Integers.{minZ, maxZ}
 use Rattle.integers.proofs.Linear.{ints, sum, diff}
@@ -18,7 +16,7 @@ use Rattle.model.specs.Runs.{Run, empty, shift, clip}
 use Rattle.model.proofs.Steps.{empty-in}
 use Rattle.steps.specs.Steps.{SmallRun, Clippable, SmallExtent}
 use Rattle.steps.proofs.Runs.{clip-small}
-use Rattle.windows.specs.Windows.{Span, nowhere, raised, orNowhere, shared, joined, hull, cut}
+use Rattle.windows.specs.Windows.{Span, nowhere, raised, shared, joined, hull, cut}
 
 -- ---- the lower and the higher of two
 

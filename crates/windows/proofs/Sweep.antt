@@ -5,7 +5,7 @@ use mathlib.Core.Path.{_≡_, refl, sym, ap, subst, _∙_}
 use mathlib.Core.Bool.{Bool, true, false, cond}
 use mathlib.Core.List.{List, [], _∷_, _++_, map, List·Memᴰ·head, List·Memᴰ·not-nil}
 use mathlib.Core.Logic.{_≢_, ⊎-elim}
-use Prim.Native.Nat.{ℕ, _+_, _*_, _≤_, _<_}
+use Prim.Native.Nat.{ℕ, _*_, _≤_, _<_}
 use native.Mathlib.Omega.{arith}
 use lib.Dec.{eqb}
 use lib.IntN.{ℤ, pos}
@@ -21,7 +21,7 @@ use Rattle.model.specs.Graph.{Graph, node, bitOffset}
 use Rattle.model.specs.Runs.{leaving}
 use Rattle.model.proofs.Paths.{Fit}
 use Rattle.reach.proofs.Sweep.{Cut}
-use Rattle.windows.specs.Windows.{Span, nowhere, extent, joined, shared, raised, hull, carried, window}
+use Rattle.windows.specs.Windows.{Span, nowhere, extent, joined, raised, hull, carried, window}
 use Rattle.windows.specs.Tables.{spanWidth, spanAt, setSpan, spansOf, widened}
 use Rattle.windows.proofs.Spans.{shared-crossing, hull-same, hull-unmoved}
 use Rattle.windows.proofs.Windows.{carriedBack, window-leaf, window-step}
@@ -51,9 +51,6 @@ module _ (g : Graph) (l : ℤ) where
   unfolding keep
   soFar-other before e v n = go (eqZ (e .from) v) (eqZ? (e .from) v)
     where
-      kept : List Edge
-      kept = keep (λ d. eqZ (d .from) v) before
-
       go : (t : Bool) → Test (e .from ≡ v) (e .from ≢ v) t
           → cond (eqZ v l) (extent (node g l)) (hull (map (carriedBack g l) (cond t (e ∷ keep (λ d. eqZ (d .from) v) before) (keep (λ d. eqZ (d .from) v) before))))
           ≡ soFar before v
@@ -142,9 +139,6 @@ module _ (g : Graph) (leaf n : ℕ) where
     unfolding carried
     swept-next {before} {e} {t} from s c p h q k = go (ltZ (s .high) (s .low)) (lt? (s .high) (s .low))
       where
-        part : ℕ → Span
-        part v = soFar g (pos leaf) before (pos v)
-
         apart : e .from ≢ pos leaf
         apart = f .ends e (c .ahead-in e (List·Memᴰ·head refl))
 

@@ -9,7 +9,7 @@ use lib.Dec.{ltb}
 use lib.IntN.{ℤ, pos}
 use lib.Signed.{ltZ, _≤ℤ_, _<ℤ_}
 use lib.ListN.{length, getD, drop, set, length-set, length-append}
-use lib.Seq.{getD-at, getD-set-same, getD-set-other, drop-set-lt, drop-drop, drop-cons, append-snoc}
+use lib.Seq.{getD-at, getD-set-same, getD-set-other, drop-set-lt, drop-cons}
 use Rattle.integers.proofs.Linear.{ints}
 use Rattle.integers.proofs.Tests.{Test, passed, failed, ltb?, lt?}
 use Rattle.windows.specs.Windows.{Span, joined}

@@ -1,8 +1,8 @@
 // The bits of a graph's nodes and edges, computed once, and the windows: for each node the bit addresses from which a leaf can still be reached.
 ghost use mathlib.Core.Path.{_≡_};
-ghost use mathlib.Core.List.{List, _++_};
+ghost use mathlib.Core.List.{_++_};
 ghost use Prim.Native.Nat.{_+_, _*_, _≤_};
-ghost use lib.IntN.{ℤ, pos};
+ghost use lib.IntN.{pos};
 ghost use lib.ListN.{length, getD, drop};
 ghost use Rattle.integers.specs.Integers.{minZ, maxZ};
 ghost use Rattle.model.specs.Rows.{nodeRows, edgeRows};

@@ -1,10 +1,9 @@
 -- The bits and the windows of the graph are found, and with them the list is made.
-use mathlib.Core.Path.{_≡_}
 use Prim.Native.Nat.{ℕ, _*_}
 use native.Mathlib.Omega.{arith}
 use borrow.Author.Needs.{needs}
 use lib.IntN.{ℤ, pos}
-use lib.ListN.{length, replicate, length-replicate}
+use lib.ListN.{replicate, length-replicate}
 use Rattle.model.specs.Limits.{maxNodes, maxEdges, maxPaths}
 use Rattle.listing.proofs.Windowed.{tables-measurable}
 use Rattle.bitmapping.proofs.Counts.{asked-windowable, asked-pair}

@@ -1,7 +1,7 @@
 -- What lies in the window of the root has the rows of all runs from the whole root; normalised, they are the bitmapping list. Where nothing lies
 -- there, the list is empty.
 use mathlib.Core.Path.{_≡_, sym, ap, subst, _∙_}
-use mathlib.Core.Option.{none, some}
+use mathlib.Core.Option.{some}
 use borrow.Author.Needs.{needs}
 use lib.IntN.{pos}
 use lib.ListN.{length}

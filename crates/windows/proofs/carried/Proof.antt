@@ -1,6 +1,5 @@
 -- From a window without a bit address nothing is carried back; else its ends can be moved.
 use mathlib.Core.Path.{sym, ap, _∙_}
-use native.Mathlib.Omega.{arith}
 use borrow.Author.Needs.{needs}
 use mir.Syntax.{w64}
 use mir.Val.{SFits}

@@ -1,10 +1,9 @@
 -- The run is clipped at the ends of the window.
-use mathlib.Core.Path.{_≡_, sym, ap, subst, _∙_}
+use mathlib.Core.Path.{sym, ap, subst, _∙_}
 use Rattle.steps.specs.Steps.{runOf, living, SmallExtent}
 use Rattle.windows.specs.Windows.{Span, cut}
 use Rattle.windows.specs.Tables.{spanOf}
 use Rattle.windows.proofs.Spans.{spanNode, spanNode-first, spanNode-last, clip-cut}
-use borrow.Author.Needs.{needs}
 use Rattle.windows.proofs.cut.Statement.{statement}
 use Rattle.windows.proofs.cut.Tie as tie
 

@@ -1,8 +1,6 @@
 -- The invariant is `Filling` by the extents; the measure is the nodes left.
-use mathlib.Core.Path.{_≡_, ap, _∙_}
 use Prim.Native.Nat.{_-_}
 use native.Mathlib.Omega.{arith}
-use borrow.Author.Needs.{needs}
 use lib.IntN.{pos}
 use Rattle.model.specs.Graph.{graphOf, node}
 use Rattle.tables.proofs.Rows.{nodes-length}

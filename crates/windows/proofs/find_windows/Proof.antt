@@ -9,18 +9,17 @@ use lib.ListN.{length, getD}
 use mir.Syntax.{w64}
 use mir.Val.{SFits}
 use mir.Facts.{toZ-ofZ}
-use Rattle.model.specs.Graph.{graphOf, NodeRow, node, bitOffset}
+use Rattle.model.specs.Graph.{graphOf, NodeRow, bitOffset}
 use Rattle.model.proofs.Taken.{taken-fit}
 use Rattle.tables.specs.Tables.{edgeAt}
 use Rattle.tables.proofs.Rows.{nodes-length, edges-length}
 use Rattle.steps.proofs.Rows.{edge-in, to-row}
 use Rattle.reach.proofs.Pass.{leaf-below}
 use Rattle.reach.proofs.Ends.{Ends, edge-ends, from-below, to-below}
-use Rattle.windows.specs.Windows.{extent, window}
+use Rattle.windows.specs.Windows.{window}
 use Rattle.windows.specs.Tables.{spanOf, setSpan}
 use Rattle.windows.proofs.Tables.{span-length}
-use Rattle.windows.proofs.Windows.{carriedBack}
-use Rattle.windows.proofs.Pass.{Passed, begun, pass-start, turn-row, turn-onward, pass-next, pass-end, window-carriable, turn-carried}
+use Rattle.windows.proofs.Pass.{Passed, pass-start, turn-row, turn-onward, pass-next, pass-end, window-carriable, turn-carried}
 use Rattle.windows.proofs.find_windows.Statement.{statement}
 use Rattle.windows.proofs.find_windows.Tie as tie
 

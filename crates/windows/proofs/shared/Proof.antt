@@ -1,12 +1,12 @@
 -- The ends are the higher of the low ends and the lower of the high ends; where they have crossed, no bit address is shared.
+use native.Mathlib.Omega.{arith}
 use borrow.Author.Needs.{needs}
-use mathlib.Core.Path.{_≡_, sym, ap, _∙_}
-use lib.Signed.{_≤ℤ_, _<ℤ_}
+use mathlib.Core.Path.{sym, _∙_}
 use mir.Syntax.{w64}
 use mir.Val.{SFits}
 use mir.Facts.{toZ-ofZ}
+use Rattle.integers.proofs.Linear.{ints}
 use Rattle.integers.proofs.Range.{ltZ-true, ltZ-false}
-use Rattle.windows.specs.Windows.{Span, nowhere, shared}
 use Rattle.windows.specs.Tables.{spanOf}
 use Rattle.windows.proofs.Spans.{shared-crossed, shared-some}
 use Rattle.windows.proofs.Tables.{span-ends}
@@ -31,7 +31,7 @@ returns c =
     let f : SFits w64 (low .result .0) = search needs in
     let g : SFits w64 (high .result .0) = search needs in
     let crossed = ltZ-true (high .result .0) (low .result .0) (simp (toZ-ofZ, f, g) at (i .if1 .taken)) in
-    c .no-span .ensures ∙ sym (shared-crossed (spanOf (s .args .a)) (spanOf (s .args .b)) (rw (← low .ensures, ← high .ensures) crossed))
+    c .no-span .ensures ∙ sym (shared-crossed (spanOf (s .args .a)) (spanOf (s .args .b)) (omega (arith, ints, low .ensures, high .ensures, crossed)))
 
 returns-2 : tie.Need-returns-2
 returns-2 c =
@@ -42,7 +42,7 @@ returns-2 c =
     let g : SFits w64 (high .result .0) = search needs in
     let ordered = ltZ-false (high .result .0) (low .result .0) (simp (toZ-ofZ, f, g) at (c .if1 .left)) in
     span-ends (low .ensures) (high .ensures)
-    ∙ sym (shared-some (spanOf (s .args .a)) (spanOf (s .args .b)) (rw (← low .ensures, ← high .ensures) ordered))
+    ∙ sym (shared-some (spanOf (s .args .a)) (spanOf (s .args .b)) (omega (arith, ints, low .ensures, high .ensures, ordered)))
 
 pub shared-spec : {M : Type 1} → statement M
 shared-spec = tie.close (tie.spec higher-requires lower-requires no-span-requires returns returns-2)

@@ -1,0 +1,43 @@
+-- A refusal and a length as one signed number.
+use mathlib.Core.Path.{_≡_, sym, ap, _∙_}
+use Prim.Native.Nat.{ℕ, _<_, _^_}
+use native.Mathlib.Omega.{arith}
+use lib.IntN.{ℤ, pos, negℤ, _-ℤ_, negℤ-negℤ}
+use mir.Syntax.{w64}
+use mir.Val.{SFits, toZ, ofZ}
+use mir.Facts.{toZ-ofZ, toZ-pos}
+use Rattle.integers.proofs.Linear.{ints, diff, neg}
+use Rattle.integers.proofs.Range.{fits64}
+use Rattle.model.specs.Bytes.{Bytes}
+use Rattle.model.specs.Refusals.{Refusal}
+use Rattle.model.specs.Calls.{refused, full}
+use Rattle.model.specs.TextCheck.{coded, textGives, codeGives}
+
+module _ {n : ℕ} (low : n < 2 ^ 63) where
+  -- its negation fits
+  pub negated-fits : SFits w64 (pos 0 -ℤ toZ w64 n)
+  negated-fits = rw (toZ-pos w64 low) (fits64 (omega (arith, ints, diff (pos 0) (pos n))))
+
+  -- and is what is returned
+  pub negated : toZ w64 (ofZ w64 (pos 0 -ℤ toZ w64 n)) ≡ negℤ (pos n)
+  negated =
+      let same : pos 0 -ℤ pos n ≡ negℤ (pos n) = omega (arith, ints, diff (pos 0) (pos n), neg (pos n)) in
+      toZ-ofZ negated-fits ∙ rw (toZ-pos w64 low) same
+
+-- twice negated
+pub negated-twice : (n : ℕ) → pos n ≡ negℤ (negℤ (pos n))
+negated-twice n = sym (negℤ-negℤ (pos n))
+
+-- what is returned for a number whose negation is a code
+pub negated-code : {n : ℕ} (z : ℤ) → n < 2 ^ 63 → pos n ≡ negℤ z → toZ w64 (ofZ w64 (pos 0 -ℤ toZ w64 n)) ≡ z
+negated-code z low e = negated low ∙ ap negℤ e ∙ negℤ-negℤ z
+
+-- a length is its own code
+pub coded-length : (text buffer : Bytes) {n : ℕ} → n < 2 ^ 63 → full n ≡ textGives text buffer → toZ w64 n ≡ codeGives text buffer
+unfolding codeGives coded
+coded-length text buffer low e = toZ-pos w64 low ∙ ap coded e
+
+-- a refusal has its code
+pub coded-refusal : (text buffer : Bytes) {r : Refusal} → refused r ≡ textGives text buffer → coded (refused r) ≡ codeGives text buffer
+unfolding codeGives
+coded-refusal text buffer e = ap coded e

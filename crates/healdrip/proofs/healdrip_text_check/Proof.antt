@@ -1,0 +1,90 @@
+-- The length, which is below 2^63 since the report fits its buffer, or the code of the refusal.
+use mathlib.Core.Path.{_≡_, sym, ap, _∙_}
+use Prim.Native.Nat.{_<_, _^_}
+use native.Mathlib.Omega.{arith}
+use borrow.Author.Needs.{needs}
+use mir.Syntax.{w64}
+use mir.Facts.{toZ-ofZ}
+use Rattle.integers.proofs.Range.{fits64}
+use Rattle.model.specs.Refusals.{Refusal}
+use Rattle.model.specs.Calls.{refused, full}
+use Rattle.model.specs.Answers.{refusalOf, writtenAnswer}
+use Rattle.model.specs.TextCheck.{coded, textGives}
+use Rattle.refusals.proofs.Texts.{gives-small, gives-held}
+use Rattle.healdrip.proofs.Codes.{coded-length, coded-refusal}
+use Rattle.healdrip.proofs.healdrip_text_check.Statement.{statement}
+use Rattle.healdrip.proofs.healdrip_text_check.Tie as tie
+
+abbrev start : tie.After-text-check → tie.Start
+start k = k .before .before .before .before
+
+-- a report's length
+module _ (c : tie.After-known-told) where
+  abbrev checked : tie.After-text-check
+  checked = c .before .before .before .before .before
+
+  counted : full (c .before .written .given .0 .0) ≡ textGives (start checked .args .text .now) (start checked .args .report .now)
+  counted = ap writtenAnswer (sym (c .before .written .given .1)) ∙ checked .text-check .ensures .0
+
+  low : c .before .written .given .0 .0 < 2 ^ 63
+  low =
+      let s = start checked in
+      omega (arith, gives-held (s .args .text .now) (s .args .report .now) counted, s .good .1 .0 .1)
+
+-- a refusal
+module _ (c : tie.After-refusal-numbers) where
+  abbrev refused-of : tie.After-text-check
+  refused-of = c .before .before .before .before .before .before
+
+  told : refused (refusalOf (c .before .before .written2 .given .0 .0)) ≡ textGives (start refused-of .args .text .now) (start refused-of .args .report .now)
+  told = ap writtenAnswer (sym (c .before .before .written2 .given .1)) ∙ refused-of .text-check .ensures .0
+
+text-check-requires : tie.Need-text-check-requires
+text-check-requires c κs = search needs
+
+enum-known-written : tie.Need-enum-known-written
+enum-known-written c = search needs
+
+cast-result : tie.Need-cast-result
+cast-result c = fits64 (omega (arith, low c))
+
+enum-known-written-2 : tie.Need-enum-known-written-2
+enum-known-written-2 c = search needs
+
+refusal-numbers-requires : tie.Need-refusal-numbers-requires
+refusal-numbers-requires c κs = search needs
+
+negative-code-requires : tie.Need-negative-code-requires
+negative-code-requires c κs = let s = start (refused-of c) in rw (c .refusal-numbers .ensures) (gives-small (s .args .text .now) (s .args .report .now) (told c))
+
+same-length : tie.Need-same-length
+same-length c = search needs
+
+returns : tie.Need-returns
+returns c = let s = start (checked c) in (coded-length (s .args .text .now) (s .args .report .now) (low c) (counted c), checked c .text-check .ensures .1)
+
+same-length-2 : tie.Need-same-length-2
+same-length-2 c = search needs
+
+returns-2 : tie.Need-returns-2
+returns-2 c = let r = c .before in
+    let s = start (refused-of r) in (
+      toZ-ofZ {w = w64} (record { sfits = c .negative-code .ok }) ∙ c .negative-code .ensures ∙ ap (λ (x : Refusal). coded (refused x)) (r .refusal-numbers .ensures)
+          ∙ coded-refusal (s .args .text .now) (s .args .report .now) (told r),
+      refused-of r .text-check .ensures .1,
+    )
+
+pub healdrip-text-check-spec : {M : Type 1} → statement M
+healdrip-text-check-spec =
+    tie.close
+    (tie.spec
+    text-check-requires
+    enum-known-written
+    cast-result
+    enum-known-written-2
+    refusal-numbers-requires
+    negative-code-requires
+    same-length
+    returns
+    same-length-2
+    returns-2)

@@ -1,0 +1,9 @@
+-- What reading standard input gives. Assumes nothing.
+use Prim.Native.Nat.{ℕ, _≤_}
+use Rattle.mapcheck.specs.declared.Input.{Input}
+use Rattle.mapcheck.specs.declared.Input.the-variants as input
+
+-- the bytes that were read fit into so many
+abbrev pub InputWithin : ℕ → Input → Type 0
+InputWithin room (input.Bytes n) = n ≤ room
+InputWithin room input.Failed = Unit {0}

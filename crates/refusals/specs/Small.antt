@@ -1,0 +1,26 @@
+-- Refusals by their numbers, which are small enough to be printed and to be coded as one number. Assumes nothing.
+use mathlib.Core.Option.{Option, none, some}
+use Prim.Native.Nat.{_<_, _^_}
+use Rattle.model.specs.Refusals as model
+use Rattle.model.specs.Calls.{Answer, refused, full}
+use Rattle.refusals.specs.declared.Refusal.{Refusal}
+
+-- a refusal that the code holds
+abbrev pub refusalNumbers : Refusal → model.Refusal
+refusalNumbers r = record { number = r .number; table = r .table; row = r .row }
+
+-- number, table and row are below 2^32
+pub record Small (r : model.Refusal) : Type 0 where
+  pub number : r .number < 2 ^ 32
+  pub table : r .table < 2 ^ 32
+  pub row : r .row < 2 ^ 32
+
+-- the refusal of a check, if there is one, is small
+abbrev pub SmallCheck : Option model.Refusal → Type 0
+SmallCheck none = Unit {0}
+SmallCheck (some r) = Small r
+
+-- the refusal of an answer, if it is one, is small
+abbrev pub SmallAnswer : {A : Type 0} → Answer A → Type 0
+SmallAnswer (refused r) = Small r
+SmallAnswer (full x) = Unit {0}

@@ -1,0 +1,4 @@
+pub mod Taken
+pub mod Between
+pub mod Lengths
+pub mod Outcomes

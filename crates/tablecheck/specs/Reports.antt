@@ -1,0 +1,37 @@
+-- What the writing of a report of checked tables starts from, and the part of the pairs whose lines are worked through at once. Assumes nothing.
+use mathlib.Core.Path.{_≡_}
+use mathlib.Core.List.{List}
+use mathlib.Core.Option.{none}
+use Prim.Native.Nat.{ℕ, _-_, _*_, _≤_, _<_}
+use lib.IntN.{ℤ}
+use lib.ListN.{length}
+use Rattle.model.specs.Limits.{maxPairs}
+use Rattle.model.specs.Rows.{Pair}
+use Rattle.model.specs.Compare.{Tables}
+use Rattle.model.specs.Checks.{checkTables}
+
+-- rows of lines that are held at once
+abbrev pub lineRoom : ℕ
+lineRoom = 4096
+
+-- numbers of a row of a line
+abbrev pub lineWidth : ℕ
+lineWidth = 3
+
+-- tables that are not refused, and room for so many rows, twice
+pub record Reportable (t : Tables) (lines spare : List ℤ) : Type 0 where
+  pub taken : checkTables t ≡ none
+  pub room : lineWidth * lineRoom ≤ length lines
+  pub spareRoom : length lines ≤ length spare
+
+-- from a root row on, with these leaf rows
+pub record Chunkable (roots leaves : List Pair) (from : ℕ) : Type 0 where
+  pub row : from < length roots
+  pub some : 1 ≤ length leaves
+  pub few : length leaves ≤ maxPairs
+
+-- up to a later root row, so that there is room for a line of each pair
+pub record Chunk (roots leaves : List Pair) (from to : ℕ) : Type 0 where
+  pub later : from < to
+  pub within : to ≤ length roots
+  pub held : (to - from) * length leaves ≤ lineRoom

@@ -1,0 +1,34 @@
+-- The count that the outcome of a text check adds to is that of its answer.
+use mathlib.Core.Path.{_≡_, refl, ap, _∙_}
+use mathlib.Core.List.{List}
+use Prim.Native.Nat.{ℕ}
+use lib.ListN.{length}
+use Rattle.model.specs.Bytes.{Bytes}
+use Rattle.model.specs.Calls.{Answer, refused, full}
+use Rattle.model.specs.TextCheck.{Reported, textAnswer, countOf, oneMore, tallyAfter}
+use Rattle.tablecheck.specs.declared.Outcome.{Outcome}
+use Rattle.tablecheck.specs.declared.Outcome.the-variants as outcome
+use Rattle.tablecheck.specs.Outcomes.{Measured, measuredOf, outcomeAnswer, Gives}
+use Rattle.tally.specs.Counts.{outcomeCount}
+
+-- the count of an answer by the report's length
+unfoldable measuredCount : Answer Measured → ℕ
+measuredCount (refused r) = 3
+measuredCount (full m) = m .verdict
+
+count-measured : (a : Answer Reported) → measuredCount (measuredOf a) ≡ countOf a
+unfolding measuredCount measuredOf countOf
+count-measured (refused r) = refl
+count-measured (full c) = refl
+
+count-outcome : (o : Outcome) → outcomeCount o ≡ measuredCount (outcomeAnswer o)
+unfolding measuredCount
+count-outcome (outcome.Reported n v) = refl
+count-outcome (outcome.Refused r) = refl
+
+-- the tally after the check of a text
+pub tally-counted : (text : Bytes) {report after : Bytes} {o : Outcome} → Gives (textAnswer (length report) text) report after o → (counts : List ℕ)
+    → oneMore (outcomeCount o) counts ≡ tallyAfter text report counts
+unfolding tallyAfter
+tally-counted text {report} {o} g counts =
+    ap (λ (i : ℕ). oneMore i counts) (count-outcome o ∙ ap measuredCount (g .answers) ∙ count-measured (textAnswer (length report) text))

@@ -1,0 +1,48 @@
+-- Below the ceiling one more is stored.
+use mathlib.Core.Path.{refl}
+use native.Mathlib.Numerals.{add-one}
+use borrow.Author.Needs.{needs}
+use borrow.Author.Tests.{lt-ltb, le-ltb}
+use lib.ListN.{getD}
+use Rattle.model.specs.Limits.{countCeiling}
+use Rattle.model.specs.TextCheck.{oneMore}
+use Rattle.tally.proofs.one_more.Statement.{statement}
+use Rattle.tally.proofs.one_more.Tie as tie
+
+mul-count : tie.Need-mul-count
+mul-count c = search needs
+
+element-copy-out-count : tie.Need-element-copy-out-count
+element-copy-out-count c = search needs
+
+add-next : tie.Need-add-next
+add-next c = search needs
+
+mul-next : tie.Need-mul-next
+mul-next c = search needs
+
+element-write-next : tie.Need-element-write-next
+element-write-next c = search needs
+
+returns : tie.Need-returns
+unfolding oneMore
+returns c = let s = c .before .before in
+    let count = getD (s .args .tally .counts) (s .args .place) 0 in
+    rw (add-one count, lt-ltb count countCeiling (c .if1 .taken)) refl
+
+returns-2 : tie.Need-returns-2
+unfolding oneMore
+returns-2 c = let s = c .before .before in
+    rw (le-ltb (getD (s .args .tally .counts) (s .args .place) 0) countCeiling (c .if1 .left)) refl
+
+pub one-more-spec : {M : Type 1} → statement M
+one-more-spec =
+    tie.close
+    (tie.spec
+    mul-count
+    element-copy-out-count
+    add-next
+    mul-next
+    element-write-next
+    returns
+    returns-2)

@@ -1,0 +1,23 @@
+-- The outcome of the check without the verdict.
+use mathlib.Core.Path.{_∙_}
+use borrow.Author.Needs.{needs}
+use Rattle.textcheck.proofs.Answers.{given-length, given-buffer}
+use Rattle.textcheck.proofs.text_check.Statement.{statement}
+use Rattle.textcheck.proofs.text_check.Tie as tie
+
+check-map-requires : tie.Need-check-map-requires
+check-map-requires c κs = search needs
+
+written-of-requires : tie.Need-written-of-requires
+written-of-requires c κs = search needs
+
+same-length : tie.Need-same-length
+same-length c = search needs
+
+returns : tie.Need-returns
+returns c = let k = c .before .before .before in
+    let text = k .before .before .before .before .args .text .now in
+    (c .written-of .ensures ∙ given-length text (k .check-map .ensures), given-buffer text (k .check-map .ensures))
+
+pub text-check-spec : {M : Type 1} → statement M
+text-check-spec = tie.close (tie.spec check-map-requires written-of-requires same-length returns)

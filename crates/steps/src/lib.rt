@@ -7,7 +7,7 @@ ghost use lib.ListN.{length};
 ghost use Rattle.integers.specs.Integers.{minZ, maxZ};
 ghost use Rattle.model.specs.Rows.{Node};
 ghost use Rattle.model.specs.Graph.{graphOf, node, firstBit, lastBit, bitOffset};
-ghost use Rattle.model.specs.Runs.{whole, shift, clip, across};
+ghost use Rattle.model.specs.Runs.{whole, shift, clip};
 ghost use Rattle.model.specs.Calls.{standsOn};
 ghost use Rattle.model.specs.Taken.{TakenTables};
 ghost use Rattle.tables.specs.Tables.{edgeAt};
@@ -105,19 +105,6 @@ pub fn offset_of(nodes: &[i64], edges: &[i64], e: usize) -> Bits
     let entered = tables::node_at(nodes, to);
     let offset = row.offset;
     tables::edge_bit_offset(offset, entered.unit)
-}
-
-// What is left of a run over edge e: shifted by the bit offset, then clipped at the node entered.
-pub fn cross(nodes: &[i64], edges: &[i64], e: usize, run: Run) -> Clipped
-    requires { ⌜ TakenTables (now nodes) (now edges) × (3 * e + 3 ≤ length (now edges)) × SmallRun (runOf run) ⌝ }
-    ensures { λ r. ⌜ livingOf r ≡ living (across (graphOf (now (nodes .entry)) (now (edges .entry))) (edgeAt (now (edges .entry)) e) (runOf run)) ⌝ }
-{
-    let offset = offset_of(nodes, edges, e);
-    let to = tables::edge_to(edges, e);
-    let entered = extent_of(nodes, to);
-    let first = entered.first;
-    let last = entered.last;
-    clip(shift(run, offset), first, last)
 }
 
 // All bits of node v.

@@ -69,7 +69,10 @@ const FUNNEL: Funnel =
 
 impl Funnel {
     fn draft(&self) -> Draft {
-        let mut draft = Draft::default();
+        beside(&[*self])
+    }
+
+    fn add_to(&self, draft: &mut Draft) {
         let mut last = draft.node(SEGMENT, 0, SPAN, 8);
         for _ in 0..self.roots {
             let root = draft.root(0, SPAN, 8);
@@ -90,7 +93,10 @@ impl Funnel {
             let block = draft.leaf(0, self.leaf_range, 8);
             draft.join(last, block, self.leaf_offset + leaf);
         }
-        draft
+    }
+
+    fn shorter(self) -> Funnel {
+        Funnel { leaf_range: self.leaf_range - 1, ..self }
     }
 
     fn map(&self, name: &'static str) -> Map {
@@ -99,6 +105,13 @@ impl Funnel {
         let long = !by_pair || self.chain > 0;
         Map { name, tables: tables(&draft, &draft), by_pair, long }
     }
+}
+
+/// Funnels that share no node.
+fn beside(funnels: &[Funnel]) -> Draft {
+    let mut draft = Draft::default();
+    funnels.iter().for_each(|funnel| funnel.add_to(&mut draft));
+    draft
 }
 
 /// Root i and leaf j lie around one hub so that only i = j meet.
@@ -186,8 +199,16 @@ fn system(name: &'static str) -> Map {
 
 /// A funnel in the specification, and the same with shorter leaves in the implementation.
 fn partial(name: &'static str, funnel: Funnel) -> Map {
-    let shorter = Funnel { leaf_range: funnel.leaf_range - 1, ..funnel };
-    whole(name, tables(&funnel.draft(), &shorter.draft()))
+    whole(name, tables(&funnel.draft(), &funnel.shorter().draft()))
+}
+
+/// Roots and leaves as in `connected`, and beside them one pair with as many paths,
+/// records and edges along a path as may be. Each pair that is connected is partial.
+pub fn connected_beside_chain(count: usize) -> Map {
+    let hub = Funnel { roots: count, leaves: count, stages: 0, ..FUNNEL };
+    let chain = Funnel { roots: 1, leaves: 1, step: 1, chain: 52, ..FUNNEL };
+    let tables = tables(&beside(&[hub, chain]), &beside(&[hub.shorter(), chain.shorter()]));
+    whole("connected through one hub, and a chain of 64", tables)
 }
 
 /// Maps with as many paths, records and edges along a path as may be, and few pairs.

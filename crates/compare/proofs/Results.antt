@@ -28,7 +28,7 @@ use Rattle.pairs.specs.Inputs.{Inputs, AllFew}
 use Rattle.compare.specs.Keys.{lowestMany}
 use Rattle.survey.specs.Found.{asTotals, SurveyPromise}
 use Rattle.survey.proofs.Between.{between-all}
-use Rattle.compare.specs.Promises.{ComparePromise, FullLines}
+use Rattle.compare.specs.Promises.{ComparePromise, LinesPromise}
 use Rattle.pairs.proofs.Rows.{rows-few}
 use Rattle.compare.proofs.Many.{lowest-below}
 use Rattle.compare.proofs.Checks.{then-none, full-none, answer-stops, answer-on, tables-checked, none-inputs, paths-few}
@@ -105,9 +105,14 @@ module _ {t : Tables} {given : Checked} {specOrder implOrder : List ℕ} (p : In
       answer-promise (q ∙ sym (answer-on (resultOf (findings t)) (checkInputs t) (checkPaths t) (ap checkedAnswer (sym e) ∙ p .answers))
       ∙ sym (ap (λ c. answer c (resultOf (findings t))) (tables-checked t)))
 
--- a refusal has no lines
-pub refused-lines : (t : Tables) (r : Compared) {n : ℕ} {lines : List ℤ} {x : Refusal} → comparedAnswer r ≡ refused x → FullLines t r lines n
-refused-lines t r q res e = let z : _≡_ {A = ℕ} 0 1 = cc in absurd (omega arith)
+-- a refusal that counts no row keeps the promise of the lines
+pub refused-lines : (t : Tables) (r : Compared) {n : ℕ} {lines : List ℤ} {x : Refusal} → comparedAnswer r ≡ refused x → n ≡ 0 → LinesPromise t r lines n
+refused-lines t r q counted = record { held = λ res e. let z : _≡_ {A = ℕ} 0 1 = cc in absurd (omega arith); none = λ reason e. counted }
+
+-- and so does a full result whose rows are held
+pub full-lines : (t : Tables) (r : Compared) {n : ℕ} {lines : List ℤ} {res : Result} → comparedAnswer r ≡ full res → LinesHeld (findings t) lines n
+    → LinesPromise t r lines n
+full-lines t r q held = record { held = λ res e. held; none = λ reason e. let z : _≡_ {A = ℕ} 0 1 = cc in absurd (omega arith) }
 
 -- ---- what is known of tables that are not refused
 

@@ -4,8 +4,8 @@ use mathlib.Core.List.{List}
 use Prim.Native.Nat.{ℕ}
 use lib.IntN.{ℤ}
 use Rattle.model.specs.Compare.{Tables, Result, findings}
-use Rattle.model.specs.Refusals.{NoneHolds, compareConditions}
-use Rattle.model.specs.Calls.{full, compareAnswer}
+use Rattle.model.specs.Refusals.{Refusal, NoneHolds, compareConditions}
+use Rattle.model.specs.Calls.{refused, full, compareAnswer}
 use Rattle.model.specs.Answers.{comparedAnswer}
 use Rattle.model.specs.Demands.{Demand3}
 use Rattle.model.specs.declared.Compared.{Compared}
@@ -16,6 +16,7 @@ pub record ComparePromise (t : Tables) (r : Compared) : Type 0 where
   pub answer : comparedAnswer r ≡ compareAnswer t
   pub demand : NoneHolds (compareConditions t) → (res : Result) × (comparedAnswer r ≡ full res) × Demand3 t res
 
--- where the answer is a full result, the rows of the findings with a record are held
-abbrev pub FullLines : Tables → Compared → List ℤ → ℕ → Type 0
-FullLines t r lines n = (res : Result) → comparedAnswer r ≡ full res → LinesHeld (findings t) lines n
+-- the lines beside an answer: of a full result, the rows of the findings with a record are held; of a refusal, no row is counted
+pub record LinesPromise (t : Tables) (r : Compared) (lines : List ℤ) (n : ℕ) : Type 0 where
+  pub held : (res : Result) → comparedAnswer r ≡ full res → LinesHeld (findings t) lines n
+  pub none : (reason : Refusal) → comparedAnswer r ≡ refused reason → n ≡ 0

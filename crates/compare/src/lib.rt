@@ -17,7 +17,7 @@ ghost use Rattle.survey.specs.Lines.{LinesHeld, findingsBetween};
 ghost use Rattle.survey.specs.Found.{asTotals, wholeVerdict};
 ghost use Rattle.compare.specs.Inputs.{pathsAnswer, InputsChecked};
 ghost use Rattle.compare.specs.Keys.{keyBy, countKey, Keyed, rowKeys, lowestMany};
-ghost use Rattle.compare.specs.Promises.{ComparePromise, FullLines};
+ghost use Rattle.compare.specs.Promises.{ComparePromise, LinesPromise};
 use depth::check_graph_with;
 use depth::order_edges;
 use model::Checked;
@@ -40,13 +40,11 @@ use pairs::impl_node;
 use pairs::place_of;
 use pairs::spec_node;
 use reach::count_paths;
+use survey::NO_KEY;
 use survey::Totals;
 use survey::survey;
 
-// Above every place of a pair.
-const NO_KEY: usize = 1000000;
-
-// The answer of a comparison and, where it is a full result, how many pairs have a record on either side.
+// The answer of a comparison and how many pairs have a record on either side: 0 where it is a refusal.
 pub struct Lined {
     pub compared: Compared,
     pub count: usize,
@@ -331,7 +329,7 @@ fn compare_checked(
         (tablesOf (now («spec_nodes» .entry)) (now («spec_edges» .entry)) (now («impl_nodes» .entry)) (now («impl_edges» .entry))
         (now («root_pairs» .entry)) (now («leaf_pairs» .entry))) ⌝ }
     ensures { λ r. ⌜
-        FullLines
+        LinesPromise
         (tablesOf (now («spec_nodes» .entry)) (now («spec_edges» .entry)) (now («impl_nodes» .entry)) (now («impl_edges» .entry))
         (now («root_pairs» .entry)) (now («leaf_pairs» .entry)))
         (r .compared) (now (lines .exit)) (r .count) ⌝ }
@@ -405,7 +403,9 @@ fn check_inputs(
 
 // Compares a specification graph with an implementation graph for the roots and leaves that belong together: the counts of equal, partial and
 // different pairs, the whole verdict, and the first unequal pair in visiting order with its lowest differing bit address; or the refusal. The rows
-// of the pairs with a record on either side are counted, and stand in front of `lines` in visiting order where there is room for all of them.
+// of the pairs with a record on either side are counted, and stand in front of `lines` in visiting order where there is room for all of them. What
+// stands in `lines` behind the rows, or where there is no room for all of them or the answer is a refusal, and in `spare`, is space that was worked
+// in.
 pub fn compare_lines(
     spec_nodes: &[i64],
     spec_edges: &[i64],
@@ -423,7 +423,7 @@ pub fn compare_lines(
         (now («root_pairs» .entry)) (now («leaf_pairs» .entry)))
         (r .compared) ⌝ }
     ensures { λ r. ⌜
-        FullLines
+        LinesPromise
         (tablesOf (now («spec_nodes» .entry)) (now («spec_edges» .entry)) (now («impl_nodes» .entry)) (now («impl_edges» .entry))
         (now («root_pairs» .entry)) (now («leaf_pairs» .entry)))
         (r .compared) (now (lines .exit)) (r .count) ⌝ }
@@ -488,7 +488,8 @@ pub fn compare(
 }
 
 // The rows of the pairs with a record on either side and a root row from `from` on and below `to`, in visiting order, in front of `lines` where
-// there is room for all of them, for tables that are not refused. Returns how many there are.
+// there is room for all of them, for tables that are not refused. Returns how many there are. What stands in `lines` behind the rows, or where there
+// is no room for all of them, and in `spare`, is space that was worked in.
 pub fn lines_between(
     spec_nodes: &[i64],
     spec_edges: &[i64],

@@ -34,11 +34,11 @@ const PAIR_NAMES: usize = 3;
 const MAX_NAMES: usize = NODE_NAMES;
 
 // Numbers that are kept of each table at most: those of one row more than its limit, without side or role.
-const NODE_ROOM: usize = (NODE_NAMES - 1) * (MAX_NODES + 1);
+pub const NODE_ROOM: usize = (NODE_NAMES - 1) * (MAX_NODES + 1);
 
-const EDGE_ROOM: usize = (EDGE_NAMES - 1) * (MAX_EDGES + 1);
+pub const EDGE_ROOM: usize = (EDGE_NAMES - 1) * (MAX_EDGES + 1);
 
-const PAIR_ROOM: usize = (PAIR_NAMES - 1) * (MAX_PAIRS + 1);
+pub const PAIR_ROOM: usize = (PAIR_NAMES - 1) * (MAX_PAIRS + 1);
 
 // ---- 12: over the whole text
 
@@ -714,7 +714,8 @@ pub enum Read {
     Refused(Reason),
 }
 
-// Reads a map file into six tables. The whole text is judged; of a table no more rows are kept than one beyond its limit.
+// Reads a map file into six tables. The whole text is judged; of a table no more rows are kept than one beyond its limit. What stands in the slices
+// behind the tables, and on a refusal, is space that was worked in.
 pub fn read_map(
     text: &[u8],
     spec_nodes: &mut [i64],

@@ -82,7 +82,7 @@ impl Units {
 }
 
 impl Bits {
-    // A bit address as the caller of a walk gives it.
+    // A bit address, or a difference of two, as the caller of a walk or a table of bits gives it.
     pub fn of(address: i64) -> Bits
         ensures { λ r. ⌜ r .0 ≡ address ⌝ }
     {

@@ -17,7 +17,7 @@ use model::Written;
 use sorting::Row;
 
 // The list lengths of a pair are the specification's times this, and the implementation's.
-const LENGTH_STRIDE: usize = 4096;
+pub const LENGTH_STRIDE: usize = 4096;
 
 // The lengths of the texts above the lines of the pairs and above the result.
 const HEADING_LENGTH: usize = 28;

@@ -23,6 +23,7 @@ use pairs::pair_found;
 use pairs::place_of;
 use pairs::spec_node;
 use pairs::sweep;
+use reporting::LENGTH_STRIDE;
 use sorting::Row;
 use sorting::put_row;
 use sorting::sort_rows;
@@ -32,14 +33,11 @@ use windows::measure;
 // Numbers of a line's row.
 const LINE_WIDTH: usize = 3;
 
-// The list lengths of a pair are the specification's times this, and the implementation's.
-const LENGTH_STRIDE: usize = 4096;
-
 // The numbers of the most records that a list has.
 const LIST_ROOM: usize = 3072;
 
 // Above every place of a pair.
-const NO_KEY: usize = 1000000;
+pub const NO_KEY: usize = 1000000;
 
 // How often each verdict was given, and the lowest place of an unequal pair with that pair's lowest differing bit address.
 pub struct Totals {
@@ -520,7 +518,8 @@ fn survey_measured(
 }
 
 // What is kept of all leaf rows with the root rows `from`, .., `to` - 1: the totals of their verdicts, and the rows of the pairs with a record on
-// either side, in visiting order, in front of `lines` where there is room for all of them.
+// either side, in visiting order, in front of `lines` where there is room for all of them. What stands in `lines` behind the rows, or where there is
+// no room for all of them, and in `spare`, is space that was worked in.
 pub fn survey(
     spec_nodes: &[i64],
     spec_edges: &[i64],

@@ -22,7 +22,7 @@ use Rattle.reporting.specs.Lines.{hasLine, rowOfFinding, rowsOfFindings, linesO
 use Rattle.reporting.proofs.Lines.{rows-small}
 use Rattle.reporting.proofs.Measures.{lines-append}
 use Rattle.survey.specs.Lines.{findingsBetween, LinesHeld}
-use Rattle.tablecheck.specs.Reports.{lineWidth, lineRoom, Chunk}
+use Rattle.tablecheck.specs.Reports.{lineWidth, lineRoom, Part}
 use Rattle.tablecheck.proofs.Taken.{findings-small}
 
 -- ---- lists
@@ -126,20 +126,20 @@ module _ (t : Tables) where
       omega (arith, lines-next-length from n h, ap length (lines-end n (omega arith)))
 
   module _ (taken : checkTables t ≡ none) {lines : List ℤ} {from to n : ℕ} (room : lineWidth * lineRoom ≤ length lines)
-      (chunk : Chunk (rootRows t) (leafRows t) from to) (held : LinesHeld (findingsBetween t from to) lines n) where
-    chunk-room : 3 * n ≤ length lines
-    chunk-room = omega (arith, held .counted, rows-short (findingsBetween t from to), between-short t from to, chunk .held)
+      (part : Part (rootRows t) (leafRows t) from to) (held : LinesHeld (findingsBetween t from to) lines n) where
+    part-room : 3 * n ≤ length lines
+    part-room = omega (arith, held .counted, rows-short (findingsBetween t from to), between-short t from to, part .held)
 
-    -- the rows of the pairs of a chunk are held, and small
-    pub chunk-small : SmallLines lines n
-    chunk-small = record {
-      held = chunk-room;
-      small = rw (held .rows chunk-room) (rows-small (findingsBetween t from to) (λ f m. findings-small t taken f (between-in t from to f m)));
+    -- the rows of the pairs of a part are held, and small
+    pub part-small : SmallLines lines n
+    part-small = record {
+      held = part-room;
+      small = rw (held .rows part-room) (rows-small (findingsBetween t from to) (λ f m. findings-small t taken f (between-in t from to f m)));
     }
 
     -- their lines follow those of the pairs before them
-    pub chunk-lines : linesUpTo t to ≡ linesUpTo t from ++ linesOf (rowsOf lines n)
-    chunk-lines = rw (held .rows chunk-room) (lines-next from to (omega (arith, chunk .later)))
+    pub part-lines : linesUpTo t to ≡ linesUpTo t from ++ linesOf (rowsOf lines n)
+    part-lines = rw (held .rows part-room) (lines-next from to (omega (arith, part .later)))
 
-    pub chunk-length : length (linesUpTo t to) ≡ length (linesUpTo t from) + length (linesOf (rowsOf lines n))
-    chunk-length = ap length chunk-lines ∙ length-append (linesUpTo t from) (linesOf (rowsOf lines n))
+    pub part-length : length (linesUpTo t to) ≡ length (linesUpTo t from) + length (linesOf (rowsOf lines n))
+    part-length = ap length part-lines ∙ length-append (linesUpTo t from) (linesOf (rowsOf lines n))

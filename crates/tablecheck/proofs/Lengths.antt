@@ -1,4 +1,4 @@
--- How long lines are at least, how long the report is by its parts, and how many root rows a chunk has.
+-- How long lines are at least, how long the report is by its names, lines and result, and how many root rows a part of the pairs has.
 use mathlib.Core.Path.{_≡_, sym, ap, _∙_}
 use mathlib.Core.Bool.{Bool, true, false}
 use mathlib.Core.List.{List, [], _∷_, _++_, map, flatMap}
@@ -23,7 +23,7 @@ use Rattle.reporting.proofs.Lines.{report-from, rows-small}
 use Rattle.reporting.proofs.Measures.{lines-none}
 use Rattle.reporting.proofs.Parts.{heading, pair-parts, pair-length, report-parts, report-length}
 use Rattle.survey.specs.Lines.{LinesHeld}
-use Rattle.tablecheck.specs.Reports.{lineRoom, Chunkable, Chunk}
+use Rattle.tablecheck.specs.Reports.{lineRoom, PartStart, Part}
 use Rattle.tablecheck.proofs.Taken.{findings-small}
 
 -- ---- lines
@@ -62,7 +62,7 @@ lines-least (r ∷ rows) = omega (arith, line-least r, lines-least rows, length-
 
 -- ---- the report
 
--- the report by its parts
+-- the report by its names, lines and result
 from-size : (rows : List Row) (r : Result) → length (reportFrom rows r) ≡ 28 + length (linesOf rows) + length (resultLines r)
 from-size rows r = omega (arith, report-length rows r, pair-length rows)
 
@@ -98,20 +98,20 @@ module _ (t : Tables) (taken : checkTables t ≡ none) where
     pub held-report : {r : Result} → r ≡ resultOf (findings t) → reportFrom (rowsOf lines n) r ≡ report (findings t)
     held-report e = rw (held .rows room, e) report-rows
 
--- ---- chunks
+-- ---- parts of the pairs
 
-module _ {roots leaves : List Pair} {from : ℕ} (p : Chunkable roots leaves from) where
+module _ {roots leaves : List Pair} {from : ℕ} (p : PartStart roots leaves from) where
   -- so many root rows have room for a line of each pair
   rows-held : (n : ℕ) → n ≤ lineRoom / length leaves → n * length leaves ≤ lineRoom
   rows-held n h = le-trans (mul-le-mul-right (length leaves) h) (div-mul-le-self lineRoom (length leaves))
 
   -- the rows that are left
-  pub chunk-last : length roots - from < lineRoom / length leaves → Chunk roots leaves from (length roots)
-  chunk-last h = record { later = p .row; within = omega arith; held = rows-held (length roots - from) (omega arith) }
+  pub part-last : length roots - from < lineRoom / length leaves → Part roots leaves from (length roots)
+  part-last h = record { later = p .row; within = omega arith; held = rows-held (length roots - from) (omega arith) }
 
   -- or as many as have room, which is one at least
-  pub chunk-some : lineRoom / length leaves ≤ length roots - from → Chunk roots leaves from (from + lineRoom / length leaves)
-  chunk-some h =
+  pub part-some : lineRoom / length leaves ≤ length roots - from → Part roots leaves from (from + lineRoom / length leaves)
+  part-some h =
       let one : 1 ≤ lineRoom / length leaves = le-div-iff-mul-le (p .some) .1 (omega (arith, p .few)) in
       let size : (from + lineRoom / length leaves) - from ≡ lineRoom / length leaves = omega arith in
       record { later = omega arith; within = omega (arith, p .row); held = rw size (rows-held (lineRoom / length leaves) (omega arith)) }

@@ -12,7 +12,7 @@ use Rattle.model.specs.Checks.{checkTables}
 
 -- rows of lines that are held at once
 abbrev pub lineRoom : ℕ
-lineRoom = 4096
+lineRoom = 2048
 
 -- numbers of a row of a line
 abbrev pub lineWidth : ℕ
@@ -24,14 +24,14 @@ pub record Reportable (t : Tables) (lines spare : List ℤ) : Type 0 where
   pub room : lineWidth * lineRoom ≤ length lines
   pub spareRoom : length lines ≤ length spare
 
--- from a root row on, with these leaf rows
-pub record Chunkable (roots leaves : List Pair) (from : ℕ) : Type 0 where
+-- where a part of the pairs starts: at a root row, with one leaf row at least
+pub record PartStart (roots leaves : List Pair) (from : ℕ) : Type 0 where
   pub row : from < length roots
   pub some : 1 ≤ length leaves
   pub few : length leaves ≤ maxPairs
 
--- up to a later root row, so that there is room for a line of each pair
-pub record Chunk (roots leaves : List Pair) (from to : ℕ) : Type 0 where
+-- a part of the pairs: from a root row up to a later one, so that there is room for a line of each pair
+pub record Part (roots leaves : List Pair) (from to : ℕ) : Type 0 where
   pub later : from < to
   pub within : to ≤ length roots
   pub held : (to - from) * length leaves ≤ lineRoom

@@ -13,7 +13,7 @@ ghost use Rattle.pairing.specs.Pairs.{tablesOf};
 ghost use Rattle.report.specs.Put.{Put};
 ghost use Rattle.reporting.specs.Lines.{linesOf, rowsOfFindings, measured, outputAnswer};
 ghost use Rattle.survey.specs.Lines.{LinesHeld};
-ghost use Rattle.tablecheck.specs.Reports.{Reportable, Chunkable, Chunk};
+ghost use Rattle.tablecheck.specs.Reports.{Reportable, PartStart, Part};
 ghost use Rattle.tablecheck.specs.Outcomes.{outcomeAnswer, stating, Gives};
 use model::Compared;
 use model::Comparison;
@@ -29,18 +29,18 @@ pub enum Outcome {
 }
 
 // Rows of lines that are held at once.
-const LINE_ROOM: usize = 4096;
+const LINE_ROOM: usize = 2048;
 
 // Numbers of those rows, three a row.
-const LINE_NUMBERS: usize = 12288;
+const LINE_NUMBERS: usize = 6144;
 
 // A line has at least five digits, four spaces and a line feed.
 const LEAST_LINE: usize = 10;
 
 // The root row up to which there is room for a line of each pair, from a root row on.
-fn chunk_end(root_pairs: &[i64], leaf_pairs: &[i64], from: usize) -> usize
-    requires { ⌜ Chunkable (pairRows (now «root_pairs»)) (pairRows (now «leaf_pairs»)) from ⌝ }
-    ensures { λ r. ⌜ Chunk (pairRows (now («root_pairs» .entry))) (pairRows (now («leaf_pairs» .entry))) from r ⌝ }
+fn part_end(root_pairs: &[i64], leaf_pairs: &[i64], from: usize) -> usize
+    requires { ⌜ PartStart (pairRows (now «root_pairs»)) (pairRows (now «leaf_pairs»)) from ⌝ }
+    ensures { λ r. ⌜ Part (pairRows (now («root_pairs» .entry))) (pairRows (now («leaf_pairs» .entry))) from r ⌝ }
 {
     let rows = root_pairs.len() / PAIR_WIDTH;
     let leaves = leaf_pairs.len() / PAIR_WIDTH;
@@ -83,7 +83,7 @@ fn long_length(
         if total > room {
             return total;
         }
-        let to = chunk_end(root_pairs, leaf_pairs, from);
+        let to = part_end(root_pairs, leaf_pairs, from);
         let n = compare::lines_between(
             spec_nodes,
             spec_edges,
@@ -103,7 +103,7 @@ fn long_length(
 }
 
 // Writes the lines of all pairs, those of some root rows at a time, each part into what remains of the buffer.
-fn put_chunks(
+fn put_parts(
     spec_nodes: &[i64],
     spec_edges: &[i64],
     impl_nodes: &[i64],
@@ -130,7 +130,7 @@ fn put_chunks(
     let mut at: usize = 0;
     let mut from: usize = 0;
     while from < rows {
-        let to = chunk_end(root_pairs, leaf_pairs, from);
+        let to = part_end(root_pairs, leaf_pairs, from);
         let n = compare::lines_between(
             spec_nodes,
             spec_edges,
@@ -178,7 +178,7 @@ fn put_long(
 {
     let at = report::put_heading(out);
     let at = at
-        + put_chunks(
+        + put_parts(
             spec_nodes,
             spec_edges,
             impl_nodes,

@@ -8,17 +8,13 @@ ghost use Rattle.mapfile.specs.Given.{lent, front};
 ghost use Rattle.tablecheck.specs.Outcomes.{outcomeAnswer, Gives};
 ghost use Rattle.textcheck.specs.Fronts.{Within};
 ghost use Rattle.textcheck.specs.Lengths.{lengthAlone};
+use mapfile::EDGE_ROOM;
+use mapfile::NODE_ROOM;
+use mapfile::PAIR_ROOM;
 use mapfile::Read;
 use mapfile::Sizes;
 use model::Written;
 use tablecheck::Outcome;
-
-// Numbers of one side or role that are kept of a table: those of one row more than the limit.
-const NODE_ROOM: usize = 8004;
-
-const EDGE_ROOM: usize = 7803;
-
-const PAIR_ROOM: usize = 2002;
 
 // Checks the tables of these sizes at the front of the slices.
 fn check_front(

@@ -1,6 +1,6 @@
 -- The lowest key gives a refusal, or no pair has too many paths.
 use mathlib.Core.Path.{_∙_}
-use Rattle.compare.proofs.Results.{key-refused, key-few, key-full, refused-lines}
+use Rattle.compare.proofs.Results.{key-refused, key-few, key-full, refused-lines, full-lines}
 use borrow.Author.Needs.{needs}
 use Rattle.compare.proofs.compare_checked.Statement.{statement}
 use Rattle.compare.proofs.compare_checked.Tie as tie
@@ -27,8 +27,10 @@ returns : tie.Need-returns
 returns c =
     let m = c .before .before .before .before .before in
     let s = m .before .before .before .before .before in
-    let r = c .refusal .ensures .0 in
-    (r ∙ key-refused (s .pre .0 .inputs) (m .many-of-all .ensures) (c .before .many-paths .ensures), refused-lines _ (c .refusal .result .compared) r)
+    let r = c .refusal .ensures in (
+      r .0 ∙ key-refused (s .pre .0 .inputs) (m .many-of-all .ensures) (c .before .many-paths .ensures),
+      refused-lines _ (c .refusal .result .compared) (r .0) (r .1),
+    )
 
 compare-pairs-requires : tie.Need-compare-pairs-requires
 compare-pairs-requires c κs =
@@ -47,8 +49,10 @@ returns-2 c =
     let p = c .before .before .compare-pairs .ensures in
     let e = c .before .before .before .before .before in
     let m = e .before .before .before in
-    let s = m .before .before .before .before .before in
-    (p .0 ∙ key-full (s .pre .0 .inputs) (m .many-of-all .ensures) (e .if1 .left), λ res q. p .1)
+    let s = m .before .before .before .before .before in (
+      p .0 ∙ key-full (s .pre .0 .inputs) (m .many-of-all .ensures) (e .if1 .left),
+      full-lines _ (c .before .before .compare-pairs .result .compared) (p .0) (p .1),
+    )
 
 pub compare-checked-spec : {M : Type 1} → statement M
 compare-checked-spec =

@@ -22,8 +22,10 @@ refusal-requires c κs = search needs
 returns : tie.Need-returns
 returns c =
     let k = c .before .before .before .before .before .before in
-    let r = c .refusal .ensures .0 in
-    (inputs-refused (k .check-inputs .ensures) (c .before .before .c .given .1) r, refused-lines _ (c .refusal .result .compared) r)
+    let r = c .refusal .ensures in (
+      inputs-refused (k .check-inputs .ensures) (c .before .before .c .given .1) (r .0),
+      refused-lines _ (c .refusal .result .compared) (r .0) (r .1),
+    )
 
 enum-told : tie.Need-enum-told
 enum-told c = search needs

@@ -53,7 +53,7 @@ table-report-requires c κs = let k = compared-of c in
         spareRoom = omega (arith, k .compare-lines .kept .1 .1 .1 .1 .1 .1 .0, k .compare-lines .kept .1 .1 .1 .1 .1 .1 .1 .0);
       },
       outcome-result t promise e,
-      k .compare-lines .ensures .1 _ (ap comparedAnswer e),
+      k .compare-lines .ensures .1 .held _ (ap comparedAnswer e),
     )
 
 outcome-of-requires : tie.Need-outcome-of-requires

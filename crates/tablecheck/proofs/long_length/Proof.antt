@@ -11,7 +11,7 @@ use Rattle.pairing.specs.Pairs.{tablesOf}
 use Rattle.reporting.specs.Lines.{linesOf, rowsOfFindings, resultLines, SmallLines, measured}
 use Rattle.tablecheck.specs.Reports.{lineWidth, lineRoom}
 use Rattle.tablecheck.proofs.Taken.{pairs-count, leaves-some, leaves-few, taken-result-small}
-use Rattle.tablecheck.proofs.Between.{small-none, linesUpTo, lines-start, lines-end, lines-bound, chunk-small, chunk-length}
+use Rattle.tablecheck.proofs.Between.{small-none, linesUpTo, lines-start, lines-end, lines-bound, part-small, part-length}
 use Rattle.tablecheck.proofs.Lengths.{none-size, report-size}
 use Rattle.tablecheck.proofs.long_length.Statement.{statement}
 use Rattle.tablecheck.proofs.long_length.Tie as tie
@@ -57,7 +57,7 @@ module _ (l : tie.At-loop Inv-loop μ-loop) where
         ap (λ (x : Result). length (resultLines x)) (s .pre .1),
       )
 
--- what is known once the lines of a chunk are held
+-- what is known once the lines of a part are held
 abbrev loop-of : tie.After-lines-between Inv-loop μ-loop → tie.At-loop Inv-loop μ-loop
 loop-of b = b .before .before .before .before .before .before
 
@@ -68,14 +68,14 @@ module _ (b : tie.After-lines-between Inv-loop μ-loop) where
   held-small : SmallLines (b .lines-between .last .1 .1 .1 .1 .1 .1 .1 .1 .0) (b .lines-between .result)
   held-small =
       let s = start (loop-of b) in
-      chunk-small (tables s) (s .pre .0 .taken) lines-room (b .before .before .before .chunk-end .ensures) (b .lines-between .ensures)
+      part-small (tables s) (s .pre .0 .taken) lines-room (b .before .before .before .part-end .ensures) (b .lines-between .ensures)
 
-  held-length : length (linesUpTo (tables (start (loop-of b))) (b .before .before .before .chunk-end .result))
+  held-length : length (linesUpTo (tables (start (loop-of b))) (b .before .before .before .part-end .result))
       ≡ length (linesUpTo (tables (start (loop-of b))) (loop-of b .loop .from))
       + length (linesOf (rowsOf (b .lines-between .last .1 .1 .1 .1 .1 .1 .1 .1 .0) (b .lines-between .result)))
   held-length =
       let s = start (loop-of b) in
-      chunk-length (tables s) (s .pre .0 .taken) lines-room (b .before .before .before .chunk-end .ensures) (b .lines-between .ensures)
+      part-length (tables s) (s .pre .0 .taken) lines-room (b .before .before .before .part-end .ensures) (b .lines-between .ensures)
 
 report-length-requires : tie.Need-report-length-requires Inv-loop μ-loop
 report-length-requires c κs = let s = c .before in (small-none (s .args .lines .now), taken-result-small (tables s) (s .pre .0 .taken) (s .pre .1), s .pre .2)
@@ -93,8 +93,8 @@ same-length-2 c = c .before .before .loop .inv .3
 returns : tie.Need-returns Inv-loop μ-loop
 returns c = let l = c .before .before in omega (arith, l .loop .inv .1, total-all l, lines-bound (tables (start l)) (l .loop .from) (from-within l))
 
-chunk-end-requires : tie.Need-chunk-end-requires Inv-loop μ-loop
-chunk-end-requires c κs = let l = c .before .before in
+part-end-requires : tie.Need-part-end-requires Inv-loop μ-loop
+part-end-requires c κs = let l = c .before .before in
     let s = start l in
     record {
       row = omega (arith, row-count s, c .before .loop-test .taken);
@@ -106,7 +106,7 @@ lines-between-requires : tie.Need-lines-between-requires Inv-loop μ-loop
 lines-between-requires c κs = let e = c .before .before in
     let l = e .before .before .before in
     let s = start l in
-    (s .pre .0 .taken, omega (arith, e .chunk-end .ensures .later), omega (arith, e .chunk-end .ensures .within, row-count s), omega (arith, l .loop .inv .2, l .loop .inv .3, s .pre .0 .spareRoom))
+    (s .pre .0 .taken, omega (arith, e .part-end .ensures .later), omega (arith, e .part-end .ensures .within, row-count s), omega (arith, l .loop .inv .2, l .loop .inv .3, s .pre .0 .spareRoom))
 
 lines-length-requires : tie.Need-lines-length-requires Inv-loop μ-loop
 lines-length-requires c κs = let b = c .before .before .before in (held-small b, omega arith, omega (arith, start (loop-of b) .pre .2))
@@ -117,14 +117,14 @@ add-total c = let b = c .before .before .before .before in
 
 loop-less : tie.Need-loop-less Inv-loop μ-loop
 loop-less c = let e = c .before .before .before .before .before .before .before in
-    omega (arith, e .chunk-end .ensures .later, e .before .before .loop-test .taken)
+    omega (arith, e .part-end .ensures .later, e .before .before .loop-test .taken)
 
 loop-again : tie.Need-loop-again Inv-loop μ-loop
 loop-again c = let b = c .before .before .before .before in
     let e = b .before .before .before in
     let l = loop-of b in
     let s = start l in (
-      omega (arith, e .chunk-end .ensures .within, row-count s),
+      omega (arith, e .part-end .ensures .within, row-count s),
       omega (arith, c .lines-length .ensures, e .before .if1 .left, l .loop .inv .1, held-length b),
       b .lines-between .kept .1 .1 .1 .1 .1 .1 .1 .1 .0 ∙ l .loop .inv .2,
       b .lines-between .kept .1 .1 .1 .1 .1 .1 .1 .1 .1 .0 ∙ l .loop .inv .3,
@@ -150,7 +150,7 @@ long-length-spec =
     same-length
     same-length-2
     returns
-    chunk-end-requires
+    part-end-requires
     lines-between-requires
     lines-length-requires
     add-total

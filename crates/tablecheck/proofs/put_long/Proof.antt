@@ -23,19 +23,19 @@ tables s =
     tablesOf (s .args .spec-nodes .now) (s .args .spec-edges .now) (s .args .impl-nodes .now) (s .args .impl-edges .now) (s .args .root-pairs .now)
     (s .args .leaf-pairs .now)
 
--- the parts of the report fit
+-- the names, the lines and the result fit
 room : (s : tie.Start)
     → 28 + length (linesOf (rowsOfFindings (findings (tables s)))) + length (resultLines (comparisonResult (s .args .result))) ≤ length (s .args .out .now)
 room s = rw (s .pre .1) (omega (arith, report-size (tables s) (s .pre .0 .taken), s .pre .2))
 
 -- what is known once the lines of the pairs are written
-abbrev heading-of : tie.After-put-chunks → tie.After-put-heading
+abbrev heading-of : tie.After-put-parts → tie.After-put-heading
 heading-of p = p .before .before .before .before .before .before
 
 abbrev start : tie.After-put-heading → tie.Start
 start h = h .before .before .before
 
-module _ (p : tie.After-put-chunks) where
+module _ (p : tie.After-put-parts) where
   abbrev first : Bytes
   first = heading-of p .put-heading .last .0
 
@@ -43,12 +43,12 @@ module _ (p : tie.After-put-chunks) where
   at = heading-of p .put-heading .result
 
   abbrev joined : Bytes
-  joined = take at first ++ (p .put-chunks .last .1 .1 .1 .1 .1 .1 .1 .1 .0 ++ drop (length first - at) (drop at first))
+  joined = take at first ++ (p .put-parts .last .1 .1 .1 .1 .1 .1 .1 .1 .0 ++ drop (length first - at) (drop at first))
 
-  done : Put (heading ++ linesOf (rowsOfFindings (findings (tables (start (heading-of p)))))) (start (heading-of p) .args .out .now) joined (at + p .put-chunks .result)
-  done = put-tail (heading-of p .put-heading .ensures) (p .put-chunks .ensures)
+  done : Put (heading ++ linesOf (rowsOfFindings (findings (tables (start (heading-of p)))))) (start (heading-of p) .args .out .now) joined (at + p .put-parts .result)
+  done = put-tail (heading-of p .put-heading .ensures) (p .put-parts .ensures)
 
-  done-count : at + p .put-chunks .result ≡ 28 + length (linesOf (rowsOfFindings (findings (tables (start (heading-of p))))))
+  done-count : at + p .put-parts .result ≡ 28 + length (linesOf (rowsOfFindings (findings (tables (start (heading-of p))))))
   done-count = omega (arith, done .count, heading-length, length-append heading (linesOf (rowsOfFindings (findings (tables (start (heading-of p)))))))
 
   done-length : length joined ≡ length (start (heading-of p) .args .out .now)
@@ -57,17 +57,17 @@ module _ (p : tie.After-put-chunks) where
 put-heading-requires : tie.Need-put-heading-requires
 put-heading-requires c κs = let s = c .before .before in omega (arith, heading-length, room s)
 
-sub-put-chunks : tie.Need-sub-put-chunks
-sub-put-chunks c = let h = c .before .before .before .before in omega (arith, h .put-heading .ensures .count, h .put-heading .kept .0, heading-length, room (start h))
+sub-put-parts : tie.Need-sub-put-parts
+sub-put-parts c = let h = c .before .before .before .before in omega (arith, h .put-heading .ensures .count, h .put-heading .kept .0, heading-length, room (start h))
 
-part-put-chunks-start : tie.Need-part-put-chunks-start
-part-put-chunks-start c = let h = c .before .before .before .before in omega (arith, h .put-heading .ensures .count, h .put-heading .kept .0, heading-length, room (start h))
+part-put-parts-start : tie.Need-part-put-parts-start
+part-put-parts-start c = let h = c .before .before .before .before in omega (arith, h .put-heading .ensures .count, h .put-heading .kept .0, heading-length, room (start h))
 
-part-put-chunks-end : tie.Need-part-put-chunks-end
-part-put-chunks-end c = search needs
+part-put-parts-end : tie.Need-part-put-parts-end
+part-put-parts-end c = search needs
 
-put-chunks-requires : tie.Need-put-chunks-requires
-put-chunks-requires c κs = let h = c .before .before .before .before .before in (
+put-parts-requires : tie.Need-put-parts-requires
+put-parts-requires c κs = let h = c .before .before .before .before .before in (
   start h .pre .0,
   rw (tail-length (h .put-heading .last .0) (h .put-heading .result))
       (omega (arith, h .put-heading .ensures .count, h .put-heading .kept .0, heading-length, room (start h))),
@@ -91,7 +91,7 @@ put-ending-requires : tie.Need-put-ending-requires
 put-ending-requires c κs = let p = c .before .before .before .before .before in
     let s = start (heading-of p) in (
       taken-result-small (tables s) (s .pre .0 .taken) (s .pre .1),
-      rw (tail-length (joined p) (at p + p .put-chunks .result)) (omega (arith, done-count p, done-length p, room s)),
+      rw (tail-length (joined p) (at p + p .put-parts .result)) (omega (arith, done-count p, done-length p, room s)),
     )
 
 add-result : tie.Need-add-result
@@ -120,10 +120,10 @@ put-long-spec =
     tie.close
     (tie.spec
     put-heading-requires
-    sub-put-chunks
-    part-put-chunks-start
-    part-put-chunks-end
-    put-chunks-requires
+    sub-put-parts
+    part-put-parts-start
+    part-put-parts-end
+    put-parts-requires
     add-at
     sub-put-ending
     part-put-ending-start

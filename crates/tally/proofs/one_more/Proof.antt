@@ -1,9 +1,9 @@
 -- Below the ceiling one more is stored.
-use mathlib.Core.Path.{refl}
+use mathlib.Core.Path.{refl, ap}
 use native.Mathlib.Numerals.{add-one}
 use borrow.Author.Needs.{needs}
 use borrow.Author.Tests.{lt-ltb, le-ltb}
-use lib.ListN.{getD}
+use lib.ListN.{getD, set}
 use Rattle.model.specs.Limits.{countCeiling}
 use Rattle.model.specs.TextCheck.{oneMore}
 use Rattle.tally.proofs.one_more.Statement.{statement}
@@ -27,8 +27,9 @@ element-write-next c = search needs
 returns : tie.Need-returns
 unfolding oneMore
 returns c = let s = c .before .before in
-    let count = getD (s .args .tally .counts) (s .args .place) 0 in
-    rw (add-one count, lt-ltb count countCeiling (c .if1 .taken)) refl
+    let counts = s .args .tally .counts in
+    let count = getD counts (s .args .place) 0 in
+    rw (lt-ltb count countCeiling (c .if1 .taken)) (ap (set counts (s .args .place)) (add-one count))
 
 returns-2 : tie.Need-returns-2
 unfolding oneMore

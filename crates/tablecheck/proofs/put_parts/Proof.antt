@@ -12,9 +12,9 @@ use Rattle.report.proofs.Tail.{tail-length, put-none, put-tail, put-length}
 use Rattle.reporting.specs.Lines.{linesOf, SmallLines}
 use Rattle.tablecheck.specs.Reports.{lineWidth, lineRoom}
 use Rattle.tablecheck.proofs.Taken.{pairs-count, leaves-some, leaves-few}
-use Rattle.tablecheck.proofs.Between.{linesUpTo, lines-start, lines-end, lines-bound, chunk-small, chunk-lines, chunk-length}
-use Rattle.tablecheck.proofs.put_chunks.Statement.{statement}
-use Rattle.tablecheck.proofs.put_chunks.Tie as tie
+use Rattle.tablecheck.proofs.Between.{linesUpTo, lines-start, lines-end, lines-bound, part-small, part-lines, part-length}
+use Rattle.tablecheck.proofs.put_parts.Statement.{statement}
+use Rattle.tablecheck.proofs.put_parts.Tie as tie
 
 abbrev Inv-loop : tie.InvT-loop
 Inv-loop spec-nodes spec-edges impl-nodes impl-edges root-pairs leaf-pairs lines₀ spare₀ out₀ rows at₀ from₀ lines spare out at from =
@@ -44,7 +44,7 @@ kept l =
     let s = start l in
     put-length (l .loop .inv .1) (omega (arith, lines-bound (tables s) (l .loop .from) (omega (arith, l .loop .inv .0, row-count s)), s .pre .1))
 
--- what is known once the lines of a chunk are held
+-- what is known once the lines of a part are held
 abbrev loop-of : tie.After-lines-between Inv-loop μ-loop → tie.At-loop Inv-loop μ-loop
 loop-of b = b .before .before .before .before .before
 
@@ -55,7 +55,7 @@ module _ (b : tie.After-lines-between Inv-loop μ-loop) where
   held-small : SmallLines (b .lines-between .last .1 .1 .1 .1 .1 .1 .1 .1 .0) (b .lines-between .result)
   held-small =
       let s = start (loop-of b) in
-      chunk-small (tables s) (s .pre .0 .taken) lines-room (b .before .before .before .chunk-end .ensures) (b .lines-between .ensures)
+      part-small (tables s) (s .pre .0 .taken) lines-room (b .before .before .before .part-end .ensures) (b .lines-between .ensures)
 
   -- there is room for them
   room : loop-of b .loop .at + length (linesOf (rowsOf (b .lines-between .last .1 .1 .1 .1 .1 .1 .1 .1 .0) (b .lines-between .result)))
@@ -67,16 +67,16 @@ module _ (b : tie.After-lines-between Inv-loop μ-loop) where
       omega (
         arith,
         l .loop .inv .1 .count,
-        chunk-length (tables s) (s .pre .0 .taken) lines-room (e .chunk-end .ensures) (b .lines-between .ensures),
-        lines-bound (tables s) (e .chunk-end .result) (e .chunk-end .ensures .within),
+        part-length (tables s) (s .pre .0 .taken) lines-room (e .part-end .ensures) (b .lines-between .ensures),
+        lines-bound (tables s) (e .part-end .result) (e .part-end .ensures .within),
         s .pre .1,
       )
 
 loop-holds : tie.Need-loop-holds Inv-loop μ-loop
 loop-holds c = let s = c .before in (omega arith, rw (lines-start (tables s)) (put-none (s .args .out .now)), refl, refl)
 
-chunk-end-requires : tie.Need-chunk-end-requires Inv-loop μ-loop
-chunk-end-requires c κs =
+part-end-requires : tie.Need-part-end-requires Inv-loop μ-loop
+part-end-requires c κs =
     let s = start (c .before) in
     record {
       row = omega (arith, row-count s, c .loop-test .taken);
@@ -89,7 +89,7 @@ lines-between-requires c κs =
     let e = c .before .before in
     let l = e .before .before in
     let s = start l in
-    (s .pre .0 .taken, omega (arith, e .chunk-end .ensures .later), omega (arith, e .chunk-end .ensures .within, row-count s), omega (arith, l .loop .inv .2, l .loop .inv .3, s .pre .0 .spareRoom))
+    (s .pre .0 .taken, omega (arith, e .part-end .ensures .later), omega (arith, e .part-end .ensures .within, row-count s), omega (arith, l .loop .inv .2, l .loop .inv .3, s .pre .0 .spareRoom))
 
 sub-put-lines : tie.Need-sub-put-lines Inv-loop μ-loop
 sub-put-lines c = let b = c .before .before in omega (arith, room b, kept (loop-of b))
@@ -115,7 +115,7 @@ add-at c =
 loop-less : tie.Need-loop-less Inv-loop μ-loop
 loop-less c =
     let e = c .before .before .before .before .before .before .before .before .before .before in
-    omega (arith, e .chunk-end .ensures .later, e .before .loop-test .taken)
+    omega (arith, e .part-end .ensures .later, e .before .loop-test .taken)
 
 loop-again : tie.Need-loop-again Inv-loop μ-loop
 loop-again c =
@@ -124,8 +124,8 @@ loop-again c =
     let e = b .before .before .before in
     let l = loop-of b in
     let s = start l in (
-      omega (arith, e .chunk-end .ensures .within, row-count s),
-      rw (chunk-lines (tables s) (s .pre .0 .taken) (lines-room b) (e .chunk-end .ensures) (b .lines-between .ensures)) (put-tail (l .loop .inv .1) (p .put-lines .ensures)),
+      omega (arith, e .part-end .ensures .within, row-count s),
+      rw (part-lines (tables s) (s .pre .0 .taken) (lines-room b) (e .part-end .ensures) (b .lines-between .ensures)) (put-tail (l .loop .inv .1) (p .put-lines .ensures)),
       b .lines-between .kept .1 .1 .1 .1 .1 .1 .1 .1 .0 ∙ l .loop .inv .2,
       b .lines-between .kept .1 .1 .1 .1 .1 .1 .1 .1 .1 .0 ∙ l .loop .inv .3,
     )
@@ -145,14 +145,14 @@ returns c =
     let s = start l in
     rw (lines-end (tables s) (l .loop .from) (omega (arith, row-count s))) at (l .loop .inv .1)
 
-pub put-chunks-spec : {M : Type 1} → statement M
-put-chunks-spec =
+pub put-parts-spec : {M : Type 1} → statement M
+put-parts-spec =
     tie.close
     (tie.spec
     Inv-loop
     μ-loop
     loop-holds
-    chunk-end-requires
+    part-end-requires
     lines-between-requires
     sub-put-lines
     part-put-lines-start

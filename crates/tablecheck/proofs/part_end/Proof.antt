@@ -2,9 +2,9 @@
 use native.Mathlib.Omega.{arith}
 use borrow.Author.Needs.{needs}
 use Rattle.tablecheck.proofs.Taken.{pairs-count}
-use Rattle.tablecheck.proofs.Lengths.{chunk-last, chunk-some}
-use Rattle.tablecheck.proofs.chunk_end.Statement.{statement}
-use Rattle.tablecheck.proofs.chunk_end.Tie as tie
+use Rattle.tablecheck.proofs.Lengths.{part-last, part-some}
+use Rattle.tablecheck.proofs.part_end.Statement.{statement}
+use Rattle.tablecheck.proofs.part_end.Tie as tie
 
 div-size : tie.Need-div-size
 div-size c = omega (arith, pairs-count (c .args .leaf-pairs .now), c .pre .some)
@@ -17,7 +17,7 @@ returns c =
     let s = c .before in
     let root = pairs-count (s .args .root-pairs .now) in
     let leaf = pairs-count (s .args .leaf-pairs .now) in
-    rw root at (chunk-last (s .pre) (rw (root, leaf) (c .if1 .taken)))
+    rw root at (part-last (s .pre) (rw (root, leaf) (c .if1 .taken)))
 
 add-result : tie.Need-add-result
 add-result c = search needs
@@ -27,7 +27,7 @@ returns-2 c =
     let s = c .before in
     let root = pairs-count (s .args .root-pairs .now) in
     let leaf = pairs-count (s .args .leaf-pairs .now) in
-    rw leaf at (chunk-some (s .pre) (rw (root, leaf) (c .if1 .left)))
+    rw leaf at (part-some (s .pre) (rw (root, leaf) (c .if1 .left)))
 
-pub chunk-end-spec : {M : Type 1} → statement M
-chunk-end-spec = tie.close (tie.spec div-size sub-if1 returns add-result returns-2)
+pub part-end-spec : {M : Type 1} → statement M
+part-end-spec = tie.close (tie.spec div-size sub-if1 returns add-result returns-2)

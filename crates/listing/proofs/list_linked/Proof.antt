@@ -1,6 +1,7 @@
 -- What lies in the window of the root has the rows of all runs from the whole root; normalised, they are the bitmapping list. Where nothing lies
 -- there, the list is empty.
 use mathlib.Core.Path.{_≡_, sym, ap, subst, _∙_}
+use mathlib.Core.List.{List}
 use mathlib.Core.Option.{some}
 use borrow.Author.Needs.{needs}
 use lib.IntN.{pos}
@@ -9,6 +10,7 @@ use Rattle.model.specs.Limits.{maxChain}
 use Rattle.model.specs.Graph.{graphOf, node}
 use Rattle.model.specs.Runs.{Run, whole}
 use Rattle.model.specs.Calls.{numbersOf}
+use Rattle.sorting.specs.declared.Row.{Row}
 use Rattle.steps.specs.Steps.{runOf, living, livingOf, Clippable}
 use Rattle.steps.proofs.Rows.{node-good}
 use Rattle.windows.specs.Windows.{cut}
@@ -54,6 +56,19 @@ left c =
     let s = w .before .before .before .before .args in
     crossed-left (cut (spanAt (s .windows .now) (s .root)) (whole (node (graphOf (s .nodes .now) (s .edges .now)) (pos (s .root))))) (k .reaching .given .1) (reaching w)
 
+-- the rows of all runs are written
+listed : (c : tie.After-list-from)
+    → let s = c .before .before .before .before .before .before .before .before .before in
+    let g = graphOf (s .args .nodes .now) (s .args .edges .now) in
+    Appended (runRows maxChain g (pos (s .args .root)) (pos (s .args .leaf)) (whole (node g (pos (s .args .root))))) (s .args .work .now)
+    (c .list-from .last .1 .1 .1 .1 .1 .1 .1 .1 .1 .1 .0) 0 (c .list-from .result)
+listed c =
+    let a = c .before in
+    let s = a .before .before .before .before .before .before .before .before in
+    subst
+    (λ (rows : List Row). Appended rows (s .args .work .now) (c .list-from .last .1 .1 .1 .1 .1 .1 .1 .1 .1 .1 .0) 0 (c .list-from .result))
+    (root-same (s .pre .0) (s .pre .1) (left a)) (c .list-from .ensures)
+
 list-from-requires : tie.Need-list-from-requires
 list-from-requires c κs =
     let s = c .before .before .before .before .before .before .before .before in
@@ -68,17 +83,6 @@ list-from-requires c κs =
       root-small p w (left c),
       rw (root-same p w (left c)) (pair-room p (runRows maxChain g root leaf (whole (node g root))) (runs-few p)),
     )
-
--- the rows of all runs are written
-listed : (c : tie.After-list-from)
-    → let s = c .before .before .before .before .before .before .before .before .before in
-    let g = graphOf (s .args .nodes .now) (s .args .edges .now) in
-    Appended (runRows maxChain g (pos (s .args .root)) (pos (s .args .leaf)) (whole (node g (pos (s .args .root))))) (s .args .work .now)
-    (c .list-from .last .1 .1 .1 .1 .1 .1 .1 .1 .1 .1 .0) 0 (c .list-from .result)
-listed c =
-    let a = c .before in
-    let s = a .before .before .before .before .before .before .before .before in
-    rw (root-same (s .pre .0) (s .pre .1) (left a)) at (c .list-from .ensures)
 
 normalise-requires : tie.Need-normalise-requires
 normalise-requires c κs =

@@ -148,6 +148,16 @@ module _ (g : Graph) (leaf n : ℕ) where
           ∙ getD-replicate n v 0 0 k
 
   module _ (f : Fit g (pos leaf)) (d : Distinct (g .edges)) where
+    -- the paths of the node that the next edge enters are all counted
+    soFar-onward : {before ahead : List Edge} {e : Edge} (to : ℕ) → Cut (g .edges) before (e ∷ ahead) → pos to ≡ e .to
+        → soFar g (pos leaf) before (pos to) ≡ pathCount g (pos to) (pos leaf)
+    soFar-onward to c q = soFar-all g (pos leaf) (pos to) f d c (λ a m r. c .backward .0 a m (r ∙ q))
+
+    -- so its count is complete
+    pub swept-onward : {before ahead : List Edge} {e : Edge} {counts : List ℕ} (to : ℕ) → Cut (g .edges) before (e ∷ ahead) → pos to ≡ e .to → to < n
+        → Swept before counts → getD counts to 0 ≡ stopped (pathCount g (pos to) (pos leaf))
+    swept-onward to c q k s = s .each to k ∙ ap stopped (soFar-onward to c q)
+
     -- one edge more: the count of the node that it enters is complete, and is added at the node that it leaves
     pub swept-next : {before ahead : List Edge} {e : Edge} {counts : List ℕ} (from to : ℕ) → Cut (g .edges) before (e ∷ ahead) → pos from ≡ e .from
         → pos to ≡ e .to → from < n → to < n → Swept before counts
@@ -162,8 +172,7 @@ module _ (g : Graph) (leaf n : ℕ) where
         part v = soFar g (pos leaf) before (pos v)
 
         complete : part to ≡ pathCount g (e .to) (pos leaf)
-        complete =
-            soFar-all g (pos leaf) (pos to) f d c (λ a m r. c .backward .0 a m (r ∙ q)) ∙ ap (λ w. pathCount g w (pos leaf)) q
+        complete = soFar-onward to c q ∙ ap (λ w. pathCount g w (pos leaf)) q
 
         more-paths : soFar g (pos leaf) (e ∷ before) (pos from) ≡ part from + part to
         more-paths =

@@ -1,9 +1,9 @@
 // Counts of the paths to a leaf, and the edges that can still reach it, linked by the node that they leave.
 ghost use mathlib.Core.Path.{_≡_};
 ghost use mathlib.Core.List.{_++_};
-ghost use Prim.Native.Nat.{_+_, _≤_};
+ghost use Prim.Native.Nat.{_+_, _≤_, _<_};
 ghost use lib.IntN.{pos};
-ghost use lib.ListN.{length, replicate, drop};
+ghost use lib.ListN.{length, getD, set, replicate, drop};
 ghost use Rattle.model.specs.Limits.{maxPaths};
 ghost use Rattle.model.specs.Graph.{graphOf};
 ghost use Rattle.reach.specs.Counting.{stopped, countsOver, Countable};
@@ -38,24 +38,44 @@ fn fill(out: &mut [usize], count: usize, value: usize)
     }
 }
 
+// Sets the counts of the first `count` nodes to what they are before a pass: 1 at the leaf, 0 at the others.
+pub fn start_counts(counts: &mut [usize], count: usize, leaf: usize)
+    requires { ⌜ (leaf < count) × (count ≤ length (now counts)) ⌝ }
+    ensures { λ _. ⌜ now (counts .exit) ≡ set (replicate count 0 ++ drop count (now (counts .entry))) leaf 1 ⌝ }
+{
+    fill(counts, count, 0);
+    counts[leaf] = 1;
+}
+
+// Adds `more` to the count of node v, which stops one past the limit.
+pub fn add_paths(counts: &mut [usize], v: usize, more: usize)
+    requires { ⌜ (v < length (now counts)) × (getD (now counts) v 0 ≤ maxPaths + 1) × (more ≤ maxPaths + 1) ⌝ }
+    ensures { λ _. ⌜ now (counts .exit) ≡ set (now (counts .entry)) v (stopped (getD (now (counts .entry)) v 0 + more)) ⌝ }
+{
+    counts[v] = stopped_sum(counts[v], more);
+}
+
 // Sets counts[v], for each node v, to the number of paths from v to the leaf, or to MAX_PATHS + 1 where there are more than MAX_PATHS.
-// One pass over the edges in an order that has each edge behind all edges that leave the node it enters.
+// One pass over the edges in an order that has each edge behind all edges that leave the node it enters. An edge into a node without a path adds
+// none: it is passed over.
 pub fn count_paths(nodes: &[i64], edges: &[i64], order: &[usize], leaf: usize, counts: &mut [usize])
     requires { ⌜ Countable (now nodes) (now edges) (now order) leaf (now counts) ⌝ }
     ensures { λ _. ⌜
         now (counts .exit)
         ≡ countsOver (graphOf (now (nodes .entry)) (now (edges .entry))) (pos leaf) (now (counts .entry)) ⌝ }
 {
-    fill(counts, nodes.len() / NODE_WIDTH, 0);
-    counts[leaf] = 1;
+    start_counts(counts, nodes.len() / NODE_WIDTH, leaf);
     let count = edges.len() / EDGE_WIDTH;
     let mut i = 0;
     while i < count {
         let e = order[i];
+        i += 1;
         let from = edge_from(edges, e);
         let to = edge_to(edges, e);
-        counts[from] = stopped_sum(counts[from], counts[to]);
-        i += 1;
+        let more = counts[to];
+        if more != 0 {
+            add_paths(counts, from, more);
+        }
     }
 }
 

@@ -14,7 +14,7 @@ use Rattle.model.specs.Taken.{TakenTables}
 use Rattle.depth.specs.Order.{edgeOrder}
 use Rattle.tables.specs.Tables.{edgeAt}
 use Rattle.steps.specs.Steps.{SmallOffset, SmallExtent}
-use Rattle.windows.specs.Windows.{Span, extent, joined, window}
+use Rattle.windows.specs.Windows.{Span, extent, raised, shared, joined, window}
 use Rattle.windows.specs.declared.Span.{Span as Held}
 
 -- numbers of a span
@@ -50,6 +50,18 @@ pub record Carriable (s : Span) (offset : ℤ) : Type 0 where
 -- the table with its span v widened to hold s: as it was, where s has no bit address
 abbrev pub widened : Span → ℕ → List ℤ → List ℤ
 widened s v t = cond (ltZ (s .high) (s .low)) t (setSpan t v (joined s (spanAt t v)))
+
+-- what an edge in row e, which leaves node `from` and enters node `to`, carries back by what the tables hold
+abbrev pub carriedBy : List ℤ → List ℤ → List ℤ → ℕ → ℕ → ℕ → Span
+carriedBy extents offsets windows e from to = shared (spanAt extents from) (raised (getD offsets e (pos 0)) (spanAt windows to))
+
+-- the tables have a bit offset for row e and spans for both nodes, and the span carried back can be moved by the bit offset
+pub record Crossable (extents offsets windows : List ℤ) (e from to : ℕ) : Type 0 where
+  pub edgeThere : e < length offsets
+  pub extentThere : spanWidth * from + spanWidth ≤ length extents
+  pub fromThere : spanWidth * from + spanWidth ≤ length windows
+  pub toThere : spanWidth * to + spanWidth ≤ length windows
+  pub carriable : Carriable (spanAt windows to) (getD offsets e (pos 0))
 
 -- ---- the tables of a graph
 

@@ -1,7 +1,7 @@
 // The bits of a graph's nodes and edges, computed once, and the windows: for each node the bit addresses from which a leaf can still be reached.
 ghost use mathlib.Core.Path.{_≡_};
 ghost use mathlib.Core.List.{_++_};
-ghost use Prim.Native.Nat.{_+_, _*_, _≤_};
+ghost use Prim.Native.Nat.{_+_, _*_, _≤_, _<_};
 ghost use lib.IntN.{pos};
 ghost use lib.ListN.{length, getD, drop};
 ghost use Rattle.integers.specs.Integers.{minZ, maxZ};
@@ -9,12 +9,15 @@ ghost use Rattle.model.specs.Rows.{nodeRows, edgeRows};
 ghost use Rattle.model.specs.Graph.{graphOf};
 ghost use Rattle.model.specs.Runs.{shift};
 ghost use Rattle.model.specs.Taken.{TakenTables};
+ghost use Rattle.reach.specs.Counting.{countsOver, Countable};
 ghost use Rattle.steps.specs.Steps.{runOf, living, livingOf, SmallRun, Clippable};
 ghost use Rattle.windows.specs.Windows.{nowhere, raised, shared, joined, cut};
-ghost use Rattle.windows.specs.Tables.{spanOf, spanAt, setSpan, spansOf, Raisable, Carriable, widened, extentsOver, offsetsOver, windowsOver, Measurable, Windowable, Shiftable, Cuttable};
+ghost use Rattle.windows.specs.Tables.{spanOf, spanAt, setSpan, spansOf, Raisable, Carriable, widened, carriedBy, Crossable, extentsOver, offsetsOver, windowsOver, Measurable, Windowable, Shiftable, Cuttable};
 use model::Bits;
 use model::EDGE_WIDTH;
 use model::NODE_WIDTH;
+use reach::add_paths;
+use reach::start_counts;
 use steps::Clipped;
 use steps::Run;
 use tables::edge_from;
@@ -207,6 +210,37 @@ fn widen(t: &mut [i64], v: usize, s: Span)
     put_span(t, v, joined(s, span_at(t, v)));
 }
 
+// Sets the spans of the first `count` nodes to what they are before a pass: the extent at the leaf, none with a bit address at the others.
+fn start_windows(extents: &[i64], leaf: usize, count: usize, windows: &mut [i64])
+    requires { ⌜ (leaf < count) × (2 * count ≤ length (now extents)) × (2 * count ≤ length (now windows)) ⌝ }
+    ensures { λ _. ⌜
+        now (windows .exit)
+        ≡ setSpan (spansOf (λ _. nowhere) count ++ drop (2 * count) (now (windows .entry))) leaf (spanAt (now (extents .entry)) leaf) ⌝ }
+{
+    clear_spans(windows, count);
+    put_span(windows, leaf, span_at(extents, leaf));
+}
+
+// Widens the window of the node that edge e leaves by what the edge carries back from the window of the node that it enters.
+fn carry_back(
+    extents: &[i64],
+    offsets: &[i64],
+    e: usize,
+    from: usize,
+    to: usize,
+    windows: &mut [i64],
+)
+    requires { ⌜ Crossable (now extents) (now offsets) (now windows) e from to ⌝ }
+    ensures { λ _. ⌜
+        now (windows .exit)
+        ≡ widened (carriedBy (now (extents .entry)) (now (offsets .entry)) (now (windows .entry)) e from to) from (now (windows .entry)) ⌝ }
+{
+    let offset = offsets[e];
+    let onward = span_at(windows, to);
+    let back = carried(span_at(extents, from), Bits::of(offset), onward);
+    widen(windows, from, back);
+}
+
 // Sets span v of `windows`, for each node v, to its window for the leaf. One pass over the edges in an order that has each edge behind all edges
 // that leave the node it enters.
 pub fn find_windows(
@@ -222,19 +256,50 @@ pub fn find_windows(
     ensures { λ _. ⌜
         now (windows .exit) ≡ windowsOver (graphOf (now (nodes .entry)) (now (edges .entry))) (pos leaf) (now (windows .entry)) ⌝ }
 {
-    clear_spans(windows, nodes.len() / NODE_WIDTH);
-    put_span(windows, leaf, span_at(extents, leaf));
+    start_windows(extents, leaf, nodes.len() / NODE_WIDTH, windows);
     let count = edges.len() / EDGE_WIDTH;
     let mut i = 0;
     while i < count {
         let e = order[i];
         let from = edge_from(edges, e);
         let to = edge_to(edges, e);
-        let offset = offsets[e];
-        let onward = span_at(windows, to);
-        let back = carried(span_at(extents, from), Bits::of(offset), onward);
-        widen(windows, from, back);
+        carry_back(extents, offsets, e, from, to, windows);
         i += 1;
+    }
+}
+
+// Sets counts[v], for each node v, to the number of paths from v to the leaf, as reach::count_paths does, and span v of `windows` to its window.
+// One pass over the edges in the same order. An edge into a node without a path to the leaf adds no path and carries nothing back: it is passed over.
+pub fn sweep_back(
+    nodes: &[i64],
+    edges: &[i64],
+    order: &[usize],
+    leaf: usize,
+    extents: &[i64],
+    offsets: &[i64],
+    counts: &mut [usize],
+    windows: &mut [i64],
+)
+    requires { ⌜
+        Countable (now nodes) (now edges) (now order) leaf (now counts)
+        × Windowable (now nodes) (now edges) (now order) leaf (now extents) (now offsets) (now windows) ⌝ }
+    ensures { λ _. ⌜ now (counts .exit) ≡ countsOver (graphOf (now (nodes .entry)) (now (edges .entry))) (pos leaf) (now (counts .entry)) ⌝ }
+    ensures { λ _. ⌜ now (windows .exit) ≡ windowsOver (graphOf (now (nodes .entry)) (now (edges .entry))) (pos leaf) (now (windows .entry)) ⌝ }
+{
+    start_counts(counts, nodes.len() / NODE_WIDTH, leaf);
+    start_windows(extents, leaf, nodes.len() / NODE_WIDTH, windows);
+    let count = edges.len() / EDGE_WIDTH;
+    let mut i = 0;
+    while i < count {
+        let e = order[i];
+        i += 1;
+        let from = edge_from(edges, e);
+        let to = edge_to(edges, e);
+        let more = counts[to];
+        if more != 0 {
+            add_paths(counts, from, more);
+            carry_back(extents, offsets, e, from, to, windows);
+        }
     }
 }
 

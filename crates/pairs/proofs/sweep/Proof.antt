@@ -1,17 +1,16 @@
--- The paths are counted, the edges linked by the counts, and the windows found.
+-- The paths are counted and the windows found in one pass, and the edges are linked by the counts.
 use Rattle.pairs.proofs.Sweeps.{sweep-countable, sweep-linkable, sweep-windowable}
 use borrow.Author.Needs.{needs}
 use Rattle.pairs.proofs.sweep.Statement.{statement}
 use Rattle.pairs.proofs.sweep.Tie as tie
 
-count-paths-requires : tie.Need-count-paths-requires
-count-paths-requires c κs = sweep-countable (c .before .before .before .before .before .pre)
+sweep-back-requires : tie.Need-sweep-back-requires
+sweep-back-requires c κs = let s = c .before .before .before .before .before .before in (sweep-countable (s .pre), sweep-windowable (s .pre))
 
 link-edges-requires : tie.Need-link-edges-requires
-link-edges-requires c κs = let n = c .before .before .before .before .before in sweep-linkable (n .before .before .before .before .before .before .pre) (n .count-paths .kept .1 .1 .1 .1 .0)
-
-find-windows-requires : tie.Need-find-windows-requires
-find-windows-requires c κs = sweep-windowable (c .before .before .before .before .before .before .before .before .before .before .before .before .before .before .before .before .before .pre)
+link-edges-requires c κs =
+    let b = c .before .before .before .before .before .before in
+    sweep-linkable (b .before .before .before .before .before .before .before .pre) (b .sweep-back .kept .1 .1 .1 .1 .1 .1 .0)
 
 same-length : tie.Need-same-length
 same-length c = search needs
@@ -27,17 +26,16 @@ same-length-4 c = search needs
 
 returns : tie.Need-returns
 returns c =
-    let w = c .before in
-    let l = w .before .before .before .before .before .before in
-    (l .before .before .before .before .before .before .count-paths .ensures, (l .link-edges .ensures, w .find-windows .ensures))
+    let l = c .before .before .before .before in
+    let b = l .before .before .before .before .before .before .before in
+    (b .sweep-back .ensures .0, (l .link-edges .ensures, b .sweep-back .ensures .1))
 
 pub sweep-spec : {M : Type 1} → statement M
 sweep-spec =
     tie.close
     (tie.spec
-    count-paths-requires
+    sweep-back-requires
     link-edges-requires
-    find-windows-requires
     same-length
     same-length-2
     same-length-3

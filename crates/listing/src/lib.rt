@@ -51,7 +51,7 @@ fn arrival_row(nodes: &[i64], leaf: usize, a: Bits) -> Row
 }
 
 // Stores a row behind the first n rows of `out`. Returns how many rows stand there then.
-fn append_row(out: &mut [i64], n: usize, row: Row) -> usize
+pub fn append_row(out: &mut [i64], n: usize, row: Row) -> usize
     requires { ⌜ 3 * n + 3 ≤ length (now out) ⌝ }
     ensures { λ r. ⌜ Appended (row ∷ []) (now (out .entry)) (now (out .exit)) n r ⌝ }
 {
@@ -60,7 +60,7 @@ fn append_row(out: &mut [i64], n: usize, row: Row) -> usize
 }
 
 // The edge that a pass along the links goes on with behind edge e.
-fn edge_behind(next: &[usize], e: usize) -> usize
+pub fn edge_behind(next: &[usize], e: usize) -> usize
     requires { ⌜ e < length (now next) ⌝ }
     ensures { λ r. ⌜ r ≡ getD (now (next .entry)) e 0 ⌝ }
 {
@@ -100,26 +100,31 @@ pub fn list_from(
     if left == 0 {
         return n;
     }
+    let count = edges.len() / EDGE_WIDTH;
     let mut m = n;
     let mut e = head[v];
-    while e < edges.len() / EDGE_WIDTH {
+    while e < count {
         let to = tables::edge_to(edges, e);
         let crossed = windows::cross(offsets, windows, e, to, run);
         if let Clipped::Left(entered) = crossed {
-            m = list_from(
-                nodes,
-                edges,
-                head,
-                next,
-                offsets,
-                windows,
-                leaf,
-                to,
-                entered,
-                left - 1,
-                out,
-                m,
-            );
+            if to == leaf {
+                m = append_row(out, m, run_row(nodes, leaf, entered));
+            } else {
+                m = list_from(
+                    nodes,
+                    edges,
+                    head,
+                    next,
+                    offsets,
+                    windows,
+                    leaf,
+                    to,
+                    entered,
+                    left - 1,
+                    out,
+                    m,
+                );
+            }
         }
         e = edge_behind(next, e);
     }

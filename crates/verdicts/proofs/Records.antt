@@ -45,7 +45,7 @@ pub recordsFrom-start : (t : List ℤ) (n : ℕ) → recordsFrom t 0 n ≡ recor
 recordsFrom-start t n = ap (map ofRow) (rowsFrom-start t n)
 
 -- record i is one of the first n records
-recordAt-in : (t : List ℤ) (i n : ℕ) → i < n → recordAt t i ∈ recordsOf t n
+pub recordAt-in : (t : List ℤ) (i n : ℕ) → i < n → recordAt t i ∈ recordsOf t n
 recordAt-in t i n h =
     let all : i + (n - i) ≡ n = omega arith in
     let split : rowsOf t n ≡ rowsOf t i ++ (rowAt t i ∷ rowsFrom t (i + 1) n) =

@@ -1,8 +1,9 @@
 -- The measure is the remaining chain length. The loop's invariant is `Passing`, over what an edge gives of the run; the measure of the loop is what
 -- is left of the edges.
-use mathlib.Core.Path.{_≡_, ap, _∙_}
+use mathlib.Core.Path.{_≡_, sym, ap, _∙_}
 use mathlib.Core.List.{_∷_, [], flatMap}
 use mathlib.Core.Logic.{inl, inr}
+use mathlib.Core.Option.{some}
 use Prim.Native.Nat.{ℕ, _<_, _≤_, _+_, _-_, _*_, _/_}
 use native.Mathlib.Omega.{arith}
 use borrow.Author.Needs.{needs}
@@ -14,7 +15,9 @@ use Rattle.integers.proofs.Linear.{ints}
 use Rattle.model.specs.Rows.{Edge}
 use Rattle.model.specs.Graph.{Graph, graphOf, node, bitOffset}
 use Rattle.model.specs.Runs.{Run, shift, leaving}
-use Rattle.steps.specs.Steps.{runOf, living, livingOf}
+use Rattle.steps.specs.declared.Run.{Run as Held}
+use Rattle.steps.specs.declared.Clipped.the-variants.{Left}
+use Rattle.steps.specs.Steps.{runOf, living, livingOf, SmallRun}
 use Rattle.windows.specs.Windows.{cut, window}
 use Rattle.windows.proofs.Bits.{edge-shiftable}
 use Rattle.windows.proofs.Covering.{crossed-small}
@@ -65,11 +68,11 @@ claims t = (
 )
 
 abbrev Inv-loop : lts.InvT-loop
-Inv-loop nodes edges head next offsets windows leaf v run left out₀ n m₀ e₀ out m e =
+Inv-loop nodes edges head next offsets windows leaf v run left out₀ n count m₀ e₀ out m e =
     Passing nodes edges head next leaf v (runsOver (left - 1) (graphOf nodes edges) (pos leaf) (runOf run)) out₀ n out m e
 
 abbrev μ-loop : lts.MeasureT-loop
-μ-loop nodes edges head next offsets windows leaf v run left out₀ n m₀ e₀ out m e = length edges / 3 - e
+μ-loop nodes edges head next offsets windows leaf v run left out₀ n count m₀ e₀ out m e = length edges / 3 - e
 
 -- a run over an edge, cut by the window of the node entered
 abbrev narrowed : Graph → Edge → ℤ → Run → Run
@@ -172,34 +175,95 @@ module _ (t : ℕ) where
       let p = s .pre .1 in
       c .cross .ensures ∙ crossed-by-graph (p .0) (p .1) (i .before .loop .e) (i .loop-test .taken) (c .before .edge-to .ensures) (runOf (s .args .run))
 
+  module _ (x : lts.After-cross (claims t) (at t) reads.Post Inv-loop μ-loop) {h : Held} (p : x .cross .result ≡ Left h) where
+    -- what is left of the run, where the code finds some, is the run in the node entered
+    entered : let l = x .before .before .before in
+        let s = l .before .before .before .before .before .before in
+        let g = graphOf (s .args .nodes .now) (s .args .edges .now) in
+        some (runOf h) ≡ living (narrowed g (edgeAt (s .args .edges .now) (l .loop .e)) (pos (s .args .leaf)) (runOf (s .args .run)))
+    entered =
+        let l = x .before .before .before in
+        let s = l .before .before .before .before .before .before in
+        let g = graphOf (s .args .nodes .now) (s .args .edges .now) in
+        crossed-left (narrowed g (edgeAt (s .args .edges .now) (l .loop .e)) (pos (s .args .leaf)) (runOf (s .args .run))) p (crossed x)
+
+    -- it is small
+    entered-small : SmallRun (runOf h)
+    entered-small =
+        let i = x .before .before in
+        let l = i .before in
+        let s = l .before .before .before .before .before .before in
+        let a = s .pre .1 in
+        let edge = edge-in (s .args .nodes .now) (s .args .edges .now) (l .loop .e) (omega arith) in
+        let window = window-small (a .0) (a .1) (l .loop .e) (i .loop-test .taken) (x .before .edge-to .ensures) in
+        crossed-small (a .0 .tables .graph) edge window (a .3) entered
+
+    -- its rows are those that the edge gives
+    entered-rows : let l = x .before .before .before in
+        let s = l .before .before .before .before .before .before in
+        let g = graphOf (s .args .nodes .now) (s .args .edges .now) in
+        runRows (s .args .left - 1) g (pos (x .before .edge-to .result)) (pos (s .args .leaf)) (runOf h)
+        ≡ runsOver (s .args .left - 1) g (pos (s .args .leaf)) (runOf (s .args .run)) (edgeAt (s .args .edges .now) (l .loop .e))
+    entered-rows =
+        let l = x .before .before .before in
+        let s = l .before .before .before .before .before .before in
+        let a = s .pre .1 in
+        let taken = a .0 .tables .graph in
+        let edge = edge-in (s .args .nodes .now) (s .args .edges .now) (l .loop .e) (omega arith) in
+        over-left taken (taken-fit taken (a .0 .block)) (s .args .left - 1) (runOf (s .args .run)) (edgeAt (s .args .edges .now) (l .loop .e)) edge entered
+        (x .before .edge-to .ensures)
+
+    -- in the leaf this is one row
+    entered-leaf : let l = x .before .before .before in
+        let s = l .before .before .before .before .before .before in
+        let g = graphOf (s .args .nodes .now) (s .args .edges .now) in
+        x .before .edge-to .result ≡ s .args .leaf
+        → runRow (node g (pos (s .args .leaf))) (runOf h) ∷ []
+        ≡ runsOver (s .args .left - 1) g (pos (s .args .leaf)) (runOf (s .args .run)) (edgeAt (s .args .edges .now) (l .loop .e))
+    entered-leaf e =
+        let s = x .before .before .before .before .before .before .before .before .before in
+        let g = graphOf (s .args .nodes .now) (s .args .edges .now) in
+        sym (rows-leaf g (pos (x .before .edge-to .result)) (pos (s .args .leaf)) (runOf h) (small-some entered-small) (s .args .left - 1) (ap pos e))
+        ∙ entered-rows
+
   enum-known-crossed : lts.Need-enum-known-crossed (claims t) (at t) reads.Post Inv-loop μ-loop
   enum-known-crossed c = search needs
+
+  run-row-requires-2 : lts.Need-run-row-requires-2 (claims t) (at t) reads.Post Inv-loop μ-loop
+  run-row-requires-2 c κs =
+      let k = c .before .before .before in
+      let x = k .before .before in
+      let p = x .before .before .before .before .before .before .before .before .before .pre .1 in
+      (node-good (p .0 .tables) (p .0 .block .row), entered-small x (k .crossed .given .1))
+
+  append-row-requires-2 : lts.Need-append-row-requires-2 (claims t) (at t) reads.Post Inv-loop μ-loop
+  append-row-requires-2 c κs =
+      let b = c .before .before in
+      let k = b .before .before in
+      let x = k .before .before in
+      let i = x .before .before in
+      let l = i .before in
+      omega (arith, turn-room (l .loop .inv) (i .loop-test .taken) (room l), ap length (entered-leaf x (k .crossed .given .1) (b .if3 .taken)))
 
   sub-list-from : lts.Need-sub-list-from (claims t) (at t) reads.Post Inv-loop μ-loop
   sub-list-from c = omega arith
 
   list-from-requires : lts.Need-list-from-requires (claims t) (at t) reads.Post Inv-loop μ-loop
   list-from-requires c κs =
-      let k = c .before .before in
+      let k = c .before .before .before in
       let x = k .before .before in
       let i = x .before .before in
       let l = i .before in
       let s = l .before .before .before .before .before .before in
       let p = s .pre .1 in
-      let g = graphOf (s .args .nodes .now) (s .args .edges .now) in
-      let taken = p .0 .tables .graph in
-      let e = edgeAt (s .args .edges .now) (l .loop .e) in
-      let edge = edge-in (s .args .nodes .now) (s .args .edges .now) (l .loop .e) (omega arith) in
-      let to = x .before .edge-to .ensures in
-      let left = crossed-left (narrowed g e (pos (s .args .leaf)) (runOf (s .args .run))) (k .crossed .given .1) (crossed x) in
-      let rows = over-left taken (taken-fit taken (p .0 .block)) (s .args .left - 1) (runOf (s .args .run)) e edge left to in (
-        omega arith,
+      let left = k .crossed .given .1 in (
+        omega (arith, s .pre .0, l .before .before .if2 .left),
         (
           p .0,
           p .1,
-          entered-row (p .0) (l .loop .e) (i .loop-test .taken) to,
-          crossed-small taken edge (window-small (p .0) (p .1) (l .loop .e) (i .loop-test .taken) to) (p .3) left,
-          rw rows (turn-room (l .loop .inv) (i .loop-test .taken) (room l)),
+          entered-row (p .0) (l .loop .e) (i .loop-test .taken) (x .before .edge-to .ensures),
+          entered-small x left,
+          rw (entered-rows x left) (turn-room (l .loop .inv) (i .loop-test .taken) (room l)),
         ),
       )
 
@@ -224,19 +288,17 @@ module _ (t : ℕ) where
       let p = s .pre .1 in
       let g = graphOf (s .args .nodes .now) (s .args .edges .now) in
       let taken = p .0 .tables .graph in
-      let fit = taken-fit taken (p .0 .block) in
       let e = edgeAt (s .args .edges .now) (l .loop .e) in
-      let run = narrowed g e (pos (s .args .leaf)) (runOf (s .args .run)) in
       let edge = edge-in (s .args .nodes .now) (s .args .edges .now) (l .loop .e) (omega arith) in
       let next = turn-next (l .loop .inv) (i .loop-test .taken) (room l) in
       rw (c .edge-behind .ensures) (elim (j .match .came) [
         | inl w ↦
-            let left = crossed-left run (w .1 .given .1) (crossed x) in
-            let rows = over-left taken fit (s .args .left - 1) (runOf (s .args .run)) e edge left (x .before .edge-to .ensures) in
-            next (rw (← rows, w .6, w .7) (w .4 .ensures))
-        | inr w ↦
-            let nothing = crossed-nothing run (w .1 .given .1) (crossed x) in
-            let rows = over-nothing taken fit (s .args .left - 1) (runOf (s .args .run)) e edge nothing in
+            let row = entered-leaf x (w .1 .given .1) (w .3 .taken) in
+            next (rw (← row, ← w .5 .ensures (s .args .edges .now), w .8, w .9) (w .6 .ensures))
+        | inr (inl w) ↦ next (rw (← entered-rows x (w .1 .given .1), w .7, w .8) (w .5 .ensures))
+        | inr (inr w) ↦
+            let nothing = crossed-nothing (narrowed g e (pos (s .args .leaf)) (runOf (s .args .run))) (w .1 .given .1) (crossed x) in
+            let rows = over-nothing taken (taken-fit taken (p .0 .block)) (s .args .left - 1) (runOf (s .args .run)) e edge nothing in
             next (rw (← rows, w .2, w .3) (append-none (l .loop .out) (l .loop .m)))
       ])
 
@@ -261,6 +323,8 @@ pub +list-from-spec : {M : Type 1} → statement M
     (edge-to-requires t)
     (cross-requires t)
     (enum-known-crossed t)
+    (run-row-requires-2 t)
+    (append-row-requires-2 t)
     (sub-list-from t)
     (list-from-requires t)
     (enum-told t)

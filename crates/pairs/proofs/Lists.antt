@@ -27,6 +27,7 @@ use Rattle.model.proofs.ListLaw.{list-of-reached}
 use Rattle.reach.specs.Counting.{pathCount, stopped, countsOf, countsOver, valuesOf}
 use Rattle.reach.proofs.Values.{values-length}
 use Rattle.reach.proofs.Reaching.{count-at}
+use Rattle.sharing.specs.declared.Shared.{Shared}
 use Rattle.verdicts.specs.Records.{SmallRecords, NormalList, recordsOf}
 use Rattle.verdicts.proofs.Records.{recordsOf-front, stored-normal}
 use Rattle.pairs.specs.Inputs.{FewPaths, ListReady}
@@ -61,8 +62,8 @@ list-few g r l h =
 
 -- ---- the counts of a swept graph
 
-module _ {ns es : List ℤ} {root : ℕ} {leaf : ℤ} {counts head next : List ℕ} {offsets windows work e : List ℤ}
-    (p : ListReady ns es (pos root) leaf counts head next offsets windows work e)
+module _ {ns es : List ℤ} {root : ℕ} {leaf : ℤ} {counts head next : List ℕ} {offsets windows : List ℤ} {shared : Shared}
+    {kept work e : List ℤ} (p : ListReady ns es (pos root) leaf counts head next offsets windows shared kept work e)
   where
     -- the root is one of the nodes
     root-below : root < length (graphOf ns es .nodes)
@@ -126,8 +127,8 @@ numbers-count (r ∷ rs) = let h = numbers-count rs in omega arith
 pub listed-records : {records : List Record} {work : List ℤ} {n : ℕ} → Listed records work n → recordsOf work n ≡ records
 listed-records {work} {n} p = recordsOf-front work n (sym (p .count)) (p .numbers)
 
-module _ {ns es : List ℤ} {root leaf : ℕ} {counts head next : List ℕ} {offsets windows w e : List ℤ}
-    (p : ListReady ns es (pos root) (pos leaf) counts head next offsets windows w e)
+module _ {ns es : List ℤ} {root leaf : ℕ} {counts head next : List ℕ} {offsets windows : List ℤ} {shared : Shared} {kept w e : List ℤ}
+    (p : ListReady ns es (pos root) (pos leaf) counts head next offsets windows shared kept w e)
   where
     -- the bitmapping list in front of a work area is a normal list there
     pub listed-normal : {work : List ℤ} {n : ℕ} → Listed (listOf (graphOf ns es) (pos root) (pos leaf)) work n → NormalList work n

@@ -18,6 +18,8 @@ use Rattle.reach.specs.Counting.{countsOver}
 use Rattle.windows.specs.Tables.{spanWidth, ExtentsIn, OffsetsIn}
 use Rattle.listing.specs.Listing.{LinkedTo, Windowed}
 use Rattle.pairing.specs.Pairs.{pairAt}
+use Rattle.sharing.specs.declared.Shared.{Shared}
+use Rattle.sharing.specs.Sharing.{Keeps}
 
 -- tables that the checks of the inputs take: two taken graphs, and pairs of their roots and of their leaves
 pub record Inputs (t : Tables) : Type 0 where
@@ -83,20 +85,26 @@ pub record BothSwept (t : Tables) (j : ℕ) (specCounts specHead specNext : List
   pub spec : Swept (t .specNodes) (t .specEdges) (pairAt (t .leafPairs) j .spec) specCounts specHead specNext specOffsets specWindows
   pub impl : Swept (t .implNodes) (t .implEdges) (pairAt (t .leafPairs) j .impl) implCounts implHead implNext implOffsets implWindows
 
--- what a list along the links starts from: a swept graph, a root with few paths, and room for a record a path
-pub record ListReady (ns es : List ℤ) (root leaf : ℤ) (counts head next : List ℕ) (offsets windows work spare : List ℤ) : Type 0 where
+-- what a list along the links starts from: a swept graph, the kept list of its shared node, a root with few paths, and room for a record a path
+pub record ListReady (ns es : List ℤ) (root leaf : ℤ) (counts head next : List ℕ) (offsets windows : List ℤ) (shared : Shared) (kept work spare : List ℤ) : Type 0 where
   pub swept : Swept ns es leaf counts head next offsets windows
+  pub keeps : Keeps ns es (natAbs leaf) shared kept
   pub row : NodeRow (graphOf ns es) root
   pub few : FewPaths (graphOf ns es) root leaf
   pub workRoom : 3 * maxPaths ≤ length work
   pub spareRoom : 3 * maxPaths ≤ length spare
 
--- what the pairs of leaf row j start from: checked tables with few paths, both graphs swept, and room for two lists
-pub record LeafReady (t : Tables) (j : ℕ) (specCounts specHead specNext : List ℕ) (specOffsets specWindows : List ℤ) (implCounts implHead implNext : List ℕ) (implOffsets implWindows specWork implWork spare : List ℤ) : Type 0 where
+-- what the pairs of leaf row j start from: checked tables with few paths, both graphs swept, the kept list of the shared node of each, and room for
+-- two lists
+pub record LeafReady (t : Tables) (j : ℕ) (specCounts specHead specNext : List ℕ) (specOffsets specWindows : List ℤ) (specShared : Shared) (specKept : List ℤ)
+    (implCounts implHead implNext : List ℕ) (implOffsets implWindows : List ℤ) (implShared : Shared) (implKept specWork implWork spare : List ℤ)
+    : Type 0 where
   pub inputs : Inputs t
   pub few : AllFew t
   pub row : j < length (t .leafPairs) / pairWidth
   pub swept : BothSwept t j specCounts specHead specNext specOffsets specWindows implCounts implHead implNext implOffsets implWindows
+  pub specKeeps : Keeps (t .specNodes) (t .specEdges) (natAbs (pairAt (t .leafPairs) j .spec)) specShared specKept
+  pub implKeeps : Keeps (t .implNodes) (t .implEdges) (natAbs (pairAt (t .leafPairs) j .impl)) implShared implKept
   pub specRoom : 3 * maxPaths ≤ length specWork
   pub implRoom : 3 * maxPaths ≤ length implWork
   pub spareRoom : 3 * maxPaths ≤ length spare

@@ -16,17 +16,17 @@ ghost use Rattle.verdicts.specs.Records.{recordsOf, NormalList};
 ghost use Rattle.pairs.specs.Inputs.{findingAt, Sweepable, ListReady, LeafReady};
 ghost use Rattle.pairs.specs.Entering.{EntersNodes, isEntered};
 ghost use Rattle.pairs.specs.Found.{Listed, IsFound, IsFinding};
-use listing::list_linked;
 use model::EDGE_WIDTH;
 use model::PAIR_WIDTH;
 use model::ROOT_STRIDE;
 use model::Verdict;
-use reach::count_paths;
 use reach::link_edges;
+use sharing::Shared;
+use sharing::list_shared;
 use tables::edge_to;
 use verdicts::lowest_of;
 use verdicts::verdict_of;
-use windows::find_windows;
+use windows::sweep_back;
 
 // What is found of a pair: its verdict, the lengths of its lists, and the lowest bit address at which they differ, -1 where they do not.
 pub struct Found {
@@ -92,7 +92,7 @@ pub fn either_entered(
     entered(impl_edges, impl_leaf)
 }
 
-// Sweeps a graph for a leaf: counts the paths to it from each node, links the edges that can still reach it, and finds the windows of the nodes.
+// Sweeps a graph for a leaf: counts the paths to it from each node, finds the windows of the nodes, and links the edges that can still reach it.
 pub fn sweep(
     nodes: &[i64],
     edges: &[i64],
@@ -113,9 +113,8 @@ pub fn sweep(
         (now (head .entry)) (now (next .entry)) (now (head .exit)) (now (next .exit)) ⌝ }
     ensures { λ _. ⌜ now (windows .exit) ≡ windowsOver (graphOf (now (nodes .entry)) (now (edges .entry))) (pos leaf) (now (windows .entry)) ⌝ }
 {
-    count_paths(nodes, edges, order, leaf, counts);
+    sweep_back(nodes, edges, order, leaf, extents, offsets, counts, windows);
     link_edges(nodes, edges, counts, head, next);
-    find_windows(nodes, edges, order, leaf, extents, offsets, windows);
 }
 
 // Lists the bitmapping list of a root and the leaf that the graph is swept for, in front of `work`. Returns how many records it has. Where no
@@ -130,17 +129,20 @@ fn list_swept(
     next: &[usize],
     offsets: &[i64],
     windows: &[i64],
+    shared: Shared,
+    kept: &[i64],
     work: &mut [i64],
     spare: &mut [i64],
 ) -> usize
     requires { ⌜
-        ListReady (now nodes) (now edges) (pos root) (pos leaf) (now counts) (now head) (now next) (now offsets) (now windows) (now work) (now spare) ⌝ }
+        ListReady (now nodes) (now edges) (pos root) (pos leaf) (now counts) (now head) (now next) (now offsets) (now windows)
+        shared (now kept) (now work) (now spare) ⌝ }
     ensures { λ r. ⌜ Listed (listOf (graphOf (now (nodes .entry)) (now (edges .entry))) (pos root) (pos leaf)) (now (work .exit)) r ⌝ }
 {
     if counts[root] == 0 {
         return 0;
     }
-    list_linked(
+    list_shared(
         nodes,
         edges,
         root,
@@ -149,6 +151,8 @@ fn list_swept(
         next,
         offsets,
         windows,
+        shared,
+        kept,
         work,
         spare,
     )
@@ -184,19 +188,24 @@ pub fn pair_found(
     spec_next: &[usize],
     spec_offsets: &[i64],
     spec_windows: &[i64],
+    spec_shared: Shared,
+    spec_kept: &[i64],
     impl_counts: &[usize],
     impl_head: &[usize],
     impl_next: &[usize],
     impl_offsets: &[i64],
     impl_windows: &[i64],
+    impl_shared: Shared,
+    impl_kept: &[i64],
     spec_work: &mut [i64],
     impl_work: &mut [i64],
     spare: &mut [i64],
 ) -> Found
     requires { ⌜
         LeafReady (tablesOf (now «spec_nodes») (now «spec_edges») (now «impl_nodes») (now «impl_edges») (now «root_pairs») (now «leaf_pairs»)) «leaf_row»
-        (now «spec_counts») (now «spec_head») (now «spec_next») (now «spec_offsets») (now «spec_windows»)
-        (now «impl_counts») (now «impl_head») (now «impl_next») (now «impl_offsets») (now «impl_windows») (now «spec_work») (now «impl_work») (now spare)
+        (now «spec_counts») (now «spec_head») (now «spec_next») (now «spec_offsets») (now «spec_windows») «spec_shared» (now «spec_kept»)
+        (now «impl_counts») (now «impl_head») (now «impl_next») (now «impl_offsets») (now «impl_windows») «impl_shared» (now «impl_kept»)
+        (now «spec_work») (now «impl_work») (now spare)
         × («root_row» < length (now «root_pairs») / 2) ⌝ }
     ensures { λ r. ⌜
         IsFinding
@@ -217,6 +226,8 @@ pub fn pair_found(
         spec_next,
         spec_offsets,
         spec_windows,
+        spec_shared,
+        spec_kept,
         spec_work,
         spare,
     );
@@ -232,6 +243,8 @@ pub fn pair_found(
         impl_next,
         impl_offsets,
         impl_windows,
+        impl_shared,
+        impl_kept,
         impl_work,
         spare,
     );

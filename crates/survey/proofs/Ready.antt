@@ -1,22 +1,22 @@
 -- Leaf rows one after the other: each graph can be swept for the leaf row, and then its pairs can be found. Counts, heads and nexts are sc, sh and
--- sx for the specification, mc, mh and mx for the implementation; extents, bit offsets and windows are st, sf and sv, mt, mf and mv; work areas are
--- sw, mw and e.
+-- sx for the specification, mc, mh and mx for the implementation; extents, bit offsets and windows are st, sf and sv, mt, mf and mv; shared nodes and
+-- their kept lists are sd and sk, md and mk; work areas are sw, mw and e.
 use mathlib.Core.Path.{_≡_, subst}
 use mathlib.Core.List.{List}
 use Prim.Native.Nat.{ℕ, _*_, _/_, _≤_, _<_}
 use native.Mathlib.Omega.{arith}
-use lib.IntN.{ℤ, pos}
+use lib.IntN.{ℤ, pos, natAbs}
 use lib.ListN.{length}
-use Rattle.model.specs.Limits.{pairWidth, maxNodes, maxEdges}
+use Rattle.model.specs.Limits.{pairWidth, maxPaths}
 use Rattle.model.specs.Graph.{graphOf}
-use Rattle.model.specs.Paths.{Leaf}
-use Rattle.model.specs.Taken.{TakenTables}
 use Rattle.model.specs.Compare.{Tables, specGraph, implGraph}
 use Rattle.pairing.specs.Pairs.{pairAt}
-use Rattle.windows.specs.Tables.{spanWidth, extentsOver, offsetsOver, ExtentsIn, OffsetsIn}
+use Rattle.windows.specs.Tables.{extentsOver, offsetsOver}
 use Rattle.windows.proofs.Bits.{extents-in, offsets-in}
+use Rattle.sharing.specs.declared.Shared.{Shared}
+use Rattle.sharing.specs.Sharing.{Keeps, Keepable}
 use Rattle.pairs.specs.Entering.{EntersNodes}
-use Rattle.pairs.specs.Inputs.{Inputs, InOrder, Sweepable, Swept, BothSwept, LeafReady}
+use Rattle.pairs.specs.Inputs.{Inputs, Sweepable, Swept, BothSwept, LeafReady}
 use Rattle.survey.specs.Inputs.{Measured, AllReady}
 use Rattle.survey.proofs.Sizes.{SweepSizes, WorkSizes}
 use Rattle.pairs.proofs.Inputs.{row-leaves}
@@ -31,24 +31,35 @@ module _ {t : Tables} (k : Inputs t) where
   unfolding graphOf
   impl-enters e m = k .impl .graph .ends e m .1 .low
 
+-- once a graph is swept, the list of a node can be kept
+pub swept-keepable : {ns es : List ℤ} {leaf : ℕ} {counts head next : List ℕ} {offsets windows kept spare : List ℤ}
+    → Swept ns es (pos leaf) counts head next offsets windows → 3 * maxPaths ≤ length kept → 3 * maxPaths ≤ length spare
+    → Keepable ns es leaf counts head next offsets windows kept spare
+swept-keepable p a b =
+    record { linked = p .linked; windowed = p .windowed; held = p .held; counted = p .counted; keptRoom = a; spareRoom = b }
+
 -- the work areas may be those that other pairs were found in
-pub leaf-ready-on : {t : Tables} {j : ℕ} {sc sh sx mc mh mx : List ℕ} {sf sv mf mv sw mw e sw′ mw′ e′ : List ℤ}
-    → LeafReady t j sc sh sx sf sv mc mh mx mf mv sw mw e → WorkSizes sw mw e sw′ mw′ e′ → LeafReady t j sc sh sx sf sv mc mh mx mf mv sw′ mw′ e′
+pub leaf-ready-on : {t : Tables} {j : ℕ} {sc sh sx mc mh mx : List ℕ} {sf sv mf mv sk mk sw mw e sw′ mw′ e′ : List ℤ} {sd md : Shared}
+    → LeafReady t j sc sh sx sf sv sd sk mc mh mx mf mv md mk sw mw e → WorkSizes sw mw e sw′ mw′ e′
+    → LeafReady t j sc sh sx sf sv sd sk mc mh mx mf mv md mk sw′ mw′ e′
 leaf-ready-on k p =
     record {
       inputs = k .inputs;
       few = k .few;
       row = k .row;
       swept = k .swept;
+      specKeeps = k .specKeeps;
+      implKeeps = k .implKeeps;
       specRoom = omega (arith, k .specRoom, p .spec);
       implRoom = omega (arith, k .implRoom, p .impl);
       spareRoom = omega (arith, k .spareRoom, p .spare);
     }
 
 -- all buffers may be those that other leaf rows were worked through in
-pub all-ready-on : {t : Tables} {so mo sc sh sx mc mh mx sc′ sh′ sx′ mc′ mh′ mx′ : List ℕ} {st sf mt mf sv mv sv′ mv′ sw mw e sw′ mw′ e′ : List ℤ}
-    → AllReady t so mo st sf mt mf sc sh sx sv mc mh mx mv sw mw e → SweepSizes sc sh sx sv sc′ sh′ sx′ sv′ → SweepSizes mc mh mx mv mc′ mh′ mx′ mv′
-    → WorkSizes sw mw e sw′ mw′ e′ → AllReady t so mo st sf mt mf sc′ sh′ sx′ sv′ mc′ mh′ mx′ mv′ sw′ mw′ e′
+pub all-ready-on : {t : Tables} {so mo sc sh sx mc mh mx sc′ sh′ sx′ mc′ mh′ mx′ : List ℕ} {st sf mt mf sv mv sk mk sv′ mv′ sk′ mk′ sw mw e sw′ mw′ e′ : List ℤ}
+    → AllReady t so mo st sf mt mf sc sh sx sv sk mc mh mx mv mk sw mw e → SweepSizes sc sh sx sv sk sc′ sh′ sx′ sv′ sk′
+    → SweepSizes mc mh mx mv mk mc′ mh′ mx′ mv′ mk′ → WorkSizes sw mw e sw′ mw′ e′
+    → AllReady t so mo st sf mt mf sc′ sh′ sx′ sv′ sk′ mc′ mh′ mx′ mv′ mk′ sw′ mw′ e′
 all-ready-on k p q w =
     record {
       ordered = k .ordered;
@@ -58,58 +69,61 @@ all-ready-on k p q w =
       specHeadRoom = omega (arith, k .specHeadRoom, p .head);
       specNextRoom = omega (arith, k .specNextRoom, p .next);
       specWindowRoom = omega (arith, k .specWindowRoom, p .windows);
+      specKeptRoom = omega (arith, k .specKeptRoom, p .kept);
       implCountRoom = omega (arith, k .implCountRoom, q .counts);
       implHeadRoom = omega (arith, k .implHeadRoom, q .head);
       implNextRoom = omega (arith, k .implNextRoom, q .next);
       implWindowRoom = omega (arith, k .implWindowRoom, q .windows);
+      implKeptRoom = omega (arith, k .implKeptRoom, q .kept);
       specRoom = omega (arith, k .specRoom, w .spec);
       implRoom = omega (arith, k .implRoom, w .impl);
       spareRoom = omega (arith, k .spareRoom, w .spare);
     }
 
--- buffers that have room, and keep their sizes, serve for the sweep
-sweep-ready : {ns es extents offsets windows windows′ : List ℤ} {order counts head next counts′ head′ next′ : List ℕ} {l : ℤ} {leaf : ℕ} → TakenTables ns es
-    → InOrder es order → Leaf (graphOf ns es) l → pos leaf ≡ l → ExtentsIn ns es extents → OffsetsIn ns es offsets → maxNodes ≤ length counts
-    → maxNodes ≤ length head → maxEdges ≤ length next → spanWidth * maxNodes ≤ length windows
-    → SweepSizes counts head next windows counts′ head′ next′ windows′
-    → Sweepable ns es order (pos leaf) extents offsets counts′ head′ next′ windows′
-sweep-ready {ns} {es} k o f e x y a b c d p =
-    record {
-      tables = k;
-      inOrder = o;
-      block = rw e f;
-      countRoom = omega (arith, a, p .counts);
-      headRoom = omega (arith, b, p .head);
-      nextRoom = omega (arith, c, p .next);
-      nodeBits = x;
-      edgeBits = y;
-      windowRoom = omega (arith, d, p .windows);
-    }
-
-module _ {t : Tables} {so mo sc sh sx mc mh mx : List ℕ} {st sf mt mf sv mv sw mw e : List ℤ}
-    (k : AllReady t so mo st sf mt mf sc sh sx sv mc mh mx mv sw mw e) (j : ℕ) (h : j < length (t .leafPairs) / pairWidth)
+module _ {t : Tables} {so mo sc sh sx mc mh mx : List ℕ} {st sf mt mf sv mv sk mk sw mw e : List ℤ}
+    (k : AllReady t so mo st sf mt mf sc sh sx sv sk mc mh mx mv mk sw mw e) (j : ℕ) (h : j < length (t .leafPairs) / pairWidth)
   where
     -- the specification can be swept for the leaf row
-    pub spec-sweepable : {counts head next : List ℕ} {windows : List ℤ} {leaf : ℕ} → pos leaf ≡ pairAt (t .leafPairs) j .spec
-        → SweepSizes sc sh sx sv counts head next windows → Sweepable (t .specNodes) (t .specEdges) so (pos leaf) st sf counts head next windows
-    spec-sweepable q p =
+    pub spec-sweepable : {leaf : ℕ} → pos leaf ≡ pairAt (t .leafPairs) j .spec
+        → Sweepable (t .specNodes) (t .specEdges) so (pos leaf) st sf sc sh sx sv
+    spec-sweepable q =
         let inputs = k .ordered .inputs in
-        sweep-ready (inputs .spec) (k .ordered .inSpec) (row-leaves inputs j h .0) q (k .measured .specNodes) (k .measured .specEdges) (k .specCountRoom)
-        (k .specHeadRoom) (k .specNextRoom) (k .specWindowRoom) p
+        record {
+          tables = inputs .spec;
+          inOrder = k .ordered .inSpec;
+          block = rw q (row-leaves inputs j h .0);
+          countRoom = k .specCountRoom;
+          headRoom = k .specHeadRoom;
+          nextRoom = k .specNextRoom;
+          nodeBits = k .measured .specNodes;
+          edgeBits = k .measured .specEdges;
+          windowRoom = k .specWindowRoom;
+        }
 
     -- and so can the implementation
-    pub impl-sweepable : {counts head next : List ℕ} {windows : List ℤ} {leaf : ℕ} → pos leaf ≡ pairAt (t .leafPairs) j .impl
-        → SweepSizes mc mh mx mv counts head next windows → Sweepable (t .implNodes) (t .implEdges) mo (pos leaf) mt mf counts head next windows
-    impl-sweepable q p =
+    pub impl-sweepable : {leaf : ℕ} → pos leaf ≡ pairAt (t .leafPairs) j .impl
+        → Sweepable (t .implNodes) (t .implEdges) mo (pos leaf) mt mf mc mh mx mv
+    impl-sweepable q =
         let inputs = k .ordered .inputs in
-        sweep-ready (inputs .impl) (k .ordered .inImpl) (row-leaves inputs j h .1) q (k .measured .implNodes) (k .measured .implEdges) (k .implCountRoom)
-        (k .implHeadRoom) (k .implNextRoom) (k .implWindowRoom) p
+        record {
+          tables = inputs .impl;
+          inOrder = k .ordered .inImpl;
+          block = rw q (row-leaves inputs j h .1);
+          countRoom = k .implCountRoom;
+          headRoom = k .implHeadRoom;
+          nextRoom = k .implNextRoom;
+          nodeBits = k .measured .implNodes;
+          edgeBits = k .measured .implEdges;
+          windowRoom = k .implWindowRoom;
+        }
 
     -- then the pairs of the leaf row can be found
-    pub leaf-ready : {sc′ sh′ sx′ mc′ mh′ mx′ : List ℕ} {sv′ mv′ sw′ mw′ e′ : List ℤ} {s m : ℕ} → pos s ≡ pairAt (t .leafPairs) j .spec → pos m ≡ pairAt (t .leafPairs) j .impl
-        → Swept (t .specNodes) (t .specEdges) (pos s) sc′ sh′ sx′ sf sv′ → Swept (t .implNodes) (t .implEdges) (pos m) mc′ mh′ mx′ mf mv′
-        → WorkSizes sw mw e sw′ mw′ e′ → LeafReady t j sc′ sh′ sx′ sf sv′ mc′ mh′ mx′ mf mv′ sw′ mw′ e′
-    leaf-ready {sc′} {sh′} {sx′} {mc′} {mh′} {mx′} {sv′} {mv′} q f a c p =
+    pub leaf-ready : {sc′ sh′ sx′ mc′ mh′ mx′ : List ℕ} {sv′ mv′ sk′ mk′ sw′ mw′ e′ : List ℤ} {sd md : Shared} {s m : ℕ}
+        → pos s ≡ pairAt (t .leafPairs) j .spec → pos m ≡ pairAt (t .leafPairs) j .impl
+        → Swept (t .specNodes) (t .specEdges) (pos s) sc′ sh′ sx′ sf sv′ → Keeps (t .specNodes) (t .specEdges) s sd sk′
+        → Swept (t .implNodes) (t .implEdges) (pos m) mc′ mh′ mx′ mf mv′ → Keeps (t .implNodes) (t .implEdges) m md mk′
+        → WorkSizes sw mw e sw′ mw′ e′ → LeafReady t j sc′ sh′ sx′ sf sv′ sd sk′ mc′ mh′ mx′ mf mv′ md mk′ sw′ mw′ e′
+    leaf-ready {sc′} {sh′} {sx′} {mc′} {mh′} {mx′} {sv′} {mv′} {sk′} {mk′} {sd} {md} q f a b c d p =
         let swept : BothSwept t j sc′ sh′ sx′ sf sv′ mc′ mh′ mx′ mf mv′ = record {
           spec = subst (λ (l : ℤ). Swept (t .specNodes) (t .specEdges) l sc′ sh′ sx′ sf sv′) q a;
           impl = subst (λ (l : ℤ). Swept (t .implNodes) (t .implEdges) l mc′ mh′ mx′ mf mv′) f c;
@@ -119,6 +133,8 @@ module _ {t : Tables} {so mo sc sh sx mc mh mx : List ℕ} {st sf mt mf sv mv sw
           few = k .few;
           row = h;
           swept = swept;
+          specKeeps = subst (λ (l : ℤ). Keeps (t .specNodes) (t .specEdges) (natAbs l) sd sk′) q b;
+          implKeeps = subst (λ (l : ℤ). Keeps (t .implNodes) (t .implEdges) (natAbs l) md mk′) f d;
           specRoom = k .specRoom;
           implRoom = k .implRoom;
           spareRoom = k .spareRoom;

@@ -18,7 +18,8 @@ pub record Measured (t : Tables) (specExtents specOffsets implExtents implOffset
 -- what the pairs of all leaf rows start from: checked tables with few paths, the edges of both graphs in order, the bits of both graphs, and room for
 -- all that is computed
 pub record AllReady (t : Tables) (specOrder implOrder : List ℕ) (specExtents specOffsets implExtents implOffsets : List ℤ)
-    (specCounts specHead specNext : List ℕ) (specWindows : List ℤ) (implCounts implHead implNext : List ℕ) (implWindows specWork implWork spare : List ℤ)
+    (specCounts specHead specNext : List ℕ) (specWindows specKept : List ℤ) (implCounts implHead implNext : List ℕ)
+    (implWindows implKept specWork implWork spare : List ℤ)
     : Type 0 where
   pub ordered : Ordered t specOrder implOrder
   pub few : AllFew t
@@ -27,10 +28,12 @@ pub record AllReady (t : Tables) (specOrder implOrder : List ℕ) (specExtents s
   pub specHeadRoom : maxNodes ≤ length specHead
   pub specNextRoom : maxEdges ≤ length specNext
   pub specWindowRoom : spanWidth * maxNodes ≤ length specWindows
+  pub specKeptRoom : 3 * maxPaths ≤ length specKept
   pub implCountRoom : maxNodes ≤ length implCounts
   pub implHeadRoom : maxNodes ≤ length implHead
   pub implNextRoom : maxEdges ≤ length implNext
   pub implWindowRoom : spanWidth * maxNodes ≤ length implWindows
+  pub implKeptRoom : 3 * maxPaths ≤ length implKept
   pub specRoom : 3 * maxPaths ≤ length specWork
   pub implRoom : 3 * maxPaths ≤ length implWork
   pub spareRoom : 3 * maxPaths ≤ length spare

@@ -1,17 +1,19 @@
 // What is kept of all pairs of a comparison. Pairs are worked through leaf row by leaf row, since one sweep of a graph serves all roots of a leaf;
 // keys keep their places in visiting order.
 ghost use mathlib.Core.Path.{_≡_};
-ghost use Prim.Native.Nat.{_+_, _*_, _/_, _≤_, _<_};
+ghost use Prim.Native.Nat.{_+_, _*_, _/_, _≤_, _<_, _^_};
 ghost use lib.IntN.{pos};
 ghost use lib.ListN.{length};
-ghost use Rattle.model.specs.Limits.{maxPairs};
+ghost use Rattle.model.specs.Limits.{maxNodes, maxPairs, maxPaths};
 ghost use Rattle.model.specs.Answers.{verdictNumber};
 ghost use Rattle.pairing.specs.Pairs.{tablesOf};
 ghost use Rattle.visiting.specs.Visiting.{withVerdict};
-ghost use Rattle.pairs.specs.Inputs.{Ordered, AllFew, LeafReady};
+ghost use Rattle.sharing.specs.Sharing.{Keeps};
+ghost use Rattle.pairs.specs.Inputs.{Ordered, AllFew, Sweepable, Swept, LeafReady};
 ghost use Rattle.survey.specs.Lines.{Between, Collected, Sorts, FewFound, foundRow, foundRows};
 ghost use Rattle.survey.specs.Found.{asTotals, AtMost, placed, withCount, KeptMost, equalKept, freshKept, LeafKept, AllKept, SurveyPromise};
 ghost use Rattle.survey.specs.Inputs.{Measured, AllReady};
+use model::EDGE_WIDTH;
 use model::MAX_EDGES;
 use model::MAX_NODES;
 use model::PAIR_WIDTH;
@@ -24,11 +26,19 @@ use pairs::place_of;
 use pairs::spec_node;
 use pairs::sweep;
 use reporting::LENGTH_STRIDE;
+use sharing::Shared;
+use sharing::keep_list;
 use sorting::Row;
 use sorting::put_row;
 use sorting::sort_rows;
 use windows::MAX_ENDS;
 use windows::measure;
+
+// The column of a pair row that holds a node of the specification.
+const SPEC_COLUMN: usize = 0;
+
+// And the one that holds a node of the implementation.
+const IMPL_COLUMN: usize = 1;
 
 // Numbers of a line's row.
 const LINE_WIDTH: usize = 3;
@@ -169,11 +179,15 @@ fn found_of_leaf(
     spec_next: &[usize],
     spec_offsets: &[i64],
     spec_windows: &[i64],
+    spec_shared: Shared,
+    spec_kept: &[i64],
     impl_counts: &[usize],
     impl_head: &[usize],
     impl_next: &[usize],
     impl_offsets: &[i64],
     impl_windows: &[i64],
+    impl_shared: Shared,
+    impl_kept: &[i64],
     spec_work: &mut [i64],
     impl_work: &mut [i64],
     spare: &mut [i64],
@@ -184,8 +198,9 @@ fn found_of_leaf(
 ) -> Kept
     requires { ⌜
         LeafReady (tablesOf (now «spec_nodes») (now «spec_edges») (now «impl_nodes») (now «impl_edges») (now «root_pairs») (now «leaf_pairs»)) «leaf_row»
-        (now «spec_counts») (now «spec_head») (now «spec_next») (now «spec_offsets») (now «spec_windows»)
-        (now «impl_counts») (now «impl_head») (now «impl_next») (now «impl_offsets») (now «impl_windows») (now «spec_work») (now «impl_work») (now spare)
+        (now «spec_counts») (now «spec_head») (now «spec_next») (now «spec_offsets») (now «spec_windows») «spec_shared» (now «spec_kept»)
+        (now «impl_counts») (now «impl_head») (now «impl_next») (now «impl_offsets») (now «impl_windows») «impl_shared» (now «impl_kept»)
+        (now «spec_work») (now «impl_work») (now spare)
         × Between (tablesOf (now «spec_nodes») (now «spec_edges») (now «impl_nodes») (now «impl_edges») (now «root_pairs») (now «leaf_pairs»)) from to
         × KeptMost («leaf_row» * maxPairs) kept ⌝ }
     ensures { λ r. ⌜
@@ -211,11 +226,15 @@ fn found_of_leaf(
             spec_next,
             spec_offsets,
             spec_windows,
+            spec_shared,
+            spec_kept,
             impl_counts,
             impl_head,
             impl_next,
             impl_offsets,
             impl_windows,
+            impl_shared,
+            impl_kept,
             spec_work,
             impl_work,
             spare,
@@ -231,6 +250,176 @@ fn found_of_leaf(
     }
 }
 
+// A number of a table as a node, MAX_NODES where it is none.
+fn node_of(number: i64) -> usize
+    ensures { λ r. ⌜ r ≤ maxNodes ⌝ }
+{
+    if number < 0 {
+        return MAX_NODES;
+    }
+    let node = number as usize;
+    if MAX_NODES <= node {
+        return MAX_NODES;
+    }
+    node
+}
+
+// The node in a column of a root row, MAX_NODES where there is none.
+fn root_in(root_pairs: &[i64], row: usize, column: usize) -> usize
+    requires { ⌜ column < 2 ⌝ }
+    ensures { λ r. ⌜ r ≤ maxNodes ⌝ }
+{
+    if root_pairs.len() / PAIR_WIDTH <= row {
+        return MAX_NODES;
+    }
+    let number = root_pairs[PAIR_WIDTH * row + column];
+    node_of(number)
+}
+
+// The node that an edge row enters, MAX_NODES where there is none.
+fn entered_by(edges: &[i64], row: usize) -> usize
+    ensures { λ r. ⌜ r ≤ maxNodes ⌝ }
+{
+    if edges.len() / EDGE_WIDTH <= row {
+        return MAX_NODES;
+    }
+    let number = edges[EDGE_WIDTH * row + 1];
+    node_of(number)
+}
+
+// The node that the first linked edge of a root enters, MAX_NODES where no path leads from the root.
+fn first_entered(edges: &[i64], counts: &[usize], head: &[usize], root: usize) -> usize
+    ensures { λ r. ⌜ r ≤ maxNodes ⌝ }
+{
+    if counts.len() <= root {
+        return MAX_NODES;
+    }
+    if head.len() <= root {
+        return MAX_NODES;
+    }
+    if counts[root] == 0 {
+        return MAX_NODES;
+    }
+    let row = head[root];
+    entered_by(edges, row)
+}
+
+// A node, and by how many more roots it was entered than not.
+struct Lead {
+    node: usize,
+    roots: usize,
+}
+
+// The lead after one more root, which enters this node: a node leads that more than half of the roots enter.
+fn with_entered(lead: Lead, node: usize) -> Lead
+    requires { ⌜ (lead .node ≤ maxNodes) × (lead .roots + 1 < 2 ^ 64) × (node ≤ maxNodes) ⌝ }
+    ensures { λ r. ⌜ (r .node ≤ maxNodes) × (r .roots ≤ lead .roots + 1) ⌝ }
+{
+    if node == lead.node {
+        return Lead {
+            node: node,
+            roots: lead.roots + 1,
+        };
+    }
+    if lead.roots == 0 {
+        return Lead {
+            node: node,
+            roots: 1,
+        };
+    }
+    Lead {
+        node: lead.node,
+        roots: lead.roots - 1,
+    }
+}
+
+// The node that the first linked edges of more than half of the roots with a path enter, by two roots at least; where there is none, another node, or
+// MAX_NODES, of which no list is kept. Any node may be chosen, so that nothing is asked of the tables.
+fn shared_node(
+    edges: &[i64],
+    counts: &[usize],
+    head: &[usize],
+    root_pairs: &[i64],
+    column: usize,
+    from: usize,
+    to: usize,
+) -> usize
+    requires { ⌜ column < 2 ⌝ }
+    ensures { λ r. ⌜ r ≤ maxNodes ⌝ }
+{
+    let mut lead = Lead {
+        node: MAX_NODES,
+        roots: 0,
+    };
+    let mut row = from;
+    while row < to {
+        let node = first_entered(edges, counts, head, root_in(root_pairs, row, column));
+        if node < MAX_NODES {
+            lead = with_entered(lead, node);
+        }
+        row += 1;
+    }
+    if lead.roots < 2 {
+        return MAX_NODES;
+    }
+    lead.node
+}
+
+// Sweeps a graph for a leaf, and keeps the list of the node that its roots share, which stand in this column of the root rows `from`, .., `to` - 1.
+fn sweep_keeping(
+    nodes: &[i64],
+    edges: &[i64],
+    order: &[usize],
+    leaf: usize,
+    extents: &[i64],
+    offsets: &[i64],
+    root_pairs: &[i64],
+    column: usize,
+    from: usize,
+    to: usize,
+    counts: &mut [usize],
+    head: &mut [usize],
+    next: &mut [usize],
+    windows: &mut [i64],
+    kept: &mut [i64],
+    spare: &mut [i64],
+) -> Shared
+    requires { ⌜
+        Sweepable (now nodes) (now edges) (now order) (pos leaf) (now extents) (now offsets) (now counts) (now head) (now next) (now windows)
+        × (column < 2) × (3 * maxPaths ≤ length (now kept)) × (3 * maxPaths ≤ length (now spare)) ⌝ }
+    ensures { λ _. ⌜
+        Swept (now (nodes .entry)) (now (edges .entry)) (pos leaf)
+        (now (counts .exit)) (now (head .exit)) (now (next .exit)) (now (offsets .entry)) (now (windows .exit)) ⌝ }
+    ensures { λ r. ⌜ Keeps (now (nodes .entry)) (now (edges .entry)) leaf r (now (kept .exit)) ⌝ }
+{
+    sweep(
+        nodes,
+        edges,
+        order,
+        leaf,
+        extents,
+        offsets,
+        counts,
+        head,
+        next,
+        windows,
+    );
+    let node = shared_node(edges, counts, head, root_pairs, column, from, to);
+    keep_list(
+        nodes,
+        edges,
+        node,
+        leaf,
+        counts,
+        head,
+        next,
+        offsets,
+        windows,
+        kept,
+        spare,
+    )
+}
+
 // What is kept with so many more pairs that are equal and have no record.
 fn with_equal(kept: Kept, pairs: usize) -> Kept
     requires { ⌜ KeptMost (maxPairs * maxPairs) kept × (pairs ≤ maxPairs) ⌝ }
@@ -244,8 +433,8 @@ fn with_equal(kept: Kept, pairs: usize) -> Kept
     }
 }
 
-// What is kept with the pairs of one leaf row: one sweep of each graph serves all its roots. Where no edge enters either leaf there is no path, and
-// all pairs of the leaf row are equal.
+// What is kept with the pairs of one leaf row: one sweep of each graph, and the kept list of one of its nodes, serve all its roots. Where no edge
+// enters either leaf there is no path, and all pairs of the leaf row are equal.
 fn found_of_row(
     spec_nodes: &[i64],
     spec_edges: &[i64],
@@ -264,10 +453,12 @@ fn found_of_row(
     spec_head: &mut [usize],
     spec_next: &mut [usize],
     spec_windows: &mut [i64],
+    spec_kept: &mut [i64],
     impl_counts: &mut [usize],
     impl_head: &mut [usize],
     impl_next: &mut [usize],
     impl_windows: &mut [i64],
+    impl_kept: &mut [i64],
     spec_work: &mut [i64],
     impl_work: &mut [i64],
     spare: &mut [i64],
@@ -279,8 +470,9 @@ fn found_of_row(
     requires { ⌜
         AllReady (tablesOf (now «spec_nodes») (now «spec_edges») (now «impl_nodes») (now «impl_edges») (now «root_pairs») (now «leaf_pairs»))
         (now «spec_order») (now «impl_order») (now «spec_extents») (now «spec_offsets») (now «impl_extents») (now «impl_offsets»)
-        (now «spec_counts») (now «spec_head») (now «spec_next») (now «spec_windows»)
-        (now «impl_counts») (now «impl_head») (now «impl_next») (now «impl_windows») (now «spec_work») (now «impl_work») (now spare)
+        (now «spec_counts») (now «spec_head») (now «spec_next») (now «spec_windows») (now «spec_kept»)
+        (now «impl_counts») (now «impl_head») (now «impl_next») (now «impl_windows») (now «impl_kept»)
+        (now «spec_work») (now «impl_work») (now spare)
         × Between (tablesOf (now «spec_nodes») (now «spec_edges») (now «impl_nodes») (now «impl_edges») (now «root_pairs») (now «leaf_pairs»)) from to × («leaf_row» < length (now «leaf_pairs») / 2)
         × KeptMost («leaf_row» * maxPairs) kept ⌝ }
     ensures { λ r. ⌜
@@ -293,29 +485,41 @@ fn found_of_row(
     if !either_entered(spec_edges, spec_leaf, impl_edges, impl_leaf) {
         return with_equal(kept, to - from);
     }
-    sweep(
+    let spec_shared = sweep_keeping(
         spec_nodes,
         spec_edges,
         spec_order,
         spec_leaf,
         spec_extents,
         spec_offsets,
+        root_pairs,
+        SPEC_COLUMN,
+        from,
+        to,
         spec_counts,
         spec_head,
         spec_next,
         spec_windows,
+        spec_kept,
+        spare,
     );
-    sweep(
+    let impl_shared = sweep_keeping(
         impl_nodes,
         impl_edges,
         impl_order,
         impl_leaf,
         impl_extents,
         impl_offsets,
+        root_pairs,
+        IMPL_COLUMN,
+        from,
+        to,
         impl_counts,
         impl_head,
         impl_next,
         impl_windows,
+        impl_kept,
+        spare,
     );
     found_of_leaf(
         spec_nodes,
@@ -330,11 +534,15 @@ fn found_of_row(
         spec_next,
         spec_offsets,
         spec_windows,
+        spec_shared,
+        spec_kept,
         impl_counts,
         impl_head,
         impl_next,
         impl_offsets,
         impl_windows,
+        impl_shared,
+        impl_kept,
         spec_work,
         impl_work,
         spare,
@@ -380,10 +588,12 @@ fn found_of_all(
     spec_head: &mut [usize],
     spec_next: &mut [usize],
     spec_windows: &mut [i64],
+    spec_kept: &mut [i64],
     impl_counts: &mut [usize],
     impl_head: &mut [usize],
     impl_next: &mut [usize],
     impl_windows: &mut [i64],
+    impl_kept: &mut [i64],
     spec_work: &mut [i64],
     impl_work: &mut [i64],
     spare: &mut [i64],
@@ -394,8 +604,9 @@ fn found_of_all(
     requires { ⌜
         AllReady (tablesOf (now «spec_nodes») (now «spec_edges») (now «impl_nodes») (now «impl_edges») (now «root_pairs») (now «leaf_pairs»))
         (now «spec_order») (now «impl_order») (now «spec_extents») (now «spec_offsets») (now «impl_extents») (now «impl_offsets»)
-        (now «spec_counts») (now «spec_head») (now «spec_next») (now «spec_windows»)
-        (now «impl_counts») (now «impl_head») (now «impl_next») (now «impl_windows») (now «spec_work») (now «impl_work») (now spare)
+        (now «spec_counts») (now «spec_head») (now «spec_next») (now «spec_windows») (now «spec_kept»)
+        (now «impl_counts») (now «impl_head») (now «impl_next») (now «impl_windows») (now «impl_kept»)
+        (now «spec_work») (now «impl_work») (now spare)
         × Between (tablesOf (now «spec_nodes») (now «spec_edges») (now «impl_nodes») (now «impl_edges») (now «root_pairs») (now «leaf_pairs»)) from to ⌝ }
     ensures { λ r. ⌜
         AllKept
@@ -424,10 +635,12 @@ fn found_of_all(
             spec_head,
             spec_next,
             spec_windows,
+            spec_kept,
             impl_counts,
             impl_head,
             impl_next,
             impl_windows,
+            impl_kept,
             spec_work,
             impl_work,
             spare,
@@ -482,7 +695,9 @@ fn survey_measured(
     let mut impl_head = [0usize; MAX_NODES];
     let mut impl_next = [0usize; MAX_EDGES];
     let mut impl_windows = [0i64; MAX_ENDS];
+    let mut spec_kept = [0i64; LIST_ROOM];
     let mut spec_work = [0i64; LIST_ROOM];
+    let mut impl_kept = [0i64; LIST_ROOM];
     let mut impl_work = [0i64; LIST_ROOM];
     let mut list_spare = [0i64; LIST_ROOM];
     let kept = found_of_all(
@@ -502,10 +717,12 @@ fn survey_measured(
         &mut spec_head,
         &mut spec_next,
         &mut spec_windows,
+        &mut spec_kept,
         &mut impl_counts,
         &mut impl_head,
         &mut impl_next,
         &mut impl_windows,
+        &mut impl_kept,
         &mut spec_work,
         &mut impl_work,
         &mut list_spare,

@@ -14,8 +14,8 @@ shared-slice-read-if1 c = omega (arith, root-counted (c .before .before .before 
 returns : tie.Need-returns
 returns c = none-listed (c .before .before .before .before .before .pre) (c .if1 .taken)
 
-list-linked-requires : tie.Need-list-linked-requires
-list-linked-requires c κs = search needs
+list-shared-requires : tie.Need-list-shared-requires
+list-shared-requires c κs = search needs
 
 same-length : tie.Need-same-length
 same-length c = search needs
@@ -33,7 +33,7 @@ list-swept-spec =
     mul-if1
     shared-slice-read-if1
     returns
-    list-linked-requires
+    list-shared-requires
     same-length
     same-length-2
     returns-2)

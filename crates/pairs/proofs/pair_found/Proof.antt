@@ -40,7 +40,8 @@ leaves s = row-leaves (s .pre .0 .inputs) (s .args .leaf-row) (s .pre .0 .row)
 -- the list of the specification can be made
 spec-ready : (c : tie.After-spec-node2) → let a = start (c .before .before) .args in
     ListReady (a .spec-nodes .now) (a .spec-edges .now) (pos (c .before .spec-node .result)) (pos (c .spec-node2 .result))
-    (a .spec-counts .now) (a .spec-head .now) (a .spec-next .now) (a .spec-offsets .now) (a .spec-windows .now) (a .spec-work .now) (a .spare .now)
+    (a .spec-counts .now) (a .spec-head .now) (a .spec-next .now) (a .spec-offsets .now) (a .spec-windows .now)
+    (a .spec-shared) (a .spec-kept .now) (a .spec-work .now) (a .spare .now)
 spec-ready c =
     let s = start (c .before .before) in
     list-ready-at (c .before .spec-node .ensures) (c .spec-node2 .ensures) (spec-list-ready (s .pre .0) (s .pre .1))
@@ -48,13 +49,14 @@ spec-ready c =
 -- and that of the implementation, in the spare area as the first list leaves it
 impl-ready : (c : tie.After-impl-node2) → let l = first c in let a = start (specNodes l .before .before) .args in
     ListReady (a .impl-nodes .now) (a .impl-edges .now) (pos (c .before .impl-node .result)) (pos (c .impl-node2 .result))
-    (a .impl-counts .now) (a .impl-head .now) (a .impl-next .now) (a .impl-offsets .now) (a .impl-windows .now) (a .impl-work .now) (l .list-swept .last .1 .1 .1 .1 .1 .1 .1 .1 .1 .1 .0)
+    (a .impl-counts .now) (a .impl-head .now) (a .impl-next .now) (a .impl-offsets .now) (a .impl-windows .now)
+    (a .impl-shared) (a .impl-kept .now) (a .impl-work .now) (l .list-swept .last .1 .1 .1 .1 .1 .1 .1 .1 .1 .1 .1 .1 .0)
 impl-ready c =
     let l = first c in
     let s = start (specNodes l .before .before) in
     list-ready-at (c .before .impl-node .ensures) (c .impl-node2 .ensures)
-    (impl-list-ready (s .pre .0) (s .pre .1) (l .list-swept .last .1 .1 .1 .1 .1 .1 .1 .1 .1 .1 .0)
-    (omega (arith, s .pre .0 .spareRoom, l .list-swept .kept .1 .1 .1 .1 .1 .1 .1 .1 .1 .1 .0)))
+    (impl-list-ready (s .pre .0) (s .pre .1) (l .list-swept .last .1 .1 .1 .1 .1 .1 .1 .1 .1 .1 .1 .1 .0)
+    (omega (arith, s .pre .0 .spareRoom, l .list-swept .kept .1 .1 .1 .1 .1 .1 .1 .1 .1 .1 .1 .1 .0)))
 
 spec-node-requires : tie.Need-spec-node-requires
 spec-node-requires c κs = let s = start c in (omega (arith, s .pre .1), roots s .0 .row .low)

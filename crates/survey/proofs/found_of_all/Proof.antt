@@ -14,12 +14,13 @@ use Rattle.survey.proofs.found_of_all.Statement.{statement}
 use Rattle.survey.proofs.found_of_all.Tie as tie
 
 abbrev Inv-loop : tie.InvT-loop
-Inv-loop sn se mn me rp lp so mo st sf mt mf sc₀ sh₀ sx₀ sv₀ mc₀ mh₀ mx₀ mv₀ sw₀ mw₀ e₀ from to lines₀ count kept₀ row₀ sc sh sx sv mc mh mx mv sw mw e lines kept row =
+Inv-loop sn se mn me rp lp so mo st sf mt mf sc₀ sh₀ sx₀ sv₀ sk₀ mc₀ mh₀ mx₀ mv₀ mk₀ sw₀ mw₀ e₀ from to lines₀ count kept₀ row₀ sc sh sx sv sk mc mh mx mv mk sw mw e lines kept row =
     AllPassed (tablesOf sn se mn me rp lp) from to kept lines row
-    × SweepSizes sc₀ sh₀ sx₀ sv₀ sc sh sx sv × SweepSizes mc₀ mh₀ mx₀ mv₀ mc mh mx mv × WorkSizes sw₀ mw₀ e₀ sw mw e × (row ≤ count) × (length lines ≡ length lines₀)
+    × SweepSizes sc₀ sh₀ sx₀ sv₀ sk₀ sc sh sx sv sk × SweepSizes mc₀ mh₀ mx₀ mv₀ mk₀ mc mh mx mv mk × WorkSizes sw₀ mw₀ e₀ sw mw e
+    × (row ≤ count) × (length lines ≡ length lines₀)
 
 abbrev μ-loop : tie.MeasureT-loop
-μ-loop sn se mn me rp lp so mo st sf mt mf sc₀ sh₀ sx₀ sv₀ mc₀ mh₀ mx₀ mv₀ sw₀ mw₀ e₀ from to lines₀ count kept₀ row₀ sc sh sx sv mc mh mx mv sw mw e lines kept row = count - row
+μ-loop sn se mn me rp lp so mo st sf mt mf sc₀ sh₀ sx₀ sv₀ sk₀ mc₀ mh₀ mx₀ mv₀ mk₀ sw₀ mw₀ e₀ from to lines₀ count kept₀ row₀ sc sh sx sv sk mc mh mx mv mk sw mw e lines kept row = count - row
 
 -- where the function begins
 abbrev start : tie.At-loop Inv-loop μ-loop → tie.Start Inv-loop μ-loop
@@ -27,10 +28,10 @@ start l = l .before .before .before .before .before .before .before .before .bef
 
 -- from the end of a turn back to its leaf row, and from there to its beginning
 abbrev rowed : tie.After-lines Inv-loop μ-loop → tie.After-found-of-row Inv-loop μ-loop
-rowed c = c .before .before .before .before .before .before .before .before .before .before .before .before .before .before .before .before .before .before
+rowed c = c .before .before .before .before .before .before .before .before .before .before .before .before .before .before .before .before .before .before .before .before
 
-abbrev turn : tie.After-found-of-row-arg12 Inv-loop μ-loop → tie.In-loop Inv-loop μ-loop
-turn c = c .before .before .before .before .before .before .before .before .before .before .before .before
+abbrev turn : tie.After-found-of-row-arg14 Inv-loop μ-loop → tie.In-loop Inv-loop μ-loop
+turn c = c .before .before .before .before .before .before .before .before .before .before .before .before .before .before
 
 no-pair-requires : tie.Need-no-pair-requires Inv-loop μ-loop
 no-pair-requires c κs = search needs
@@ -59,11 +60,11 @@ loop-again c =
     let l = turn (f .before) in
     let i = l .before .loop .inv in
     let spec = f .found-of-row .kept .1 .1 .1 .1 .1 .1 .1 .1 .1 .1 .1 .1 .1 in
-    let impl = spec .1 .1 .1 .1 in
-    let work = impl .1 .1 .1 .1 in (
+    let impl = spec .1 .1 .1 .1 .1 in
+    let work = impl .1 .1 .1 .1 .1 in (
       all-next (i .0) (l .loop-test .taken) (f .found-of-row .ensures),
-      sweep-on (i .1) (record { counts = spec .0; head = spec .1 .0; next = spec .1 .1 .0; windows = spec .1 .1 .1 .0 }),
-      sweep-on (i .2) (record { counts = impl .0; head = impl .1 .0; next = impl .1 .1 .0; windows = impl .1 .1 .1 .0 }),
+      sweep-on (i .1) (record { counts = spec .0; head = spec .1 .0; next = spec .1 .1 .0; windows = spec .1 .1 .1 .0; kept = spec .1 .1 .1 .1 .0 }),
+      sweep-on (i .2) (record { counts = impl .0; head = impl .1 .0; next = impl .1 .1 .0; windows = impl .1 .1 .1 .0; kept = impl .1 .1 .1 .1 .0 }),
       work-on (i .3) (record { spec = work .0; impl = work .1 .0; spare = work .1 .1 .0 }),
       omega (arith, l .loop-test .taken),
       work .1 .1 .1 .1 .1 .0 ∙ i .5,
@@ -82,28 +83,34 @@ same-length-4 : tie.Need-same-length-4 Inv-loop μ-loop
 same-length-4 c = c .before .loop .inv .1 .windows
 
 same-length-5 : tie.Need-same-length-5 Inv-loop μ-loop
-same-length-5 c = c .before .loop .inv .2 .counts
+same-length-5 c = c .before .loop .inv .1 .kept
 
 same-length-6 : tie.Need-same-length-6 Inv-loop μ-loop
-same-length-6 c = c .before .loop .inv .2 .head
+same-length-6 c = c .before .loop .inv .2 .counts
 
 same-length-7 : tie.Need-same-length-7 Inv-loop μ-loop
-same-length-7 c = c .before .loop .inv .2 .next
+same-length-7 c = c .before .loop .inv .2 .head
 
 same-length-8 : tie.Need-same-length-8 Inv-loop μ-loop
-same-length-8 c = c .before .loop .inv .2 .windows
+same-length-8 c = c .before .loop .inv .2 .next
 
 same-length-9 : tie.Need-same-length-9 Inv-loop μ-loop
-same-length-9 c = c .before .loop .inv .3 .spec
+same-length-9 c = c .before .loop .inv .2 .windows
 
 same-length-10 : tie.Need-same-length-10 Inv-loop μ-loop
-same-length-10 c = c .before .loop .inv .3 .impl
+same-length-10 c = c .before .loop .inv .2 .kept
 
 same-length-11 : tie.Need-same-length-11 Inv-loop μ-loop
-same-length-11 c = c .before .loop .inv .3 .spare
+same-length-11 c = c .before .loop .inv .3 .spec
 
 same-length-12 : tie.Need-same-length-12 Inv-loop μ-loop
-same-length-12 c = c .before .loop .inv .5
+same-length-12 c = c .before .loop .inv .3 .impl
+
+same-length-13 : tie.Need-same-length-13 Inv-loop μ-loop
+same-length-13 c = c .before .loop .inv .3 .spare
+
+same-length-14 : tie.Need-same-length-14 Inv-loop μ-loop
+same-length-14 c = c .before .loop .inv .5
 
 returns : tie.Need-returns Inv-loop μ-loop
 returns c = all-end (c .before .loop .inv .0) (start (c .before) .pre .0 .ordered .inputs .leafShape .few) (c .loop-test .left) (c .before .loop .inv .4)
@@ -132,4 +139,6 @@ found-of-all-spec =
     same-length-10
     same-length-11
     same-length-12
+    same-length-13
+    same-length-14
     returns)

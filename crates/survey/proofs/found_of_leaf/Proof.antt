@@ -15,12 +15,12 @@ use Rattle.survey.proofs.found_of_leaf.Statement.{statement}
 use Rattle.survey.proofs.found_of_leaf.Tie as tie
 
 abbrev Inv-loop : tie.InvT-loop
-Inv-loop sn se mn me rp lp leaf-row sc sh sx sf sv mc mh mx mf mv sw₀ mw₀ e₀ from to lines₀ totals₀ count₀ row₀ sw mw e lines totals count row =
+Inv-loop sn se mn me rp lp leaf-row sc sh sx sf sv sd sk mc mh mx mf mv md mk sw₀ mw₀ e₀ from to lines₀ totals₀ count₀ row₀ sw mw e lines totals count row =
     FoundPassed (tablesOf sn se mn me rp lp) from to leaf-row totals₀ count₀ lines₀ totals count lines row
     × WorkSizes sw₀ mw₀ e₀ sw mw e × (length lines ≡ length lines₀)
 
 abbrev μ-loop : tie.MeasureT-loop
-μ-loop sn se mn me rp lp leaf-row sc sh sx sf sv mc mh mx mf mv sw₀ mw₀ e₀ from to lines₀ totals₀ count₀ row₀ sw mw e lines totals count row = to - row
+μ-loop sn se mn me rp lp leaf-row sc sh sx sf sv sd sk mc mh mx mf mv md mk sw₀ mw₀ e₀ from to lines₀ totals₀ count₀ row₀ sw mw e lines totals count row = to - row
 
 -- where the function begins
 abbrev start : tie.At-loop Inv-loop μ-loop → tie.Start Inv-loop μ-loop
@@ -94,7 +94,7 @@ loop-again c =
     let l = turn f in
     let i = l .before .loop .inv in
     let w = c .before in
-    let sizes = f .pair-found .kept .1 .1 .1 .1 .1 .1 .1 .1 .1 .1 .1 .1 .1 .1 .1 .1 .1 .1 in (
+    let sizes = f .pair-found .kept .1 .1 .1 .1 .1 .1 .1 .1 .1 .1 .1 .1 .1 .1 .1 .1 .1 .1 .1 .1 .1 .1 in (
       found-next (start (l .before) .pre .1) (i .0) (l .loop-test .taken) (f .pair-found .ensures) (p .place-of .ensures)
           (w .before .before .with-found .ensures) (w .with-line .ensures .0) (w .with-line .ensures .1),
       work-on (i .1) (record { spec = sizes .0; impl = sizes .1 .0; spare = sizes .1 .1 .0 }),

@@ -1,5 +1,5 @@
--- Where no edge enters either leaf all pairs of the leaf row are equal; else both graphs are swept for it.
-use mathlib.Core.Path.{sym, _∙_}
+-- Where no edge enters either leaf all pairs of the leaf row are equal; else both graphs are swept for it, and the list of a node of each is kept.
+use mathlib.Core.Path.{refl, sym, _∙_}
 use native.Mathlib.Omega.{arith}
 use borrow.Author.Needs.{needs}
 use borrow.Author.Tests.{not-true}
@@ -9,8 +9,6 @@ use Rattle.model.specs.Paths.{Leaf}
 use Rattle.pairing.specs.Pairs.{pairAt}
 use Rattle.pairs.specs.Inputs.{Sweepable}
 use Rattle.pairs.proofs.Inputs.{row-leaves, leaf-row-below}
-use Rattle.pairs.proofs.Sweeps.{sweep-done}
-use Rattle.survey.proofs.Sizes.{sweep-same, work-same}
 use Rattle.survey.proofs.Ready.{spec-sweepable, impl-sweepable, leaf-ready, spec-enters, impl-enters}
 use Rattle.survey.proofs.Adding.{at-most-more}
 use Rattle.survey.proofs.Unentered.{unentered-kept}
@@ -26,14 +24,14 @@ abbrev begin : tie.After-either-entered → tie.Start
 begin c = start (c .before .before .before)
 
 -- from the pairs of the leaf row back to the second sweep, from there to the first, and to the test
-abbrev second : tie.After-found-of-leaf-arg12 → tie.After-sweep2
-second c = c .before .before .before .before .before .before .before .before .before .before .before .before .before .before .before .before .before .before .before
+abbrev second : tie.After-found-of-leaf-arg14 → tie.After-sweep-keeping2
+second c = c .before .before .before .before .before .before .before .before .before .before .before .before .before .before .before .before .before .before .before .before .before .before .before
 
-abbrev first : tie.After-sweep2 → tie.After-sweep
-first c = c .before .before .before .before .before .before .before .before .before .before .before .before
+abbrev first : tie.After-sweep-keeping2 → tie.After-sweep-keeping
+first c = c .before .before .before .before .before .before .before .before .before .before .before .before .before .before .before .before
 
-abbrev tested : tie.After-sweep → tie.After-either-entered
-tested c = c .before .before .before .before .before .before
+abbrev tested : tie.After-sweep-keeping → tie.After-either-entered
+tested c = c .before .before .before .before .before .before .before .before
 
 -- the nodes of the leaf row are leaves
 leaves : (s : tie.Start) → let a = s .args in let p = pairAt (a .leaf-pairs .now) (a .leaf-row) in
@@ -44,13 +42,13 @@ leaves s = row-leaves (s .pre .0 .ordered .inputs) (s .args .leaf-row) (s .pre .
 spec-ready : (c : tie.After-either-entered) → let a = begin c .args in
     Sweepable (a .spec-nodes .now) (a .spec-edges .now) (a .spec-order .now) (pos (c .before .before .spec-node .result))
     (a .spec-extents .now) (a .spec-offsets .now) (a .spec-counts .now) (a .spec-head .now) (a .spec-next .now) (a .spec-windows .now)
-spec-ready c = let s = begin c in spec-sweepable (s .pre .0) (s .args .leaf-row) (s .pre .2) (c .before .before .spec-node .ensures) sweep-same
+spec-ready c = let s = begin c in spec-sweepable (s .pre .0) (s .args .leaf-row) (s .pre .2) (c .before .before .spec-node .ensures)
 
 -- and so can the implementation
 impl-ready : (c : tie.After-either-entered) → let a = begin c .args in
     Sweepable (a .impl-nodes .now) (a .impl-edges .now) (a .impl-order .now) (pos (c .before .impl-node .result))
     (a .impl-extents .now) (a .impl-offsets .now) (a .impl-counts .now) (a .impl-head .now) (a .impl-next .now) (a .impl-windows .now)
-impl-ready c = let s = begin c in impl-sweepable (s .pre .0) (s .args .leaf-row) (s .pre .2) (c .before .impl-node .ensures) sweep-same
+impl-ready c = let s = begin c in impl-sweepable (s .pre .0) (s .args .leaf-row) (s .pre .2) (c .before .impl-node .ensures)
 
 spec-node-requires : tie.Need-spec-node-requires
 spec-node-requires c κs = let s = start c in (omega (arith, s .pre .2), leaves s .0 .row .low)
@@ -80,11 +78,18 @@ returns c =
     rw (c .with-equal .ensures)
     (unentered-kept (s .pre .0 .ordered .inputs) (s .pre .1) (s .pre .2) (e .before .before .spec-node .ensures) (e .before .impl-node .ensures) none (s .pre .3))
 
-sweep-requires : tie.Need-sweep-requires
-sweep-requires c κs = spec-ready (c .before .before .before .before .before)
+sweep-keeping-requires : tie.Need-sweep-keeping-requires
+sweep-keeping-requires c κs =
+    let e = c .before .before .before .before .before .before .before in
+    let k = begin e .pre .0 in
+    (spec-ready e, omega arith, k .specKeptRoom, k .spareRoom)
 
-sweep-requires-2 : tie.Need-sweep-requires-2
-sweep-requires-2 c κs = impl-ready (tested (c .before .before .before .before .before .before .before .before .before .before .before))
+sweep-keeping-requires-2 : tie.Need-sweep-keeping-requires-2
+sweep-keeping-requires-2 c κs =
+    let f = c .before .before .before .before .before .before .before .before .before .before .before .before .before .before .before in
+    let e = tested f in
+    let k = begin e .pre .0 in
+    (impl-ready e, omega arith, k .implKeptRoom, omega (arith, k .spareRoom, f .sweep-keeping .kept .1 .1 .1 .1 .1 .1 .1 .1 .1 .1 .1 .1 .1 .1 .1 .0))
 
 found-of-leaf-requires : tie.Need-found-of-leaf-requires
 found-of-leaf-requires c κs =
@@ -93,52 +98,60 @@ found-of-leaf-requires c κs =
     let e = tested f in
     let s = begin e in (
       leaf-ready (s .pre .0) (s .args .leaf-row) (s .pre .2) (e .before .before .spec-node .ensures) (e .before .impl-node .ensures)
-          (sweep-done (spec-ready e) (f .sweep .ensures .0) (f .sweep .ensures .1 .0) (f .sweep .ensures .1 .1))
-          (sweep-done (impl-ready e) (m .sweep2 .ensures .0) (m .sweep2 .ensures .1 .0) (m .sweep2 .ensures .1 .1))
-          work-same,
+          (f .sweep-keeping .ensures .0) (f .sweep-keeping .ensures .1) (m .sweep-keeping2 .ensures .0) (m .sweep-keeping2 .ensures .1)
+          (record { spec = refl; impl = refl; spare = m .sweep-keeping2 .kept .1 .1 .1 .1 .1 .1 .1 .1 .1 .1 .1 .1 .1 .1 .1 .0 ∙ f .sweep-keeping .kept .1 .1 .1 .1 .1 .1 .1 .1 .1 .1 .1 .1 .1 .1 .1 .0 }),
       s .pre .1,
       s .pre .3,
     )
 
 -- the sweeps, from the end
-abbrev swept : tie.After-lines → tie.After-sweep
-swept c = first (second (c .before .before .before .before .before))
+abbrev implSwept : tie.After-lines → tie.After-sweep-keeping2
+implSwept c = second (c .before .before .before .before .before)
+
+abbrev specSwept : tie.After-lines → tie.After-sweep-keeping
+specSwept c = first (implSwept c)
 
 same-length : tie.Need-same-length
-same-length c = swept c .sweep .kept .1 .1 .1 .1 .1 .1 .0
+same-length c = specSwept c .sweep-keeping .kept .1 .1 .1 .1 .1 .1 .1 .1 .1 .1 .0
 
 same-length-2 : tie.Need-same-length-2
-same-length-2 c = swept c .sweep .kept .1 .1 .1 .1 .1 .1 .1 .0
+same-length-2 c = specSwept c .sweep-keeping .kept .1 .1 .1 .1 .1 .1 .1 .1 .1 .1 .1 .0
 
 same-length-3 : tie.Need-same-length-3
-same-length-3 c = swept c .sweep .kept .1 .1 .1 .1 .1 .1 .1 .1 .0
+same-length-3 c = specSwept c .sweep-keeping .kept .1 .1 .1 .1 .1 .1 .1 .1 .1 .1 .1 .1 .0
 
 same-length-4 : tie.Need-same-length-4
-same-length-4 c = swept c .sweep .kept .1 .1 .1 .1 .1 .1 .1 .1 .1 .0
+same-length-4 c = specSwept c .sweep-keeping .kept .1 .1 .1 .1 .1 .1 .1 .1 .1 .1 .1 .1 .1 .0
 
 same-length-5 : tie.Need-same-length-5
-same-length-5 c = second (c .before .before .before .before .before) .sweep2 .kept .1 .1 .1 .1 .1 .1 .0
+same-length-5 c = specSwept c .sweep-keeping .kept .1 .1 .1 .1 .1 .1 .1 .1 .1 .1 .1 .1 .1 .1 .0
 
 same-length-6 : tie.Need-same-length-6
-same-length-6 c = second (c .before .before .before .before .before) .sweep2 .kept .1 .1 .1 .1 .1 .1 .1 .0
+same-length-6 c = implSwept c .sweep-keeping2 .kept .1 .1 .1 .1 .1 .1 .1 .1 .1 .1 .0
 
 same-length-7 : tie.Need-same-length-7
-same-length-7 c = second (c .before .before .before .before .before) .sweep2 .kept .1 .1 .1 .1 .1 .1 .1 .1 .0
+same-length-7 c = implSwept c .sweep-keeping2 .kept .1 .1 .1 .1 .1 .1 .1 .1 .1 .1 .1 .0
 
 same-length-8 : tie.Need-same-length-8
-same-length-8 c = second (c .before .before .before .before .before) .sweep2 .kept .1 .1 .1 .1 .1 .1 .1 .1 .1 .0
+same-length-8 c = implSwept c .sweep-keeping2 .kept .1 .1 .1 .1 .1 .1 .1 .1 .1 .1 .1 .1 .0
 
 same-length-9 : tie.Need-same-length-9
-same-length-9 c = search needs
+same-length-9 c = implSwept c .sweep-keeping2 .kept .1 .1 .1 .1 .1 .1 .1 .1 .1 .1 .1 .1 .1 .0
 
 same-length-10 : tie.Need-same-length-10
-same-length-10 c = search needs
+same-length-10 c = implSwept c .sweep-keeping2 .kept .1 .1 .1 .1 .1 .1 .1 .1 .1 .1 .1 .1 .1 .1 .0
 
 same-length-11 : tie.Need-same-length-11
 same-length-11 c = search needs
 
 same-length-12 : tie.Need-same-length-12
 same-length-12 c = search needs
+
+same-length-13 : tie.Need-same-length-13
+same-length-13 c = c .before .before .before .before .found-of-leaf .kept .1 .1 .1 .1 .1 .1 .1 .1 .1 .1 .1 .1 .1 .1 .1 .1 .1 .1 .1 .1 .1 .1 .1 .0 ∙ implSwept c .sweep-keeping2 .kept .1 .1 .1 .1 .1 .1 .1 .1 .1 .1 .1 .1 .1 .1 .1 .0 ∙ specSwept c .sweep-keeping .kept .1 .1 .1 .1 .1 .1 .1 .1 .1 .1 .1 .1 .1 .1 .1 .0
+
+same-length-14 : tie.Need-same-length-14
+same-length-14 c = search needs
 
 returns-2 : tie.Need-returns-2
 returns-2 c = c .before .before .before .before .found-of-leaf .ensures
@@ -153,8 +166,8 @@ found-of-row-spec =
     sub-with-equal
     with-equal-requires
     returns
-    sweep-requires
-    sweep-requires-2
+    sweep-keeping-requires
+    sweep-keeping-requires-2
     found-of-leaf-requires
     same-length
     same-length-2
@@ -168,4 +181,6 @@ found-of-row-spec =
     same-length-10
     same-length-11
     same-length-12
+    same-length-13
+    same-length-14
     returns-2)

@@ -7,7 +7,7 @@ use Rattle.survey.proofs.survey_measured.Tie as tie
 
 -- where the function begins
 abbrev begin : tie.After-found-of-all-arg → tie.Start
-begin c = c .before .before .before .before .before .before .before .before .before .before .before .before .before .before
+begin c = c .before .before .before .before .before .before .before .before .before .before .before .before .before .before .before .before
 
 slice-aggregate-found-of-all : tie.Need-slice-aggregate-found-of-all
 slice-aggregate-found-of-all c = search needs
@@ -42,6 +42,12 @@ slice-aggregate-found-of-all-10 c = search needs
 slice-aggregate-found-of-all-11 : tie.Need-slice-aggregate-found-of-all-11
 slice-aggregate-found-of-all-11 c = search needs
 
+slice-aggregate-found-of-all-12 : tie.Need-slice-aggregate-found-of-all-12
+slice-aggregate-found-of-all-12 c = search needs
+
+slice-aggregate-found-of-all-13 : tie.Need-slice-aggregate-found-of-all-13
+slice-aggregate-found-of-all-13 c = search needs
+
 found-of-all-requires : tie.Need-found-of-all-requires
 found-of-all-requires c κs =
     let s = begin c in (
@@ -53,10 +59,12 @@ found-of-all-requires c κs =
         specHeadRoom = search needs;
         specNextRoom = search needs;
         specWindowRoom = search needs;
+        specKeptRoom = search needs;
         implCountRoom = search needs;
         implHeadRoom = search needs;
         implNextRoom = search needs;
         implWindowRoom = search needs;
+        implKeptRoom = search needs;
         specRoom = search needs;
         implRoom = search needs;
         spareRoom = search needs;
@@ -66,9 +74,9 @@ found-of-all-requires c κs =
 
 sort-lines-requires : tie.Need-sort-lines-requires
 sort-lines-requires c κs =
-    let f = c .before .before .before .before .before .before .before .before .before .before .before .before .before .before in
+    let f = c .before .before .before .before .before .before .before .before .before .before .before .before .before .before .before .before in
     let s = begin (f .before) in
-    (f .found-of-all .ensures .most .count, omega (arith, s .pre .3, f .found-of-all .kept .1 .1 .1 .1 .1 .1 .1 .1 .1 .1 .1 .1 .1 .1 .1 .1 .1 .1 .1 .1 .1 .1 .1 .1 .1 .0))
+    (f .found-of-all .ensures .most .count, omega (arith, s .pre .3, f .found-of-all .kept .1 .1 .1 .1 .1 .1 .1 .1 .1 .1 .1 .1 .1 .1 .1 .1 .1 .1 .1 .1 .1 .1 .1 .1 .1 .1 .1 .0))
 
 same-length : tie.Need-same-length
 same-length c = search needs
@@ -79,7 +87,7 @@ same-length-2 c = search needs
 returns : tie.Need-returns
 returns c =
     let r = c .before .before in
-    let f = r .before .before .before .before .before .before .before .before .before .before .before .before .before .before .before in
+    let f = r .before .before .before .before .before .before .before .before .before .before .before .before .before .before .before .before .before in
     survey-kept (begin (f .before) .pre .0 .inputs) _ _ (f .found-of-all .ensures) (r .sort-lines .ensures)
 
 pub survey-measured-spec : {M : Type 1} → statement M
@@ -97,6 +105,8 @@ survey-measured-spec =
     slice-aggregate-found-of-all-9
     slice-aggregate-found-of-all-10
     slice-aggregate-found-of-all-11
+    slice-aggregate-found-of-all-12
+    slice-aggregate-found-of-all-13
     found-of-all-requires
     sort-lines-requires
     same-length

@@ -20,7 +20,7 @@ use steps::Clipped;
 use steps::Run;
 
 // The row of a run at the leaf: displacement, first and last bit of its record.
-fn run_row(nodes: &[i64], leaf: usize, run: Run) -> Row
+pub fn run_row(nodes: &[i64], leaf: usize, run: Run) -> Row
     requires { ⌜ GoodRow (now nodes) leaf × SmallRun (runOf run) ⌝ }
     ensures { λ r. ⌜ ((es : List ℤ) → r ≡ runRow (node (graphOf (now (nodes .entry)) es) (pos leaf)) (runOf run)) ⌝ }
 {

@@ -1,56 +1,69 @@
--- The rows of a run that enters a node, at the shared node and at any other, and the records that are kept for the shared node.
+-- The rows of a run, node by node and edge by edge, and the records that are kept for the shared node.
 use mathlib.Core.Path.{_≡_, refl, sym, ap, subst, _∙_}
-use mathlib.Core.List.{List, [], _∷_}
+use mathlib.Core.List.{List, [], _∷_, flatMap}
 use mathlib.Core.Logic.{_≢_}
 use mathlib.Core.Option.{none, some}
-use Prim.Native.Nat.{ℕ, _*_, _≤_, _<_}
+use Prim.Native.Nat.{ℕ, zero, suc, _-_, _*_, _≤_, _<_}
 use native.Mathlib.Omega.{arith}
 use lib.Dec.{T-not}
 use lib.IntN.{ℤ, pos}
 use lib.ListN.{length, length-take}
-use Rattle.integers.proofs.Linear.{ints}
 use Rattle.integers.proofs.Tests.{is-true, is-false}
 use Rattle.lists.specs.Lists.{_∈_}
 use Rattle.model.specs.Rows.{Edge}
-use Rattle.model.specs.Graph.{Graph, graphOf, NodeRow}
+use Rattle.model.specs.Graph.{Graph, graphOf, NodeRow, node}
 use Rattle.model.specs.Bitmapping.{Record}
-use Rattle.model.specs.Runs.{Run, empty, listOf}
+use Rattle.model.specs.Runs.{Run, empty, leaving, listOf}
 use Rattle.model.specs.Calls.{numbersOf}
 use Rattle.steps.specs.Steps.{living}
 use Rattle.steps.proofs.Runs.{living-none, living-some}
 use Rattle.verdicts.specs.Records.{recordAt, recordsOf}
 use Rattle.verdicts.proofs.Records.{recordsOf-front, recordAt-in}
-use Rattle.listing.specs.Listing.{LinkedTo, runRows}
+use Rattle.listing.specs.Listing.{LinkedTo, runRow}
 use Rattle.listing.proofs.Runs.{eqZ-same, eqZ-other}
 use Rattle.sharing.specs.declared.Shared.{Shared}
-use Rattle.sharing.specs.Sharing.{Keeps, SmallKept, keptRows, maxBehind, enteredRows, entering, overRows}
+use Rattle.sharing.specs.Sharing.{Keeps, SmallKept, keptRows, entering, sharedRows, overRows}
 use Rattle.sharing.proofs.Parts.{list-kept}
 
--- at the shared node the rows come from its list
-pub entered-kept : (shared : ℕ) (g : Graph) (l : ℤ) (v : ℕ) (r : Run) → v ≡ shared → enteredRows shared g l (pos v) r ≡ keptRows r (listOf g (pos v) l)
-unfolding enteredRows
-entered-kept shared g l v r e = rw (eqZ-same (ap pos e)) refl
+module _ (shared : ℕ) (g : Graph) (v l : ℤ) (r : Run) where
+  -- at the shared node the rows come from its list
+  pub shared-kept : (k : ℕ) → v ≡ pos shared → sharedRows k shared g v l r ≡ keptRows r (listOf g v l)
+  unfolding sharedRows
+  shared-kept zero e = rw (eqZ-same e) refl
+  shared-kept (suc k) e = rw (eqZ-same e) refl
 
--- at any other they come along the paths
-pub entered-along : (shared : ℕ) (g : Graph) (l : ℤ) (v : ℕ) (r : Run) → v ≢ shared → enteredRows shared g l (pos v) r ≡ runRows maxBehind g (pos v) l r
-unfolding enteredRows
-entered-along shared g l v r n =
-    let other : pos v ≢ pos shared = λ e. n (omega (arith, ints, e)) in
-    rw (eqZ-other other) refl
+  module _ (n : v ≢ pos shared) where
+    -- at the leaf there is one row
+    pub shared-leaf : (k : ℕ) → v ≡ l → sharedRows k shared g v l r ≡ runRow (node g l) r ∷ []
+    unfolding sharedRows
+    shared-leaf zero e = rw (eqZ-other n, eqZ-same e) refl
+    shared-leaf (suc k) e = rw (eqZ-other n, eqZ-same e) refl
+
+    -- elsewhere there is none over no edge
+    pub shared-end : (k : ℕ) → v ≢ l → k ≡ 0 → sharedRows k shared g v l r ≡ []
+    unfolding sharedRows
+    shared-end zero m e = rw (eqZ-other n, eqZ-other m) refl
+    shared-end (suc k) m e = absurd (omega arith)
+
+    -- and over some edge there are those of the edges
+    pub shared-onward : (k : ℕ) → v ≢ l → k ≢ 0 → sharedRows k shared g v l r ≡ flatMap (overRows (k - 1) shared g l r) (leaving g v)
+    unfolding sharedRows
+    shared-onward zero m e = absurd (e refl)
+    shared-onward (suc k) m e =
+        let d : suc k - 1 ≡ k = omega arith in
+        rw (d, eqZ-other n, eqZ-other m) refl
 
 -- ---- over an edge
 
-module _ (shared : ℕ) (g : Graph) (l : ℤ) (r : Run) (e : Edge) where
+module _ (k shared : ℕ) (g : Graph) (l : ℤ) (r : Run) (e : Edge) where
   -- an edge over which bits of the run enter gives the rows of what enters
-  pub over-left : {s : Run} {to : ℕ} → some s ≡ living (entering g l r e) → pos to ≡ e .to → enteredRows shared g l (pos to) s ≡ overRows shared g l r e
-  unfolding overRows
+  pub over-left : {s : Run} {to : ℕ} → some s ≡ living (entering g l r e) → pos to ≡ e .to → sharedRows k shared g (pos to) l s ≡ overRows k shared g l r e
   over-left {s} {to} p q =
       let w = living-some (entering g l r e) s p in
       rw (q, w .0, is-false (empty (entering g l r e)) (T-not (empty (entering g l r e)) (w .1))) refl
 
   -- one over which none enters gives no row
-  pub over-nothing : none ≡ living (entering g l r e) → [] ≡ overRows shared g l r e
-  unfolding overRows
+  pub over-nothing : none ≡ living (entering g l r e) → [] ≡ overRows k shared g l r e
   over-nothing p = rw (is-true (empty (entering g l r e)) (living-none (entering g l r e) p)) refl
 
 -- ---- the kept list
@@ -72,10 +85,10 @@ module _ {ns es : List ℤ} {leaf : ℕ} {head next : List ℕ} (k : LinkedTo ns
     kept-records : recordsOf kept (s .count) ≡ listOf (graphOf ns es) (pos (s .node)) (pos leaf)
     kept-records = recordsOf-front kept (s .count) (sym (h .count shared-row)) (h .numbers shared-row)
 
-    -- they give the rows of a run that enters there
-    pub kept-rows : (r : Run) → enteredRows (s .node) (graphOf ns es) (pos leaf) (pos v) r ≡ keptRows r (recordsOf kept (s .count))
-    kept-rows r =
-        entered-kept (s .node) (graphOf ns es) (pos leaf) v r e
+    -- they give the rows of a run there
+    pub kept-rows : (k : ℕ) (r : Run) → sharedRows k (s .node) (graphOf ns es) (pos v) (pos leaf) r ≡ keptRows r (recordsOf kept (s .count))
+    kept-rows k r =
+        shared-kept (s .node) (graphOf ns es) (pos v) (pos leaf) r k (ap pos e)
         ∙ ap (λ (w : ℕ). keptRows r (listOf (graphOf ns es) (pos w) (pos leaf))) e
         ∙ ap (keptRows r) (sym kept-records)
 

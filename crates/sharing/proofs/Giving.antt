@@ -1,38 +1,38 @@
--- What rows have: those of a kept list and those along the paths have exactly what walks reach, and so have the rows of all edges that leave a node.
+-- What rows have: at the shared node, at the leaf and over the edges of any other node they have exactly what walks from the bits of the run reach.
 use mathlib.Core.Path.{_≡_, refl, sym, ap, subst, _∙_}
 use mathlib.Core.Bool.{Bool, true, false, not, cond}
-use mathlib.Core.List.{List, [], _∷_, map, flatMap, List·Memᴰ·head, List·Memᴰ·cases-cons, List·Memᴰ·not-nil}
+use mathlib.Core.List.{List, [], _∷_, flatMap, List·Memᴰ·head, List·Memᴰ·cases-cons, List·Memᴰ·not-nil}
 use mathlib.Core.Logic.{_↔_, _≢_, ⊎-elim}
-use Prim.Native.Nat.{ℕ, _≤_}
+use Prim.Native.Nat.{ℕ, zero, suc, _≤_}
 use native.Mathlib.Omega.{arith}
-use lib.Dec.{T, not-T}
+use lib.Dec.{T}
 use lib.IntN.{ℤ, pos, _+ℤ_, _-ℤ_, +ℤ-negℤ-cancel, -ℤ-+ℤ-cancel}
 use lib.Signed.{_≤ℤ_}
 use lib.ListN.{length}
 use Rattle.integers.specs.Integers.{eqZ}
 use Rattle.integers.proofs.Linear.{ints, sum, diff}
-use Rattle.integers.proofs.Tests.{Test, passed, failed, test?, min-le, max-le}
-use Rattle.lists.specs.Lists.{_∈_, keep}
-use Rattle.lists.proofs.Membership.{keep-in, keep-out, map-in, map-out, flatMap-in, flatMap-out}
+use Rattle.integers.proofs.Tests.{Test, passed, failed, test?, eqZ?, min-le, max-le}
+use Rattle.lists.specs.Lists.{_∈_}
+use Rattle.lists.proofs.Membership.{map-in, flatMap-in, flatMap-out}
 use Rattle.model.specs.Rows.{Edge}
 use Rattle.model.specs.Graph.{Graph, node, firstBit, bitOffset}
 use Rattle.model.specs.Walk.{StandsOn, Walk, stand, step, Reached}
 use Rattle.model.specs.Paths.{Way, over}
 use Rattle.model.specs.Bitmapping.{Record, Has}
-use Rattle.model.specs.Runs.{Run, empty, whole, shift, along, leaving, pathsWithin, listOf}
+use Rattle.model.specs.Runs.{Run, empty, shift, leaving, listOf}
 use Rattle.model.specs.Taken.{Taken}
 use Rattle.model.proofs.Lowest.{HasSome}
-use Rattle.model.proofs.Paths.{Fit, leaving-in, leaving-out, within-sound, within-complete, way-short}
-use Rattle.model.proofs.Steps.{InRun, Joins, shift-joins, clip-joins, empty-none, whole-joins, record-joins}
-use Rattle.model.proofs.Walks.{walk-route, route-walk, along-joins, reached-arrival}
+use Rattle.model.proofs.Paths.{Fit, leaving-in, leaving-out}
+use Rattle.model.proofs.Steps.{InRun, Joins, shift-joins, clip-joins, empty-none, record-joins}
+use Rattle.model.proofs.Walks.{walk-route, reached-arrival}
 use Rattle.model.proofs.ListLaw.{list-reached}
 use Rattle.sorting.specs.declared.Row.{Row}
 use Rattle.normalisation.specs.Merging.{ofDisplacement}
 use Rattle.windows.specs.Windows.{Span, extent, raised, cut, carried, window}
 use Rattle.windows.proofs.Spans.{hull-holds, shared-some, spanNode, spanNode-first, spanNode-last, clip-cut, cut-inside}
 use Rattle.windows.proofs.Windows.{carriedBack, window-leaf, window-step, window-within}
-use Rattle.listing.specs.Listing.{runRow, runRows}
-use Rattle.sharing.specs.Sharing.{displaced, bitsOf, keptRow, keptRows, maxBehind, enteredRows, entering, overRows}
+use Rattle.listing.specs.Listing.{runRow}
+use Rattle.sharing.specs.Sharing.{displaced, bitsOf, keptRow, keptRows, entering, sharedRows, overRows}
 
 -- the rows have root bit x with leaf bit y
 abbrev pub Give : List Row → ℤ → ℤ → Type 0
@@ -127,36 +127,6 @@ walk-first (stand h) n = absurd (n refl)
 walk-first (step e m q h w) n = (e, m, q, h, w)
 
 module _ {g : Graph} {l : ℤ} (f : Fit g l) where
-  -- ---- along the paths
-
-  -- the rows along the paths have what walks from bits of the run reach, where a way has no more edges than the paths
-  run-rows-give : (k : ℕ) (v : ℤ) (r : Run) → ((a : ℤ) → InRun r a → StandsOn (node g v) a) → ((p : List Edge) → Way g v p l → length p ≤ k) → (x y : ℤ)
-      → Give (runRows k g v l r) x y ↔ ((a : ℤ) × Joins r x a × Reached g v l a y)
-  unfolding runRows
-  run-rows-give k v r stands short x y = (sound, complete)
-    where
-      first : ℤ
-      first = firstBit (node g l)
-
-      sound : Give (runRows k g v l r) x y → (a : ℤ) × Joins r x a × Reached g v l a y
-      sound (t, m, h) =
-          let u = map-out (runRow (node g l)) (keep (λ s. not (empty s)) (map (λ p. along g p r) (pathsWithin k g v l))) m in
-          let n = keep-out (λ s. not (empty s)) (map (λ p. along g p r) (pathsWithin k g v l)) (u .1) in
-          let w = map-out (λ p. along g p r) (pathsWithin k g v l) (n .0) in
-          let j = record-joins (node g l) (u .0) x y .0 (subst (λ (z : Row). Has (ofDisplacement z) x y) (u .2) h) in
-          let z = along-joins g v (w .0) r stands x (y +ℤ first) .0 (subst (λ (s : Run). Joins s x (y +ℤ first)) (w .2) j) in
-          (z .0, z .1, record { arrival = y +ℤ first; walk = route-walk (within-sound k (w .1)) (z .2); leafBit = sym (+ℤ-negℤ-cancel y first) })
-
-      complete : (a : ℤ) × Joins r x a × Reached g v l a y → Give (runRows k g v l r) x y
-      complete (a, j, h) =
-          let t = walk-route (h .walk) in
-          let run = along g (t .path) r in
-          let i = along-joins g v (t .path) r stands x (h .arrival) .1 (a, j, t .along) in
-          let m = within-complete k (f .ends) (t .way) (short (t .path) (t .way)) in
-          let some = not-T (empty run) (λ e. empty-none run (h .arrival) e (i .inside)) in
-          let n = keep-in (λ s. not (empty s)) some (map-in (λ p. along g p r) m) in
-          (runRow (node g l) run, map-in (runRow (node g l)) n, record-joins (node g l) run x y .1 (subst (λ (b : ℤ). Joins run x b) (reached-arrival h) i))
-
   -- ---- windows
 
   -- a walk to the leaf starts in the window
@@ -176,94 +146,108 @@ module _ {g : Graph} {l : ℤ} (f : Fit g l) where
       rw (window-step f (λ z. f .ends e m (q ∙ z)))
       (omega (arith, ints, low, held .low, ap (λ (s : Span). s .low) back), omega (arith, ints, high, held .high, ap (λ (s : Span). s .high) back))
 
-  -- ---- over the edges of a node
+  -- ---- what walks from the bits of a run reach
 
-  module _ (taken : Taken g) (shared : ℕ) (r : Run) {v : ℤ} (e : Edge) (m : e ∈ g .edges) (q : e .from ≡ v) where
+  -- some bit of the run reaches leaf bit y, and x is the root bit that walked there
+  abbrev pub Hits : ℤ → Run → ℤ → ℤ → Type 0
+  Hits v r x y = (a : ℤ) × Joins r x a × Reached g v l a y
+
+  -- the list of a node gives what is reached
+  kept-hits : (v : ℤ) (r : Run) (x y : ℤ) → Give (keptRows r (listOf g v l)) x y ↔ Hits v r x y
+  kept-hits v r x y =
+      let kept = kept-rows-give r (listOf g v l) x y in (
+        λ h. let (a, j, k) = kept .0 h in (a, j, list-reached f a y .1 k),
+        λ (a, j, k). kept .1 (a, j, list-reached f a y .0 k),
+      )
+
+  -- at the leaf a walk stays
+  leaf-stays : {v a b : ℤ} → v ≡ l → Walk g v a l b → a ≡ b
+  leaf-stays e (stand h) = refl
+  leaf-stays e (step d m q h w) = absurd (f .ends d m (q ∙ e))
+
+  -- so the row of the run gives what is reached there
+  leaf-hits : (v : ℤ) (r : Run) → v ≡ l → ((a : ℤ) → InRun r a → StandsOn (node g v) a) → (x y : ℤ) → Give (runRow (node g l) r ∷ []) x y ↔ Hits v r x y
+  leaf-hits v r e stands x y = (
+    λ (t, m, h).
+        let same : t ≡ runRow (node g l) r = ⊎-elim (λ p. p) (λ n. absurd (List·Memᴰ·not-nil n)) (List·Memᴰ·cases-cons m) in
+        let j = record-joins (node g l) r x y .0 (subst (λ (z : Row). Has (ofDisplacement z) x y) same h) in
+        let stay : Walk g v (y +ℤ first) v (y +ℤ first) = stand (stands (y +ℤ first) (j .inside)) in
+        (y +ℤ first, j, record { arrival = y +ℤ first; walk = subst (λ (w : ℤ). Walk g v (y +ℤ first) w (y +ℤ first)) e stay; leafBit = sym (+ℤ-negℤ-cancel y first) }),
+    λ (a, j, h).
+        let at : a ≡ y +ℤ first = leaf-stays e (h .walk) ∙ reached-arrival h in
+        (runRow (node g l) r, List·Memᴰ·head refl, record-joins (node g l) r x y .1 (subst (λ (b : ℤ). Joins r x b) at j)),
+  )
+    where
+      first : ℤ
+      first = firstBit (node g l)
+
+  module _ (taken : Taken g) where
     -- what enters a node stands on it
-    entering-stands : (a : ℤ) → InRun (entering g l r e) a → StandsOn (node g (e .to)) a
-    entering-stands a i =
+    pub entering-stands : (r : Run) (e : Edge) → e ∈ g .edges → (a : ℤ) → InRun (entering g l r e) a → StandsOn (node g (e .to)) a
+    entering-stands r e m a i =
         let inside = cut-inside (window g (e .to) l) (shift (bitOffset g e) r) in
         let within = window-within taken f (taken .ends e m .1) in
         record { above = omega (arith, ints, i .above, inside .low, within .low); below = omega (arith, ints, i .below, inside .high, within .high) }
 
-    -- behind an edge a way has an edge less
-    behind-short : (p : List Edge) → Way g (e .to) p l → length p ≤ maxBehind
-    behind-short p w = let h = way-short (f .short) (over e m q w) in omega (arith, h)
-
-    -- the rows of what enters have what walks from there reach
-    entered-give : (x y : ℤ)
-        → Give (enteredRows shared g l (e .to) (entering g l r e)) x y ↔ ((a : ℤ) × Joins (entering g l r e) x a × Reached g (e .to) l a y)
-    unfolding enteredRows
-    entered-give x y = go (eqZ (e .to) (pos shared))
-      where
-        s : Run
-        s = entering g l r e
-
-        go : (b : Bool)
-            → Give (cond b (keptRows s (listOf g (e .to) l)) (runRows maxBehind g (e .to) l s)) x y ↔ ((a : ℤ) × Joins s x a × Reached g (e .to) l a y)
-        go true =
-            let kept = kept-rows-give s (listOf g (e .to) l) x y in (
-              λ h. let (a, j, k) = kept .0 h in (a, j, list-reached f a y .1 k),
-              λ (a, j, k). kept .1 (a, j, list-reached f a y .0 k),
-            )
-        go false = run-rows-give maxBehind (e .to) s entering-stands behind-short x y
-
-    -- and so have those of the edge
-    over-gives : (x y : ℤ) → Give (overRows shared g l r e) x y ↔ ((a : ℤ) × Joins (entering g l r e) x a × Reached g (e .to) l a y)
-    unfolding overRows
-    over-gives x y = go (empty (entering g l r e)) (test? (empty (entering g l r e)))
-      where
-        s : Run
-        s = entering g l r e
-
-        go : (b : Bool) → Test (T (empty s)) (T (not (empty s))) b
-            → Give (cond b [] (enteredRows shared g l (e .to) s)) x y ↔ ((a : ℤ) × Joins s x a × Reached g (e .to) l a y)
-        go true (passed t) = (λ (t, n, h). absurd (List·Memᴰ·not-nil n), λ (a, j, h). absurd (empty-none s a t (j .inside)))
-        go false (failed t) = entered-give x y
-
-  module _ (taken : Taken g) (shared : ℕ) {v : ℤ} (n : v ≢ l) where
-    -- the bits of v in its window
-    abbrev seen : Run
-    seen = cut (window g v l) (whole (node g v))
-
-    -- they join every bit of v in the window to itself
-    seen-joins : (x a : ℤ) → Joins (cut (window g v l) (whole (node g v))) x a ↔ ((x ≡ a) × StandsOn (node g v) a × (window g v l .low ≤ℤ a) × (a ≤ℤ window g v l .high))
-    seen-joins x a = (
-      λ j. let h = cut-joins (window g v l) (whole (node g v)) x a .0 j in let w = whole-joins (node g v) x a .0 (h .0) in (w .0, w .1, h .1, h .2),
-      λ (e, s, h, k). cut-joins (window g v l) (whole (node g v)) x a .1 (whole-joins (node g v) x a .1 (e, s), h, k),
-    )
-
-    -- a walk from v goes over one of its edges, into a run that the edge gives
-    walk-over : {x b : ℤ} → Walk g v x l b
-        → (e : Edge) × (e ∈ g .edges) × (e .from ≡ v) × Joins (entering g l (cut (window g v l) (whole (node g v))) e) x (x -ℤ bitOffset g e) × Walk g (e .to) (x -ℤ bitOffset g e) l b
-    walk-over {x} {b} walk =
-        let (e, m, q, h, w) = walk-first walk n in
-        let o = bitOffset g e in
-        let here = window-holds walk in
-        let there = window-holds w in
-        let j = seen-joins x x .1 (refl, h, here .0, here .1) in
-        let moved = shift-joins o seen x (x -ℤ o) .1 (subst (λ (a : ℤ). Joins seen x a) (sym (-ℤ-+ℤ-cancel x o)) j) in
-        (e, m, q, cut-joins (window g (e .to) l) (shift o seen) x (x -ℤ o) .1 (moved, there .0, there .1), w)
-
-    -- what an edge gives and a walk goes on from, a walk from v reaches
-    over-walk : {x a b : ℤ} (e : Edge) → e ∈ g .edges → e .from ≡ v → Joins (entering g l (cut (window g v l) (whole (node g v))) e) x a → Walk g (e .to) a l b → Walk g v x l b
-    over-walk {x} {a} {b} e m q j w =
-        let o = bitOffset g e in
-        let h = cut-joins (window g (e .to) l) (shift o seen) x a .0 j in
-        let k = seen-joins x (a +ℤ o) .0 (shift-joins o seen x a .0 (h .0)) in
-        let back : a ≡ x -ℤ o = omega (arith, ints, k .0, sum a o, diff x o) in
-        step e m q (subst (λ (z : ℤ). StandsOn (node g v) z) (sym (k .0)) (k .1)) (subst (λ (z : ℤ). Walk g (e .to) z l b) back w)
-
-    -- the rows of all edges that leave v have exactly what v reaches
-    pub edges-give : (x y : ℤ) → Give (flatMap (overRows shared g l (cut (window g v l) (whole (node g v)))) (leaving g v)) x y ↔ Reached g v l x y
-    edges-give x y = (
+    -- at any other node the rows of the edges give what is reached, where those of each edge give what is reached behind it
+    edges-hit : (v : ℤ) (r : Run) → v ≢ l → ((a : ℤ) → InRun r a → StandsOn (node g v) a) → (sub : Edge → List Row) (x y : ℤ)
+        → ((e : Edge) → e ∈ leaving g v → Give (sub e) x y ↔ Hits (e .to) (entering g l r e) x y) → Give (flatMap sub (leaving g v)) x y ↔ Hits v r x y
+    edges-hit v r n stands sub x y each = (
       λ h.
-          let (e, m, k) = give-some (overRows shared g l seen) (leaving g v) x y .0 h in
+          let (e, m, k) = give-some sub (leaving g v) x y .0 h in
           let from = leaving-out g v m in
-          let (a, j, reach) = over-gives taken shared seen e (from .0) (from .1) x y .0 k in
-          record { arrival = reach .arrival; walk = over-walk e (from .0) (from .1) j (reach .walk); leafBit = reach .leafBit },
-      λ h.
-          let (e, m, q, j, w) = walk-over (h .walk) in
-          let reach : Reached g (e .to) l (x -ℤ bitOffset g e) y = record { arrival = h .arrival; walk = w; leafBit = h .leafBit } in
-          give-some (overRows shared g l seen) (leaving g v) x y .1 (e, leaving-in g m q, over-gives taken shared seen e m q x y .1 (x -ℤ bitOffset g e, j, reach)),
+          let o = bitOffset g e in
+          let (a, j, reach) = each e m .0 k in
+          let c = cut-joins (window g (e .to) l) (shift o r) x a .0 j in
+          let before = shift-joins o r x a .0 (c .0) in
+          let walk = step e (from .0) (from .1) (stands (a +ℤ o) (before .inside)) (subst (λ (z : ℤ). Walk g (e .to) z l (reach .arrival)) (sym (+ℤ-negℤ-cancel a o)) (reach .walk)) in
+          (a +ℤ o, before, record { arrival = reach .arrival; walk = walk; leafBit = reach .leafBit }),
+      λ (a, j, h).
+          let (e, m, q, s, w) = walk-first (h .walk) n in
+          let o = bitOffset g e in
+          let there = window-holds w in
+          let moved = shift-joins o r x (a -ℤ o) .1 (subst (λ (b : ℤ). Joins r x b) (sym (-ℤ-+ℤ-cancel a o)) j) in
+          let enters = cut-joins (window g (e .to) l) (shift o r) x (a -ℤ o) .1 (moved, there .0, there .1) in
+          let reach : Reached g (e .to) l (a -ℤ o) y = record { arrival = h .arrival; walk = w; leafBit = h .leafBit } in
+          give-some sub (leaving g v) x y .1 (e, leaving-in g m q, each e (leaving-in g m q) .1 (a -ℤ o, enters, reach)),
     )
+
+    -- the rows of a run, where a way to the leaf has no more edges than are left. At the shared node its list gives them, at the leaf the run itself,
+    -- elsewhere the edges, by the law from the nodes that they enter
+    pub shared-hits : (k shared : ℕ) (v : ℤ) (r : Run) → ((a : ℤ) → InRun r a → StandsOn (node g v) a) → ((p : List Edge) → Way g v p l → length p ≤ k) → (x y : ℤ)
+        → Give (sharedRows k shared g v l r) x y ↔ Hits v r x y
+    unfolding sharedRows
+    shared-hits zero shared v r stands short x y = go (eqZ v (pos shared)) (eqZ v l) (eqZ? v l)
+      where
+        none : v ≢ l → Hits v r x y → ⊥
+        none n (a, j, h) =
+            let (e, m, q, s, w) = walk-first (h .walk) n in
+            let t = walk-route w in
+            let k = short (e ∷ t .path) (over e m q (t .way)) in
+            omega (arith, k)
+
+        go : (b c : Bool) → Test (v ≡ l) (v ≢ l) c → Give (cond b (keptRows r (listOf g v l)) (cond c (runRow (node g l) r ∷ []) [])) x y ↔ Hits v r x y
+        go true c t = kept-hits v r x y
+        go false true (passed e) = leaf-hits v r e stands x y
+        go false false (failed n) = (λ (t, m, h). absurd (List·Memᴰ·not-nil m), λ h. absurd (none n h))
+    shared-hits (suc k) shared v r stands short x y =
+        go (eqZ v (pos shared)) (eqZ v l) (eqZ? v l)
+        (λ e m.
+        let from = leaving-out g v m in
+        shared-hits k shared (e .to) (entering g l r e) (entering-stands r e (from .0)) (λ p w. let h = short (e ∷ p) (over e (from .0) (from .1) w) in omega (arith, h)) x y)
+      where
+        Each : Type 0
+        Each = (e : Edge) → e ∈ leaving g v → Give (sharedRows k shared g (e .to) l (entering g l r e)) x y ↔ Hits (e .to) (entering g l r e) x y
+
+        unless : (e : Edge) (b : Bool) → Test (T (empty (entering g l r e))) (T (not (empty (entering g l r e)))) b
+            → Give (sharedRows k shared g (e .to) l (entering g l r e)) x y ↔ Hits (e .to) (entering g l r e) x y
+            → Give (cond b [] (sharedRows k shared g (e .to) l (entering g l r e))) x y ↔ Hits (e .to) (entering g l r e) x y
+        unless e true (passed t) rest = (λ (t, n, h). absurd (List·Memᴰ·not-nil n), λ (a, j, h). absurd (empty-none (entering g l r e) a t (j .inside)))
+        unless e false (failed t) rest = rest
+
+        go : (b c : Bool) → Test (v ≡ l) (v ≢ l) c → Each
+            → Give (cond b (keptRows r (listOf g v l)) (cond c (runRow (node g l) r ∷ []) (flatMap (overRows k shared g l r) (leaving g v)))) x y ↔ Hits v r x y
+        go true c t each = kept-hits v r x y
+        go false true (passed e) each = leaf-hits v r e stands x y
+        go false false (failed n) each =
+            edges-hit v r n stands (overRows k shared g l r) x y (λ e m. unless e (empty (entering g l r e)) (test? (empty (entering g l r e))) (each e m))

@@ -2,25 +2,25 @@
 use mathlib.Core.Path.{_≡_}
 use mathlib.Core.Bool.{cond, _&&_}
 use mathlib.Core.List.{List, [], _∷_, flatMap}
-use Prim.Native.Nat.{ℕ, _+_, _-_, _*_, _≤_}
+use Prim.Native.Nat.{ℕ, zero, suc, _+_, _*_, _≤_}
 use lib.Dec.{ltb}
 use lib.IntN.{ℤ, pos, _+ℤ_, _-ℤ_}
 use lib.Signed.{_≤ℤ_}
 use lib.ListN.{length, take}
 use Rattle.integers.specs.Integers.{eqZ}
-use Rattle.model.specs.Limits.{maxNodes, maxChain, maxPaths}
+use Rattle.model.specs.Limits.{maxNodes, maxPaths}
 use Rattle.model.specs.Rows.{Edge}
-use Rattle.model.specs.Graph.{Graph, graphOf, NodeRow, bitOffset}
+use Rattle.model.specs.Graph.{Graph, graphOf, NodeRow, node, bitOffset}
 use Rattle.model.specs.Bitmapping.{Record}
 use Rattle.model.specs.Quantities.{Movable}
-use Rattle.model.specs.Runs.{Run, empty, shift, listOf}
+use Rattle.model.specs.Runs.{Run, empty, shift, leaving, listOf}
 use Rattle.model.specs.Calls.{numbersOf}
 use Rattle.sorting.specs.declared.Row.{Row}
 use Rattle.normalisation.specs.Merging.{byDisplacement}
 use Rattle.reach.specs.Counting.{pathCount, countsOver}
 use Rattle.steps.specs.Steps.{SmallOffset, SmallExtent}
 use Rattle.windows.specs.Windows.{Span, cut, window}
-use Rattle.listing.specs.Listing.{LinkedTo, Windowed, runRows}
+use Rattle.listing.specs.Listing.{LinkedTo, Windowed, runRow}
 use Rattle.sharing.specs.declared.Shared.{Shared}
 
 -- the node v, where it is a node row with at most 1,024 paths to the leaf l; else 2,000, which no node row is
@@ -71,20 +71,23 @@ keptRow r s = cond (empty (cut (bitsOf s) r)) [] (byDisplacement (displaced (s .
 unfoldable pub keptRows : Run → List Record → List Row
 keptRows r l = flatMap (keptRow r) l
 
--- ---- the rows of a root
-
--- edges of a path at most behind its first
-abbrev pub maxBehind : ℕ
-maxBehind = maxChain - 1
-
--- the rows of a run that enters node v: at the shared node by its list, at any other along the paths from there
-unfoldable pub enteredRows : ℕ → Graph → ℤ → ℤ → Run → List Row
-enteredRows shared g l v r = cond (eqZ v (pos shared)) (keptRows r (listOf g v l)) (runRows maxBehind g v l r)
+-- ---- the rows of a run
 
 -- a run over an edge: shifted, then cut by the window of the node entered
 abbrev pub entering : Graph → ℤ → Run → Edge → Run
 entering g l r e = cut (window g (e .to) l) (shift (bitOffset g e) r)
 
+-- the rows of run r at node v for the leaf l, over at most k edges: at the shared node by its list, at the leaf one row, elsewhere those of the edges that
+-- leave v, each of what enters over it
+unfoldable pub sharedRows : ℕ → ℕ → Graph → ℤ → ℤ → Run → List Row
+sharedRows zero shared g v l r =
+    let kept = keptRows r (listOf g v l) in
+    cond (eqZ v (pos shared)) kept (cond (eqZ v l) (runRow (node g l) r ∷ []) [])
+sharedRows (suc k) shared g v l r =
+    let kept = keptRows r (listOf g v l) in
+    let onward = flatMap (λ e. cond (empty (entering g l r e)) [] (sharedRows k shared g (e .to) l (entering g l r e))) (leaving g v) in
+    cond (eqZ v (pos shared)) kept (cond (eqZ v l) (runRow (node g l) r ∷ []) onward)
+
 -- what an edge gives of a run: nothing where no bit enters, else the rows of what enters
-unfoldable pub overRows : ℕ → Graph → ℤ → Run → Edge → List Row
-overRows shared g l r e = cond (empty (entering g l r e)) [] (enteredRows shared g l (e .to) (entering g l r e))
+abbrev pub overRows : ℕ → ℕ → Graph → ℤ → Run → Edge → List Row
+overRows k shared g l r e = cond (empty (entering g l r e)) [] (sharedRows k shared g (e .to) l (entering g l r e))

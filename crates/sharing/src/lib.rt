@@ -1,24 +1,23 @@
 // The list of one node, kept while the lists of the roots that lead to it are made: the part of a list behind that node is listed once, and not
 // again for each root.
 ghost use mathlib.Core.Path.{_≡_};
-ghost use mathlib.Core.List.{flatMap};
 ghost use Prim.Native.Nat.{ℕ, _+_, _*_, _≤_, _<_};
 ghost use lib.IntN.{pos};
 ghost use lib.ListN.{length, take};
 ghost use Rattle.model.specs.Limits.{maxNodes};
 ghost use Rattle.model.specs.Graph.{graphOf, NodeRow};
-ghost use Rattle.model.specs.Runs.{leaving, listOf};
+ghost use Rattle.model.specs.Runs.{listOf};
 ghost use Rattle.model.specs.Calls.{numbersOf};
 ghost use Rattle.steps.specs.Steps.{runOf, living, livingOf, SmallRun};
 ghost use Rattle.windows.specs.Windows.{cut};
 ghost use Rattle.normalisation.specs.Merging.{byDisplacement};
 ghost use Rattle.verdicts.specs.Records.{recordAt, recordsOf};
 ghost use Rattle.listing.specs.Listing.{LinkedTo, Windowed, Listable, Appended};
-ghost use Rattle.sharing.specs.Sharing.{keptNode, Keeps, Keepable, displaced, Displaceable, bitsOf, SmallKept, keptRow, keptRows, enteredRows, overRows};
+ghost use Rattle.sharing.specs.Sharing.{keptNode, Keeps, Keepable, displaced, Displaceable, bitsOf, SmallKept, keptRow, keptRows, sharedRows};
 use listing::append_row;
 use listing::edge_behind;
-use listing::list_from;
 use listing::list_linked;
+use listing::run_row;
 use model::Bits;
 use model::EDGE_WIDTH;
 use model::MAX_CHAIN;
@@ -151,54 +150,10 @@ fn append_kept(kept: &[i64], count: usize, run: Run, out: &mut [i64], n: usize) 
     m
 }
 
-// Appends the rows of a run that enters node `to`: at the shared node by its list, at any other along the paths from there.
-fn append_entered(
-    nodes: &[i64],
-    edges: &[i64],
-    head: &[usize],
-    next: &[usize],
-    offsets: &[i64],
-    windows: &[i64],
-    leaf: usize,
-    shared: Shared,
-    kept: &[i64],
-    to: usize,
-    run: Run,
-    out: &mut [i64],
-    n: usize,
-) -> usize
-    requires { ⌜
-        LinkedTo (now nodes) (now edges) leaf (now head) (now next)
-        × Windowed (now nodes) (now edges) leaf (now offsets) (now windows)
-        × Keeps (now nodes) (now edges) leaf shared (now kept)
-        × NodeRow (graphOf (now nodes) (now edges)) (pos to)
-        × SmallRun (runOf run)
-        × (3 * (n + length (enteredRows (shared .node) (graphOf (now nodes) (now edges)) (pos leaf) (pos to) (runOf run))) ≤ length (now out)) ⌝ }
-    ensures { λ r. ⌜
-        Appended (enteredRows (shared .node) (graphOf (now (nodes .entry)) (now (edges .entry))) (pos leaf) (pos to) (runOf run))
-        (now (out .entry)) (now (out .exit)) n r ⌝ }
-{
-    if to == shared.node {
-        return append_kept(kept, shared.count, run, out, n);
-    }
-    list_from(
-        nodes,
-        edges,
-        head,
-        next,
-        offsets,
-        windows,
-        leaf,
-        to,
-        run,
-        MAX_CHAIN - 1,
-        out,
-        n,
-    )
-}
-
-// Lists what the linked edges of node v give of a run there: rows in front of `out`. Returns how many they are.
-fn list_edges(
+// Lists the rows of a run at node v, over at most `left` edges, behind the first n rows of `out`: at the shared node by its list, at the leaf one row,
+// elsewhere those of the linked edges. Returns how many rows stand there then. Goes over the edges that some bit of the run crosses into the window of the
+// node entered.
+pub fn list_shared_from(
     nodes: &[i64],
     edges: &[i64],
     head: &[usize],
@@ -210,7 +165,9 @@ fn list_edges(
     kept: &[i64],
     v: usize,
     run: Run,
+    left: usize,
     out: &mut [i64],
+    n: usize,
 ) -> usize
     requires { ⌜
         LinkedTo (now nodes) (now edges) leaf (now head) (now next)
@@ -218,22 +175,28 @@ fn list_edges(
         × Keeps (now nodes) (now edges) leaf shared (now kept)
         × NodeRow (graphOf (now nodes) (now edges)) (pos v)
         × SmallRun (runOf run)
-        × (3 * length (flatMap (overRows (shared .node) (graphOf (now nodes) (now edges)) (pos leaf) (runOf run)) (leaving (graphOf (now nodes) (now edges)) (pos v)))
-        ≤ length (now out)) ⌝ }
+        × (3 * (n + length (sharedRows left (shared .node) (graphOf (now nodes) (now edges)) (pos v) (pos leaf) (runOf run))) ≤ length (now out)) ⌝ }
     ensures { λ r. ⌜
-        Appended
-        (flatMap (overRows (shared .node) (graphOf (now (nodes .entry)) (now (edges .entry))) (pos leaf) (runOf run))
-        (leaving (graphOf (now (nodes .entry)) (now (edges .entry))) (pos v)))
-        (now (out .entry)) (now (out .exit)) 0 r ⌝ }
+        Appended (sharedRows left (shared .node) (graphOf (now (nodes .entry)) (now (edges .entry))) (pos v) (pos leaf) (runOf run))
+        (now (out .entry)) (now (out .exit)) n r ⌝ }
 {
+    if v == shared.node {
+        return append_kept(kept, shared.count, run, out, n);
+    }
+    if v == leaf {
+        return append_row(out, n, run_row(nodes, leaf, run));
+    }
+    if left == 0 {
+        return n;
+    }
     let count = edges.len() / EDGE_WIDTH;
-    let mut m: usize = 0;
+    let mut m = n;
     let mut e = head[v];
     while e < count {
         let to = tables::edge_to(edges, e);
         let crossed = windows::cross(offsets, windows, e, to, run);
         if let Clipped::Left(entered) = crossed {
-            m = append_entered(
+            m = list_shared_from(
                 nodes,
                 edges,
                 head,
@@ -245,6 +208,7 @@ fn list_edges(
                 kept,
                 to,
                 entered,
+                left - 1,
                 out,
                 m,
             );
@@ -255,7 +219,7 @@ fn list_edges(
 }
 
 // Lists the bitmapping list of a root and the leaf that the edges are linked for, as list_linked does: its records stand in front of `work`. What
-// an edge into the shared node gives comes from the list that is kept. What stands behind the records, and in `spare`, is space that was worked in.
+// comes to the shared node is listed by the list that is kept. What stands behind the records, and in `spare`, is space that was worked in.
 pub fn list_shared(
     nodes: &[i64],
     edges: &[i64],
@@ -277,23 +241,9 @@ pub fn list_shared(
     ensures { λ r. ⌜ r ≡ length (listOf (graphOf (now (nodes .entry)) (now (edges .entry))) (pos root) (pos leaf)) ⌝ }
     ensures { λ r. ⌜ take (3 * r) (now (work .exit)) ≡ numbersOf (listOf (graphOf (now (nodes .entry)) (now (edges .entry))) (pos root) (pos leaf)) ⌝ }
 {
-    if root == leaf {
-        return list_linked(
-            nodes,
-            edges,
-            root,
-            leaf,
-            head,
-            next,
-            offsets,
-            windows,
-            work,
-            spare,
-        );
-    }
     let reaching = windows::cut(windows, root, steps::whole(nodes, root));
     if let Clipped::Left(run) = reaching {
-        let n = list_edges(
+        let n = list_shared_from(
             nodes,
             edges,
             head,
@@ -305,7 +255,9 @@ pub fn list_shared(
             kept,
             root,
             run,
+            MAX_CHAIN,
             work,
+            0,
         );
         return normalisation::normalise(work, n, spare);
     }

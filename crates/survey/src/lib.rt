@@ -14,6 +14,7 @@ ghost use Rattle.survey.specs.Lines.{Between, Collected, Sorts, FewFound
 ghost use Rattle.survey.specs.Found.{asTotals, AtMost, placed, withCount, KeptMost, equalKept, freshKept, LeafKept, AllKept, SurveyPromise};
 ghost use Rattle.survey.specs.Inputs.{Measured, AllReady};
 use model::EDGE_WIDTH;
+use model::MAX_CHAIN;
 use model::MAX_EDGES;
 use model::MAX_NODES;
 use model::PAIR_WIDTH;
@@ -287,31 +288,61 @@ fn entered_by(edges: &[i64], row: usize) -> usize
     node_of(number)
 }
 
-// The node that the first linked edge of a root enters, MAX_NODES where no path leads from the root.
-fn first_entered(edges: &[i64], counts: &[usize], head: &[usize], root: usize) -> usize
+// The node that the first linked edge of a node enters, MAX_NODES where no path leads from it.
+fn first_entered(edges: &[i64], counts: &[usize], head: &[usize], node: usize) -> usize
     ensures { λ r. ⌜ r ≤ maxNodes ⌝ }
 {
-    if counts.len() <= root {
+    if counts.len() <= node {
         return MAX_NODES;
     }
-    if head.len() <= root {
+    if head.len() <= node {
         return MAX_NODES;
     }
-    if counts[root] == 0 {
+    if counts[node] == 0 {
         return MAX_NODES;
     }
-    let row = head[root];
+    let row = head[node];
     entered_by(edges, row)
 }
 
-// A node, and by how many more roots it was entered than not.
+// The number of paths from a node to the leaf, 0 where there is no such node.
+fn count_of(counts: &[usize], node: usize) -> usize {
+    if counts.len() <= node {
+        return 0;
+    }
+    counts[node]
+}
+
+// The node behind a root from which its paths part: along the first linked edges the first with fewer paths behind its next node. MAX_NODES where there is
+// one path or none.
+fn parting_node(edges: &[i64], counts: &[usize], head: &[usize], root: usize) -> usize
+    ensures { λ r. ⌜ r ≤ maxNodes ⌝ }
+{
+    let mut node = first_entered(edges, counts, head, root);
+    let mut left = MAX_CHAIN;
+    while 0 < left {
+        let paths = count_of(counts, node);
+        if paths < 2 {
+            return MAX_NODES;
+        }
+        let next = first_entered(edges, counts, head, node);
+        if count_of(counts, next) != paths {
+            return node;
+        }
+        node = next;
+        left -= 1;
+    }
+    MAX_NODES
+}
+
+// A node, and how many more roots have it than have not.
 struct Lead {
     node: usize,
     roots: usize,
 }
 
-// The lead after one more root, which enters this node: a node leads that more than half of the roots enter.
-fn with_entered(lead: Lead, node: usize) -> Lead
+// The lead after one more root, which has this node: a node leads that more than half of the roots have.
+fn with_root(lead: Lead, node: usize) -> Lead
     requires { ⌜ (lead .node ≤ maxNodes) × (lead .roots + 1 < 2 ^ 64) × (node ≤ maxNodes) ⌝ }
     ensures { λ r. ⌜ (r .node ≤ maxNodes) × (r .roots ≤ lead .roots + 1) ⌝ }
 {
@@ -333,7 +364,7 @@ fn with_entered(lead: Lead, node: usize) -> Lead
     }
 }
 
-// The node that the first linked edges of more than half of the roots with a path enter, by two roots at least; where there is none, another node, or
+// The node from which the paths of more than half of the roots with several paths part, two roots at least; where there is none, another node, or
 // MAX_NODES, of which no list is kept. Any node may be chosen, so that nothing is asked of the tables.
 fn shared_node(
     edges: &[i64],
@@ -353,9 +384,9 @@ fn shared_node(
     };
     let mut row = from;
     while row < to {
-        let node = first_entered(edges, counts, head, root_in(root_pairs, row, column));
+        let node = parting_node(edges, counts, head, root_in(root_pairs, row, column));
         if node < MAX_NODES {
-            lead = with_entered(lead, node);
+            lead = with_root(lead, node);
         }
         row += 1;
     }

@@ -19,14 +19,14 @@ loop-holds c = (omega arith, omega arith)
 root-in-requires : tie.Need-root-in-requires Inv-loop μ-loop
 root-in-requires c κs = search needs
 
-first-entered-requires : tie.Need-first-entered-requires Inv-loop μ-loop
-first-entered-requires c κs = search needs
+parting-node-requires : tie.Need-parting-node-requires Inv-loop μ-loop
+parting-node-requires c κs = search needs
 
-with-entered-requires : tie.Need-with-entered-requires Inv-loop μ-loop
-with-entered-requires c κs =
+with-root-requires : tie.Need-with-root-requires Inv-loop μ-loop
+with-root-requires c κs =
     let i = c .before .before .before in
     let l = i .before in
-    (l .loop .inv .0, omega (arith, l .loop .inv .1, i .loop-test .taken, l .before .before .before .fits .to), c .before .first-entered .ensures)
+    (l .loop .inv .0, omega (arith, l .loop .inv .1, i .loop-test .taken, l .before .before .before .fits .to), c .before .parting-node .ensures)
 
 add-row : tie.Need-add-row Inv-loop μ-loop
 add-row c = search needs
@@ -56,8 +56,8 @@ shared-node-spec =
     μ-loop
     loop-holds
     root-in-requires
-    first-entered-requires
-    with-entered-requires
+    parting-node-requires
+    with-root-requires
     add-row
     loop-less
     loop-again

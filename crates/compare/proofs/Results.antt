@@ -21,12 +21,13 @@ use Rattle.model.proofs.Demand.{compare-full, demand3}
 use Rattle.visiting.specs.Visiting.{byLeaf, noKey, totalsOf, resultFrom, manyKey, refusalFrom}
 use Rattle.visiting.proofs.Result.{result-by-leaf}
 use Rattle.visiting.proofs.Refusal.{refusal-by-leaf}
-use Rattle.survey.specs.declared.Kept.{Kept}
+use Rattle.totals.specs.declared.Kept.{Kept}
+use Rattle.totals.specs.Kept.{asTotals}
 use Rattle.survey.specs.Lines.{findingsBetween, LinesHeld}
 use Rattle.compare.specs.Inputs.{checkInputs, checkPaths, pathsAnswer, InputsChecked}
 use Rattle.pairs.specs.Inputs.{Inputs, AllFew}
 use Rattle.compare.specs.Keys.{lowestMany}
-use Rattle.survey.specs.Found.{asTotals, SurveyPromise}
+use Rattle.survey.specs.Found.{SurveyPromise}
 use Rattle.survey.proofs.Between.{between-all}
 use Rattle.compare.specs.Promises.{ComparePromise, LinesPromise}
 use Rattle.pairs.proofs.Rows.{rows-few}

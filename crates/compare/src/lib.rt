@@ -13,8 +13,9 @@ ghost use Rattle.model.specs.Answers.{comparisonResult, comparedAnswer, verdict
 ghost use Rattle.pairing.specs.Pairs.{tablesOf};
 ghost use Rattle.visiting.specs.Visiting.{noKey, resultFrom, lowestFrom, refusalFrom};
 ghost use Rattle.pairs.specs.Inputs.{Ordered, AllFew};
+ghost use Rattle.totals.specs.Kept.{asTotals};
 ghost use Rattle.survey.specs.Lines.{LinesHeld, findingsBetween};
-ghost use Rattle.survey.specs.Found.{asTotals, wholeVerdict};
+ghost use Rattle.survey.specs.Found.{wholeVerdict};
 ghost use Rattle.compare.specs.Inputs.{pathsAnswer, InputsChecked};
 ghost use Rattle.compare.specs.Keys.{keyBy, countKey, Keyed, rowKeys, lowestMany};
 ghost use Rattle.compare.specs.Promises.{ComparePromise, LinesPromise};
@@ -40,9 +41,9 @@ use pairs::impl_node;
 use pairs::place_of;
 use pairs::spec_node;
 use reach::count_paths;
-use survey::NO_KEY;
-use survey::Totals;
 use survey::survey;
+use totals::NO_KEY;
+use totals::Totals;
 
 // The answer of a comparison and how many pairs have a record on either side: 0 where it is a refusal.
 pub struct Lined {

@@ -1,8 +1,6 @@
 pub mod Between
-pub mod Collecting
 pub mod Ordering
 pub mod Lines
-pub mod Adding
 pub mod Passing
 pub mod Surveys
 pub mod Unentered

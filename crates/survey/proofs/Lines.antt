@@ -1,11 +1,10 @@
 -- What is found of a pair as a row is the row of its finding, where that has one.
 use mathlib.Core.Path.{_≡_, refl, ap, _∙_}
-use mathlib.Core.Logic.{_≢_}
 use mathlib.Core.Bool.{Bool, true, false, not, cond, _&&_}
 use mathlib.Core.List.{List, [], _∷_, _++_, map, map-append}
 use Prim.Native.Nat.{ℕ, _+_, _*_}
 use native.Mathlib.Omega.{arith}
-use borrow.Author.Tests.{eq-eqb, ne-eqb}
+use borrow.Author.Tests.{ne-eqb}
 use lib.Dec.{eqb}
 use lib.ListN.{length}
 use Rattle.lists.specs.Lists.{keep, isNil}
@@ -16,7 +15,7 @@ use Rattle.reporting.specs.Lines.{hasLine, rowOfFinding, rowsOfFindings}
 use Rattle.pairs.specs.declared.Found.{Found}
 use Rattle.pairs.specs.Inputs.{findingAt}
 use Rattle.pairs.specs.Found.{IsFinding}
-use Rattle.survey.specs.Lines.{foundRow, foundRows}
+use Rattle.totals.specs.Lines.{foundRow, foundRows}
 
 -- the rows of findings behind others
 pub rows-append : (k l : List Finding) → rowsOfFindings (k ++ l) ≡ rowsOfFindings k ++ rowsOfFindings l
@@ -34,16 +33,6 @@ unfolding isNil
 lengths-none [] [] = refl
 lengths-none {A} [] (x ∷ l) = ne-eqb (length {A = A} [] + length (x ∷ l)) 0 (λ e. omega (arith, e))
 lengths-none (x ∷ k) l = ne-eqb (length (x ∷ k) + length l) 0 (λ e. omega (arith, e))
-
--- what is found without a record has no row
-pub found-rows-none : (place : ℕ) (f : Found) → f .spec + f .implementation ≡ 0 → foundRows place f ≡ []
-unfolding foundRows
-found-rows-none place f e = rw (eq-eqb (f .spec + f .implementation) 0 e) refl
-
--- else it has one
-pub found-rows-one : (place : ℕ) (f : Found) → f .spec + f .implementation ≢ 0 → foundRows place f ≡ foundRow place f ∷ []
-unfolding foundRows
-found-rows-one place f n = rw (ne-eqb (f .spec + f .implementation) 0 n) refl
 
 -- the row of what is found is that of the finding
 pub found-rows : (t : Tables) (i j : ℕ) {place : ℕ} {f : Found} → IsFinding (findingAt t i j) f → place ≡ i * rootStride + j

@@ -17,14 +17,16 @@ use Rattle.pairs.specs.declared.Found.{Found}
 use Rattle.pairs.specs.Inputs.{findingAt}
 use Rattle.pairs.specs.Found.{IsFinding}
 use Rattle.pairs.proofs.Rows.{rowsLeft, rows-next, rows-none}
-use Rattle.survey.specs.declared.Totals.{Totals}
-use Rattle.survey.specs.declared.Kept.{Kept}
-use Rattle.survey.specs.Lines.{Between, rootsBetween, RowsHeld, LinesHeld, Collected, foundRows}
-use Rattle.survey.specs.Found.{asTotals, AtMost, KeptMost, freshKept, leafFindings, allFindings, LeafKept, AllKept}
-use Rattle.survey.proofs.Adding.{with-most, at-most-more}
+use Rattle.totals.specs.declared.Totals.{Totals}
+use Rattle.totals.specs.declared.Kept.{Kept}
+use Rattle.totals.specs.Lines.{RowsHeld, Collected, foundRows}
+use Rattle.totals.specs.Kept.{asTotals, AtMost, KeptMost, freshKept}
+use Rattle.totals.proofs.Adding.{with-most, at-most-more}
+use Rattle.totals.proofs.Collecting.{collected-none, collected-on}
+use Rattle.survey.specs.Lines.{Between, rootsBetween, LinesHeld}
+use Rattle.survey.specs.Found.{leafFindings, allFindings, LeafKept, AllKept}
 use Rattle.survey.proofs.Between.{between-next, between-none}
 use Rattle.survey.proofs.Lines.{rows-append, rows-none-found, found-rows}
-use Rattle.survey.proofs.Collecting.{collected-none, collected-on}
 
 -- ---- no pair
 

@@ -15,8 +15,9 @@ use Rattle.visiting.proofs.Keys.{pair-row-below}
 use Rattle.reporting.specs.Lines.{rowsOfFindings}
 use Rattle.pairs.specs.Inputs.{Inputs}
 use Rattle.pairs.proofs.Rows.{rows-few}
-use Rattle.survey.specs.declared.Kept.{Kept}
-use Rattle.survey.specs.Lines.{rootsBetween, findingsBetween, RowsHeld, Sorts}
+use Rattle.totals.specs.declared.Kept.{Kept}
+use Rattle.totals.specs.Lines.{RowsHeld, Sorts}
+use Rattle.survey.specs.Lines.{rootsBetween, findingsBetween}
 use Rattle.survey.specs.Found.{allFindings, AllKept, SurveyPromise}
 use Rattle.survey.proofs.Between.{between-out, between-ascends}
 use Rattle.survey.proofs.Ordering.{rows-in-order}

@@ -23,11 +23,13 @@ use Rattle.pairs.specs.Inputs.{Inputs}
 use Rattle.pairs.specs.Entering.{isEntered}
 use Rattle.pairs.proofs.Inputs.{row-leaves}
 use Rattle.pairs.proofs.Entering.{unentered-list}
-use Rattle.survey.specs.declared.Kept.{Kept}
-use Rattle.survey.specs.Lines.{Between, rootsBetween, Collected}
-use Rattle.survey.specs.Found.{asTotals, KeptMost, equalTotals, equalKept, leafFindings, LeafKept}
+use Rattle.totals.specs.declared.Kept.{Kept}
+use Rattle.totals.specs.Lines.{Collected}
+use Rattle.totals.specs.Kept.{asTotals, KeptMost, equalTotals, equalKept}
+use Rattle.totals.proofs.Collecting.{collected-none}
+use Rattle.survey.specs.Lines.{Between, rootsBetween}
+use Rattle.survey.specs.Found.{leafFindings, LeafKept}
 use Rattle.survey.proofs.Between.{between-out, between-length}
-use Rattle.survey.proofs.Collecting.{collected-none}
 
 -- ---- findings without a record
 

@@ -9,8 +9,8 @@ use Rattle.model.specs.Paths.{Leaf}
 use Rattle.pairing.specs.Pairs.{pairAt}
 use Rattle.pairs.specs.Inputs.{Sweepable}
 use Rattle.pairs.proofs.Inputs.{row-leaves, leaf-row-below}
+use Rattle.totals.proofs.Adding.{at-most-more}
 use Rattle.survey.proofs.Ready.{spec-sweepable, impl-sweepable, leaf-ready, spec-enters, impl-enters}
-use Rattle.survey.proofs.Adding.{at-most-more}
 use Rattle.survey.proofs.Unentered.{unentered-kept}
 use Rattle.survey.proofs.found_of_row.Statement.{statement}
 use Rattle.survey.proofs.found_of_row.Tie as tie

@@ -5,9 +5,9 @@ use mir.Syntax.{w64}
 use mir.Val.{SFits}
 use mir.Facts.{toZ-ofZ}
 use borrow.Author.Tests.{lt-ltb, le-ltb}
-use Rattle.survey.specs.Found.{placed}
-use Rattle.survey.proofs.with_place.Statement.{statement}
-use Rattle.survey.proofs.with_place.Tie as tie
+use Rattle.totals.specs.Kept.{placed}
+use Rattle.totals.proofs.with_place.Statement.{statement}
+use Rattle.totals.proofs.with_place.Tie as tie
 
 returns : tie.Need-returns
 unfolding placed

@@ -4,11 +4,11 @@ use Rattle.model.specs.Answers.{verdictNumber}
 use Rattle.model.specs.declared.Verdict.{Verdict}
 use Rattle.model.specs.declared.Verdict.the-variants as variants
 use Rattle.visiting.specs.Visiting.{Totals, withVerdict}
-use Rattle.survey.specs.Found.{asTotals, placed, withCount}
-use Rattle.survey.proofs.Adding.{with-equal, with-unequal}
+use Rattle.totals.specs.Kept.{asTotals, placed, withCount}
+use Rattle.totals.proofs.Adding.{with-equal, with-unequal}
 use borrow.Author.Needs.{needs}
-use Rattle.survey.proofs.with_found.Statement.{statement}
-use Rattle.survey.proofs.with_found.Tie as tie
+use Rattle.totals.proofs.with_found.Statement.{statement}
+use Rattle.totals.proofs.with_found.Tie as tie
 
 counted-requires : tie.Need-counted-requires
 counted-requires c κs = search needs

@@ -9,7 +9,7 @@ use Rattle.sorting.specs.declared.Row.{Row}
 use Rattle.sorting.specs.Rows.{rowsOf, numbersOf, sorted}
 use Rattle.sorting.proofs.Tables.{rowsOf-written, numbersOf-rowsOf, numbersOf-append}
 use Rattle.sorting.proofs.Sorting.{sorted-length}
-use Rattle.survey.specs.Lines.{Collected, Sorts}
+use Rattle.totals.specs.Lines.{Collected, Sorts}
 
 -- ---- added rows
 

@@ -8,8 +8,8 @@ use lib.IntN.{ℤ}
 use Rattle.integers.proofs.Tests.{Test, passed, failed, ltb?}
 use Rattle.visiting.specs.Visiting as visiting
 use Rattle.visiting.specs.Visiting.{noKey, isEarlier, withVerdict}
-use Rattle.survey.specs.declared.Totals.{Totals}
-use Rattle.survey.specs.Found.{asTotals, AtMost, placed, withCount}
+use Rattle.totals.specs.declared.Totals.{Totals}
+use Rattle.totals.specs.Kept.{asTotals, AtMost, placed, withCount}
 
 -- ---- one more pair
 

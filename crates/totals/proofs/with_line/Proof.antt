@@ -1,11 +1,11 @@
 -- A pair without a record adds no row; the row of any other is stored where there is room, and counted.
 use native.Mathlib.Omega.{arith}
-use Rattle.survey.specs.Lines.{foundRow}
-use Rattle.survey.proofs.Collecting.{collected-none, collected-stored, collected-past}
-use Rattle.survey.proofs.Lines.{found-rows-none, found-rows-one}
+use Rattle.totals.specs.Lines.{foundRow}
+use Rattle.totals.proofs.Collecting.{collected-none, collected-stored, collected-past}
+use Rattle.totals.proofs.Lines.{found-rows-none, found-rows-one}
 use borrow.Author.Needs.{needs}
-use Rattle.survey.proofs.with_line.Statement.{statement}
-use Rattle.survey.proofs.with_line.Tie as tie
+use Rattle.totals.proofs.with_line.Statement.{statement}
+use Rattle.totals.proofs.with_line.Tie as tie
 
 add-if1 : tie.Need-add-if1
 add-if1 c = search needs

@@ -7,8 +7,8 @@ use mir.Val.{SFits}
 use mir.Facts.{toZ-ofZ, toZ-pos}
 use Rattle.reporting.specs.Lines.{lengthStride}
 use borrow.Author.Needs.{needs}
-use Rattle.survey.proofs.line_of.Statement.{statement}
-use Rattle.survey.proofs.line_of.Tie as tie
+use Rattle.totals.proofs.line_of.Statement.{statement}
+use Rattle.totals.proofs.line_of.Tie as tie
 
 cast-t4 : tie.Need-cast-t4
 cast-t4 c = search needs

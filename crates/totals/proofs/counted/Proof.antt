@@ -4,11 +4,11 @@ use native.Mathlib.Omega.{arith}
 use Rattle.model.specs.Answers.{verdictNumber}
 use Rattle.model.specs.declared.Verdict.{Verdict}
 use Rattle.visiting.specs.Visiting.{Totals}
-use Rattle.survey.specs.Found.{asTotals, withCount}
-use Rattle.survey.proofs.Adding.{count-equal, count-partial, count-different}
+use Rattle.totals.specs.Kept.{asTotals, withCount}
+use Rattle.totals.proofs.Adding.{count-equal, count-partial, count-different}
 use borrow.Author.Needs.{needs}
-use Rattle.survey.proofs.counted.Statement.{statement}
-use Rattle.survey.proofs.counted.Tie as tie
+use Rattle.totals.proofs.counted.Statement.{statement}
+use Rattle.totals.proofs.counted.Tie as tie
 
 enum-told : tie.Need-enum-told
 enum-told c = search needs

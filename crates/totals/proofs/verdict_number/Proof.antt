@@ -4,8 +4,8 @@ use borrow.Author.Needs.{needs}
 use lib.IntN.{ℤ, pos}
 use Rattle.model.specs.declared.Verdict.{Verdict}
 use Rattle.model.specs.Answers.{verdictNumber}
-use Rattle.survey.proofs.verdict_number.Statement.{statement}
-use Rattle.survey.proofs.verdict_number.Tie as tie
+use Rattle.totals.proofs.verdict_number.Statement.{statement}
+use Rattle.totals.proofs.verdict_number.Tie as tie
 
 abbrev numberOf : Verdict → ℤ
 numberOf v = pos (verdictNumber v)

@@ -1,8 +1,8 @@
 -- Where there was room for all rows they are sorted; else nothing is changed.
 use borrow.Author.Needs.{needs}
-use Rattle.survey.proofs.Collecting.{sorts-held, sorts-past}
-use Rattle.survey.proofs.sort_lines.Statement.{statement}
-use Rattle.survey.proofs.sort_lines.Tie as tie
+use Rattle.totals.proofs.Collecting.{sorts-held, sorts-past}
+use Rattle.totals.proofs.sort_lines.Statement.{statement}
+use Rattle.totals.proofs.sort_lines.Tie as tie
 
 mul-if1 : tie.Need-mul-if1
 mul-if1 c = search needs

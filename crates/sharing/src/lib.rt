@@ -241,6 +241,20 @@ pub fn list_shared(
     ensures { λ r. ⌜ r ≡ length (listOf (graphOf (now (nodes .entry)) (now (edges .entry))) (pos root) (pos leaf)) ⌝ }
     ensures { λ r. ⌜ take (3 * r) (now (work .exit)) ≡ numbersOf (listOf (graphOf (now (nodes .entry)) (now (edges .entry))) (pos root) (pos leaf)) ⌝ }
 {
+    if shared.node == MAX_NODES {
+        return list_linked(
+            nodes,
+            edges,
+            root,
+            leaf,
+            head,
+            next,
+            offsets,
+            windows,
+            work,
+            spare,
+        );
+    }
     let reaching = windows::cut(windows, root, steps::whole(nodes, root));
     if let Clipped::Left(run) = reaching {
         let n = list_shared_from(

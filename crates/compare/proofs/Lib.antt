@@ -1,4 +1,5 @@
 pub mod Keys
 pub mod Many
+pub mod Few
 pub mod Checks
 pub mod Results

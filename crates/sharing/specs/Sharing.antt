@@ -1,11 +1,11 @@
 -- The list of one node, kept while the lists of the roots that lead to it are made. Assumes nothing.
 use mathlib.Core.Path.{_≡_}
-use mathlib.Core.Bool.{cond, _&&_}
+use mathlib.Core.Bool.{Bool, cond, _&&_}
 use mathlib.Core.List.{List, [], _∷_, flatMap}
 use Prim.Native.Nat.{ℕ, zero, suc, _+_, _*_, _≤_}
 use lib.Dec.{ltb}
 use lib.IntN.{ℤ, pos, _+ℤ_, _-ℤ_}
-use lib.Signed.{_≤ℤ_}
+use lib.Signed.{leZ, _≤ℤ_}
 use lib.ListN.{length, take}
 use Rattle.integers.specs.Integers.{eqZ}
 use Rattle.model.specs.Limits.{maxNodes, maxPaths}
@@ -77,16 +77,24 @@ keptRows r l = flatMap (keptRow r) l
 abbrev pub entering : Graph → ℤ → Run → Edge → Run
 entering g l r e = cut (window g (e .to) l) (shift (bitOffset g e) r)
 
+-- the run has every bit address of the span
+unfoldable pub hasAll : Run → Span → Bool
+hasAll r w = leZ (r .low) (w .low) && leZ (w .high) (r .high)
+
+-- v is the shared node, and the run has all of its window
+abbrev pub byList : ℕ → Graph → ℤ → ℤ → Run → Bool
+byList shared g v l r = eqZ v (pos shared) && hasAll r (window g v l)
+
 -- the rows of run r at node v for the leaf l, over at most k edges: at the shared node by its list, at the leaf one row, elsewhere those of the edges that
 -- leave v, each of what enters over it
 unfoldable pub sharedRows : ℕ → ℕ → Graph → ℤ → ℤ → Run → List Row
 sharedRows zero shared g v l r =
     let kept = keptRows r (listOf g v l) in
-    cond (eqZ v (pos shared)) kept (cond (eqZ v l) (runRow (node g l) r ∷ []) [])
+    cond (byList shared g v l r) kept (cond (eqZ v l) (runRow (node g l) r ∷ []) [])
 sharedRows (suc k) shared g v l r =
     let kept = keptRows r (listOf g v l) in
     let onward = flatMap (λ e. cond (empty (entering g l r e)) [] (sharedRows k shared g (e .to) l (entering g l r e))) (leaving g v) in
-    cond (eqZ v (pos shared)) kept (cond (eqZ v l) (runRow (node g l) r ∷ []) onward)
+    cond (byList shared g v l r) kept (cond (eqZ v l) (runRow (node g l) r ∷ []) onward)
 
 -- what an edge gives of a run: nothing where no bit enters, else the rows of what enters
 abbrev pub overRows : ℕ → ℕ → Graph → ℤ → Run → Edge → List Row

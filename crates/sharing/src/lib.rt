@@ -5,7 +5,6 @@ ghost use mathlib.Core.Bool.{_&&_};
 ghost use Prim.Native.Nat.{ℕ, _+_, _*_, _≤_, _<_};
 ghost use lib.IntN.{pos};
 ghost use lib.ListN.{length, take};
-ghost use Rattle.model.specs.Limits.{maxNodes};
 ghost use Rattle.model.specs.Graph.{graphOf, NodeRow};
 ghost use Rattle.model.specs.Runs.{listOf};
 ghost use Rattle.model.specs.Calls.{numbersOf};
@@ -16,7 +15,7 @@ ghost use Rattle.windows.specs.Tables.{spanAt};
 ghost use Rattle.normalisation.specs.Merging.{byDisplacement};
 ghost use Rattle.verdicts.specs.Records.{recordAt, recordsOf};
 ghost use Rattle.listing.specs.Listing.{LinkedTo, Windowed, Listable, Appended};
-ghost use Rattle.sharing.specs.Sharing.{keptNode, Keeps, Keepable, displaced, Displaceable, bitsOf, SmallKept, keptRow, keptRows, hasAll, sharedRows};
+ghost use Rattle.sharing.specs.Sharing.{noneKept, keptOf, Keeps, Keepable, displaced, Displaceable, bitsOf, SmallKept, keptRow, keptRows, hasAll, sharedRows};
 use listing::append_row;
 use listing::edge_behind;
 use listing::list_linked;
@@ -39,7 +38,7 @@ pub struct Shared {
 
 // No node whose list is kept.
 fn none_shared() -> Shared
-    ensures { λ r. ⌜ r .node ≡ maxNodes ⌝ }
+    ensures { λ r. ⌜ r ≡ noneKept ⌝ }
 {
     Shared {
         node: MAX_NODES,
@@ -64,7 +63,7 @@ pub fn keep_list(
 ) -> Shared
     requires { ⌜
         Keepable (now nodes) (now edges) leaf (now counts) (now head) (now next) (now offsets) (now windows) (now kept) (now spare) ⌝ }
-    ensures { λ r. ⌜ r .node ≡ keptNode (graphOf (now (nodes .entry)) (now (edges .entry))) (pos leaf) node ⌝ }
+    ensures { λ r. ⌜ r ≡ keptOf (graphOf (now (nodes .entry)) (now (edges .entry))) (pos leaf) node ⌝ }
     ensures { λ r. ⌜ Keeps (now (nodes .entry)) (now (edges .entry)) leaf r (now (kept .exit)) ⌝ }
 {
     if nodes.len() / NODE_WIDTH <= node {
@@ -181,10 +180,10 @@ fn by_list(windows: &[i64], shared: Shared, v: usize, run: Run) -> bool
     has_window(windows, v, run)
 }
 
-// Lists the rows of a run at node v, over at most `left` edges, behind the first n rows of `out`: at the shared node by its list, at the leaf one row,
-// elsewhere those of the linked edges. Returns how many rows stand there then. Goes over the edges that some bit of the run crosses into the window of the
-// node entered.
-pub fn list_shared_from(
+// Lists the rows of a run at node v, over at most `left` edges, behind the first n rows of `out`: by the kept list where by_list says so, at the leaf
+// one row, elsewhere those of the linked edges. Returns how many rows stand there then. Goes over the edges that some bit of the run crosses into the
+// window of the node entered.
+fn list_shared_from(
     nodes: &[i64],
     edges: &[i64],
     head: &[usize],

@@ -1,5 +1,5 @@
-// What is kept of all pairs of a comparison. Pairs are worked through leaf row by leaf row, since one sweep of a graph serves all roots of a leaf;
-// keys keep their places in visiting order.
+// What is kept of all pairs of a comparison. Pairs are worked through leaf row by leaf row, since one sweep of a graph and one kept list serve all
+// roots of a leaf; keys keep their places in visiting order.
 ghost use Prim.Native.Nat.{_+_, _*_, _/_, _≤_, _<_, _^_};
 ghost use lib.IntN.{pos};
 ghost use lib.ListN.{length};
@@ -40,7 +40,7 @@ use windows::measure;
 // The column of a pair row that holds a node of the specification.
 const SPEC_COLUMN: usize = 0;
 
-// And the one that holds a node of the implementation.
+// The column of a pair row that holds a node of the implementation.
 const IMPL_COLUMN: usize = 1;
 
 // The numbers of the most records that a list has.
@@ -130,6 +130,9 @@ fn found_of_leaf(
         count: count,
     }
 }
+
+// The next functions choose the node of a graph whose list is kept for a leaf row. The answer is the same whichever is chosen, so that they promise
+// no more than a number up to MAX_NODES.
 
 // A number of a table as a node, MAX_NODES where it is none.
 fn node_of(number: i64) -> usize
@@ -258,8 +261,8 @@ fn with_root(lead: Lead, node: usize) -> Lead
     }
 }
 
-// The node from which the paths of more than half of the roots with several paths part, two roots at least; where there is none, another node, or
-// MAX_NODES, of which no list is kept. Any node may be chosen, so that nothing is asked of the tables.
+// The node from which the paths of the roots with several paths part, where two more of them have it than have not; else another node, or MAX_NODES,
+// of which no list is kept.
 fn shared_node(
     nodes: &[i64],
     edges: &[i64],

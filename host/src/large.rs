@@ -62,10 +62,20 @@ struct Funnel {
     chain: usize,
     leaf_range: i64,
     leaf_offset: i64,
+    /// Each root stands before a segment of its own.
+    bridged: bool,
 }
 
-const FUNNEL: Funnel =
-    Funnel { roots: 60, leaves: 60, stages: 10, step: 0, chain: 0, leaf_range: 4, leaf_offset: 8 };
+const FUNNEL: Funnel = Funnel {
+    roots: 60,
+    leaves: 60,
+    stages: 10,
+    step: 0,
+    chain: 0,
+    leaf_range: 4,
+    leaf_offset: 8,
+    bridged: false,
+};
 
 impl Funnel {
     fn draft(&self) -> Draft {
@@ -75,8 +85,13 @@ impl Funnel {
     fn add_to(&self, draft: &mut Draft) {
         let mut last = draft.node(SEGMENT, 0, SPAN, 8);
         for _ in 0..self.roots {
-            let root = draft.root(0, SPAN, 8);
-            draft.join(root, last, 0);
+            let mut above = draft.root(0, SPAN, 8);
+            if self.bridged {
+                let bridge = draft.node(SEGMENT, 0, SPAN, 8);
+                draft.join(above, bridge, 0);
+                above = bridge;
+            }
+            draft.join(above, last, 0);
         }
         for stage in 0..self.stages {
             let next = draft.node(SEGMENT, 0, SPAN, 8);
@@ -131,6 +146,34 @@ fn diagonal(name: &'static str, count: i64) -> Map {
 pub fn connected(count: usize) -> Map {
     let funnel = Funnel { roots: count, leaves: count, stages: 0, ..FUNNEL };
     funnel.map("connected through one hub")
+}
+
+/// Ten stages that halve a window, a chain below them and the leaves: of the 1,024
+/// paths each root sees one.
+fn sections(name: &'static str, roots: i64, leaves: usize) -> Map {
+    const SECTION: i64 = 4;
+    let mut draft = Draft::default();
+    let mut last = draft.node(SEGMENT, 0, SECTION << 10, 8);
+    for row in 0..roots {
+        let root = draft.root(SECTION * row, SECTION, 8);
+        draft.join(root, last, 0);
+    }
+    for stage in (0..10).rev() {
+        let half = draft.node(SEGMENT, 0, SECTION << stage, 8);
+        draft.join(last, half, 0);
+        draft.join(last, half, SECTION << stage);
+        last = half;
+    }
+    for _ in 0..52 {
+        let next = draft.node(SEGMENT, 0, SECTION, 8);
+        draft.join(last, next, 0);
+        last = next;
+    }
+    for _ in 0..leaves {
+        let block = draft.leaf(0, SECTION, 8);
+        draft.join(last, block, 0);
+    }
+    whole(name, tables(&draft, &draft))
 }
 
 /// One edge on the specification's side, 1,024 windows of a unit on the other.
@@ -249,6 +292,8 @@ pub fn maps() -> Vec<Map> {
         Funnel { roots: 30, leaves: 30, ..records }.map("30 x 30, 1,024 paths, no merging"),
         Map { long: true, ..partial("60 x 60, 1,024 records, partial", records) },
         chain.map("60 x 60, chain of 64, 1,024 paths"),
+        Funnel { bridged: true, ..records }.map("60 x 60, bridges, 1,024 paths"),
+        sections("2 x 900, 1 of 1,024 paths seen", 2, 900),
         Funnel { roots: 1, ..wide }.map("1 x 900, 1,024 paths"),
         Funnel { roots: 100, ..wide }.map("100 x 900, 1,024 paths"),
         Funnel { roots: 100, ..clipped }.map("100 x 900, all clipped at the leaf"),

@@ -4,7 +4,7 @@ use host::large::maps;
 use host::reference::{compare, text_check, Outcome, MAX_TEXT, REPORT_ROOM};
 
 /// Name, counts of the verdicts, pairs with a record, records of the implementation.
-const EXPECTED: [(&str, [i64; 3], usize, usize); 12] = [
+const EXPECTED: [(&str, [i64; 3], usize, usize); 14] = [
     ("P1", [0, 1, 0], 1, 1),
     ("5 x 115, 2,000 nodes, 2,600 edges", [575, 0, 0], 575, 575),
     ("10^6 pairs, none connected", [1_000_000, 0, 0], 0, 0),
@@ -15,6 +15,8 @@ const EXPECTED: [(&str, [i64; 3], usize, usize); 12] = [
     ("60 x 60, 1,024 touching windows", [3_600, 0, 0], 3_600, 3_600),
     ("60 x 60, 1,024 paths, no merging", [3_600, 0, 0], 3_600, 3_600 * 1_024),
     ("60 x 60, chain of 64, 1,024 paths", [3_600, 0, 0], 3_600, 3_600 * 1_024),
+    ("60 x 60, bridges, 1,024 paths", [3_600, 0, 0], 3_600, 3_600 * 1_024),
+    ("2 x 900, 1 of 1,024 paths seen", [1_800, 0, 0], 1_800, 1_800),
     ("1 x 900, 1,024 paths", [900, 0, 0], 900, 900 * 1_024),
     ("100 x 900, all clipped at the leaf", [90_000, 0, 0], 0, 0),
 ];

@@ -5,6 +5,7 @@ pub mod Lines
 pub mod Adding
 pub mod Passing
 pub mod Surveys
+pub mod Stopping
 pub mod Unentered
 pub mod Sizes
 pub mod Ready

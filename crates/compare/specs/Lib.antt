@@ -1,3 +1,4 @@
 pub mod Inputs
 pub mod Keys
 pub mod Promises
+pub mod UpTo

@@ -1,5 +1,6 @@
 pub mod Keys
 pub mod Many
+pub mod Few
 pub mod Checks
 pub mod Results
 pub mod Stopping

@@ -6,9 +6,11 @@ ghost use Prim.Native.Nat.{_+_, _*_, _/_, _≤_, _<_, min};
 ghost use lib.ListN.{length};
 ghost use Rattle.model.specs.Limits.{maxNodes, maxEdges};
 ghost use Rattle.model.specs.Rows.{pairRows};
+ghost use Rattle.model.specs.Graph.{graphOf};
 ghost use Rattle.model.specs.Checks.{checkTables};
 ghost use Rattle.model.specs.Calls.{refused};
 ghost use Rattle.model.specs.Answers.{comparisonResult, comparedAnswer, verdictNumber, refusalOf};
+ghost use Rattle.reach.specs.AllPaths.{Totalable};
 ghost use Rattle.pairing.specs.Pairs.{tablesOf};
 ghost use Rattle.visiting.specs.Visiting.{noKey, resultFrom, lowestFrom, refusalFrom};
 ghost use Rattle.pairs.specs.Inputs.{Ordered, AllFew};
@@ -16,6 +18,7 @@ ghost use Rattle.totals.specs.Kept.{asTotals};
 ghost use Rattle.survey.specs.Lines.{LinesHeld, findingsBetween};
 ghost use Rattle.survey.specs.Found.{wholeVerdict};
 ghost use Rattle.compare.specs.Inputs.{InputsChecked};
+ghost use Rattle.compare.specs.Few.{allFewBy, allFewFrom, Totalled, PairsNodes};
 ghost use Rattle.compare.specs.Keys.{keyBy, countKey, Keyed, rowKeys, lowestMany};
 ghost use Rattle.compare.specs.Promises.{ComparePromise};
 ghost use Rattle.compare.specs.UpTo.{PairsUpTo, PathsUpTo, LinedUpTo};
@@ -40,6 +43,7 @@ use pairs::either_entered;
 use pairs::impl_node;
 use pairs::place_of;
 use pairs::spec_node;
+use reach::count_all;
 use reach::count_paths;
 use survey::survey;
 use totals::NO_KEY;
@@ -185,6 +189,104 @@ fn many_of_all(
         row += 1;
     }
     lowest
+}
+
+// Whether the totals of both nodes of each root row are at most MAX_PATHS.
+fn all_few(root_pairs: &[i64], spec_totals: &[usize], impl_totals: &[usize]) -> bool
+    requires { ⌜ Totalled (now «root_pairs») (now «spec_totals») (now «impl_totals») ⌝ }
+    ensures { λ r. ⌜ r ≡ allFewBy (now («spec_totals» .entry)) (now («impl_totals» .entry)) (pairRows (now («root_pairs» .entry))) ⌝ }
+{
+    let count = root_pairs.len() / PAIR_WIDTH;
+    let mut row: usize = 0;
+    while row < count {
+        let spec_root = spec_node(root_pairs, row);
+        let impl_root = impl_node(root_pairs, row);
+        if spec_totals[spec_root] > MAX_PATHS {
+            return false;
+        }
+        if impl_totals[impl_root] > MAX_PATHS {
+            return false;
+        }
+        row += 1;
+    }
+    true
+}
+
+// Whether at most MAX_PATHS paths lead from each root of both graphs to all leaves together: one pass over each graph.
+fn few_from_roots(
+    spec_nodes: &[i64],
+    spec_edges: &[i64],
+    impl_nodes: &[i64],
+    impl_edges: &[i64],
+    root_pairs: &[i64],
+    spec_order: &[usize],
+    impl_order: &[usize],
+    spec_totals: &mut [usize],
+    impl_totals: &mut [usize],
+) -> bool
+    requires { ⌜
+        Totalable (now «spec_nodes») (now «spec_edges») (now «spec_order») (now «spec_totals»)
+        × Totalable (now «impl_nodes») (now «impl_edges») (now «impl_order») (now «impl_totals»)
+        × PairsNodes (now «root_pairs») (graphOf (now «spec_nodes») (now «spec_edges»)) (graphOf (now «impl_nodes») (now «impl_edges»)) ⌝ }
+    ensures { λ r. ⌜
+        r
+        ≡ allFewFrom (graphOf (now («spec_nodes» .entry)) (now («spec_edges» .entry))) (graphOf (now («impl_nodes» .entry)) (now («impl_edges» .entry)))
+        (pairRows (now («root_pairs» .entry))) ⌝ }
+{
+    count_all(spec_nodes, spec_edges, spec_order, spec_totals);
+    count_all(impl_nodes, impl_edges, impl_order, impl_totals);
+    all_few(root_pairs, spec_totals, impl_totals)
+}
+
+// The lowest key of all pairs. Where few paths lead from each root to all leaves together no pair has a key, and the paths are not counted leaf by
+// leaf.
+fn lowest_many(
+    spec_nodes: &[i64],
+    spec_edges: &[i64],
+    impl_nodes: &[i64],
+    impl_edges: &[i64],
+    root_pairs: &[i64],
+    leaf_pairs: &[i64],
+    spec_order: &[usize],
+    impl_order: &[usize],
+    spec_counts: &mut [usize],
+    impl_counts: &mut [usize],
+) -> usize
+    requires { ⌜
+        Ordered (tablesOf (now «spec_nodes») (now «spec_edges») (now «impl_nodes») (now «impl_edges») (now «root_pairs») (now «leaf_pairs»))
+        (now «spec_order») (now «impl_order»)
+        × (maxNodes ≤ length (now «spec_counts»)) × (maxNodes ≤ length (now «impl_counts»)) ⌝ }
+    ensures { λ r. ⌜
+        r
+        ≡ lowestMany
+        (tablesOf (now («spec_nodes» .entry)) (now («spec_edges» .entry)) (now («impl_nodes» .entry)) (now («impl_edges» .entry))
+        (now («root_pairs» .entry)) (now («leaf_pairs» .entry))) ⌝ }
+{
+    if few_from_roots(
+        spec_nodes,
+        spec_edges,
+        impl_nodes,
+        impl_edges,
+        root_pairs,
+        spec_order,
+        impl_order,
+        spec_counts,
+        impl_counts,
+    ) {
+        return 2 * NO_KEY;
+    }
+    many_of_all(
+        spec_nodes,
+        spec_edges,
+        impl_nodes,
+        impl_edges,
+        root_pairs,
+        leaf_pairs,
+        spec_order,
+        impl_order,
+        spec_counts,
+        impl_counts,
+    )
 }
 
 // The refusal for the lowest key.
@@ -333,7 +435,7 @@ fn compare_checked(
 {
     let mut spec_counts = [0usize; MAX_NODES];
     let mut impl_counts = [0usize; MAX_NODES];
-    let key = many_of_all(
+    let key = lowest_many(
         spec_nodes,
         spec_edges,
         impl_nodes,

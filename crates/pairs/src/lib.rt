@@ -1,4 +1,5 @@
-// One pair of a comparison: both graphs are swept for the leaves of its leaf row, the two lists are made along the links, and they are judged.
+// One pair of a comparison: both graphs are swept for the leaves of its leaf row, the two lists are made along the links and from the kept list of a
+// shared node, and they are judged.
 ghost use mathlib.Core.Path.{_≡_};
 ghost use mathlib.Core.Bool.{_||_};
 ghost use Prim.Native.Nat.{_+_, _*_, _/_, _≤_, _<_};

@@ -22,7 +22,7 @@ use Rattle.reach.proofs.Totals.{total, total-agree, total-lengths}
 -- ---- the limit on edges does not matter
 
 -- functions that agree on the elements give the same lists, one after the other
-flatMap-agree : {A B : Type 0} (f h : A → List B) (l : List A) → ((x : A) → x ∈ l → f x ≡ h x) → flatMap f l ≡ flatMap h l
+pub flatMap-agree : {A B : Type 0} (f h : A → List B) (l : List A) → ((x : A) → x ∈ l → f x ≡ h x) → flatMap f l ≡ flatMap h l
 unfolding flatMap
 flatMap-agree f h [] e = refl
 flatMap-agree f h (x ∷ l) e =
@@ -34,11 +34,11 @@ empty-list [] h = refl
 empty-list (x ∷ l) h = absurd (h x (List·Memᴰ·head refl))
 
 -- no way from v has more than k edges
-abbrev Within : ℕ → Graph → ℤ → Type 0
+abbrev pub Within : ℕ → Graph → ℤ → Type 0
 Within k g v = (p : List Edge) (w : ℤ) → Way g v p w → length p ≤ k
 
 -- behind an edge from v a way has an edge less
-within-onward : {k : ℕ} {g : Graph} {v : ℤ} → Within (suc k) g v → (e : Edge) → e ∈ leaving g v → Within k g (e .to)
+pub within-onward : {k : ℕ} {g : Graph} {v : ℤ} → Within (suc k) g v → (e : Edge) → e ∈ leaving g v → Within k g (e .to)
 within-onward {g} {v} h e m p w y = let n = leaving-out g v m in let j = h (e ∷ p) w (over e (n .0) (n .1) y) in omega (arith, j)
 
 -- where no way from v has more than k edges, one edge more makes no path more

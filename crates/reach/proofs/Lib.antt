@@ -7,3 +7,7 @@ pub mod Pass
 pub mod FirstRow
 pub mod Links
 pub mod Reaching
+pub mod Turns
+pub mod Summing
+pub mod AllPaths
+pub mod AllPass

@@ -1,4 +1,5 @@
 -- The rows of a run, node by node and edge by edge, and the records that are kept for the shared node.
+use mathlib.Core.Bool.{true, false}
 use mathlib.Core.Path.{_≡_, refl, sym, ap, subst, _∙_}
 use mathlib.Core.List.{List, [], _∷_, flatMap}
 use mathlib.Core.Logic.{_≢_}
@@ -8,7 +9,8 @@ use native.Mathlib.Omega.{arith}
 use lib.Dec.{T-not}
 use lib.IntN.{ℤ, pos}
 use lib.ListN.{length, length-take}
-use Rattle.integers.proofs.Tests.{is-true, is-false}
+use Rattle.integers.specs.Integers.{eqZ}
+use Rattle.integers.proofs.Tests.{eqZ→eq, and-out, is-true, is-false, T-true}
 use Rattle.lists.specs.Lists.{_∈_}
 use Rattle.model.specs.Rows.{Edge}
 use Rattle.model.specs.Graph.{Graph, graphOf, NodeRow, node}
@@ -19,30 +21,35 @@ use Rattle.steps.specs.Steps.{living}
 use Rattle.steps.proofs.Runs.{living-none, living-some}
 use Rattle.verdicts.specs.Records.{recordAt, recordsOf}
 use Rattle.verdicts.proofs.Records.{recordsOf-front, recordAt-in}
+use Rattle.windows.specs.Windows.{window}
 use Rattle.listing.specs.Listing.{LinkedTo, runRow}
 use Rattle.listing.proofs.Runs.{eqZ-same, eqZ-other}
 use Rattle.sharing.specs.declared.Shared.{Shared}
-use Rattle.sharing.specs.Sharing.{Keeps, SmallKept, keptRows, entering, sharedRows, overRows}
+use Rattle.sharing.specs.Sharing.{Keeps, SmallKept, keptRows, entering, hasAll, byList, sharedRows, overRows}
 use Rattle.sharing.proofs.Parts.{list-kept}
 
 module _ (shared : ℕ) (g : Graph) (v l : ℤ) (r : Run) where
   -- at the shared node the rows come from its list
-  pub shared-kept : (k : ℕ) → v ≡ pos shared → sharedRows k shared g v l r ≡ keptRows r (listOf g v l)
+  pub shared-kept : (k : ℕ) → byList shared g v l r ≡ true → sharedRows k shared g v l r ≡ keptRows r (listOf g v l)
   unfolding sharedRows
-  shared-kept zero e = rw (eqZ-same e) refl
-  shared-kept (suc k) e = rw (eqZ-same e) refl
+  shared-kept zero e = rw e refl
+  shared-kept (suc k) e = rw e refl
 
-  module _ (n : v ≢ pos shared) where
+  -- the node is the shared one
+  pub shared-node : byList shared g v l r ≡ true → v ≡ pos shared
+  shared-node e = eqZ→eq v (pos shared) (and-out (eqZ v (pos shared)) (hasAll r (window g v l)) (T-true (byList shared g v l r) e) .0)
+
+  module _ (n : byList shared g v l r ≡ false) where
     -- at the leaf there is one row
     pub shared-leaf : (k : ℕ) → v ≡ l → sharedRows k shared g v l r ≡ runRow (node g l) r ∷ []
     unfolding sharedRows
-    shared-leaf zero e = rw (eqZ-other n, eqZ-same e) refl
-    shared-leaf (suc k) e = rw (eqZ-other n, eqZ-same e) refl
+    shared-leaf zero e = rw (n, eqZ-same e) refl
+    shared-leaf (suc k) e = rw (n, eqZ-same e) refl
 
     -- elsewhere there is none over no edge
     pub shared-end : (k : ℕ) → v ≢ l → k ≡ 0 → sharedRows k shared g v l r ≡ []
     unfolding sharedRows
-    shared-end zero m e = rw (eqZ-other n, eqZ-other m) refl
+    shared-end zero m e = rw (n, eqZ-other m) refl
     shared-end (suc k) m e = absurd (omega arith)
 
     -- and over some edge there are those of the edges
@@ -51,7 +58,7 @@ module _ (shared : ℕ) (g : Graph) (v l : ℤ) (r : Run) where
     shared-onward zero m e = absurd (e refl)
     shared-onward (suc k) m e =
         let d : suc k - 1 ≡ k = omega arith in
-        rw (d, eqZ-other n, eqZ-other m) refl
+        rw (d, n, eqZ-other m) refl
 
 -- ---- over an edge
 
@@ -86,9 +93,10 @@ module _ {ns es : List ℤ} {leaf : ℕ} {head next : List ℕ} (k : LinkedTo ns
     kept-records = recordsOf-front kept (s .count) (sym (h .count shared-row)) (h .numbers shared-row)
 
     -- they give the rows of a run there
-    pub kept-rows : (k : ℕ) (r : Run) → sharedRows k (s .node) (graphOf ns es) (pos v) (pos leaf) r ≡ keptRows r (recordsOf kept (s .count))
-    kept-rows k r =
-        shared-kept (s .node) (graphOf ns es) (pos v) (pos leaf) r k (ap pos e)
+    pub kept-rows : (k : ℕ) (r : Run) → byList (s .node) (graphOf ns es) (pos v) (pos leaf) r ≡ true
+        → sharedRows k (s .node) (graphOf ns es) (pos v) (pos leaf) r ≡ keptRows r (recordsOf kept (s .count))
+    kept-rows k r b =
+        shared-kept (s .node) (graphOf ns es) (pos v) (pos leaf) r k b
         ∙ ap (λ (w : ℕ). keptRows r (listOf (graphOf ns es) (pos w) (pos leaf))) e
         ∙ ap (keptRows r) (sym kept-records)
 

@@ -6,7 +6,7 @@ use mathlib.Core.Logic.{_↔_, _≢_, ⊎-elim}
 use Prim.Native.Nat.{ℕ, zero, suc, _≤_}
 use native.Mathlib.Omega.{arith}
 use lib.Dec.{T}
-use lib.IntN.{ℤ, pos, _+ℤ_, _-ℤ_, +ℤ-negℤ-cancel, -ℤ-+ℤ-cancel}
+use lib.IntN.{ℤ, _+ℤ_, _-ℤ_, +ℤ-negℤ-cancel, -ℤ-+ℤ-cancel}
 use lib.Signed.{_≤ℤ_}
 use lib.ListN.{length}
 use Rattle.integers.specs.Integers.{eqZ}
@@ -32,7 +32,7 @@ use Rattle.windows.specs.Windows.{Span, extent, raised, cut, carried, window}
 use Rattle.windows.proofs.Spans.{hull-holds, shared-some, spanNode, spanNode-first, spanNode-last, clip-cut, cut-inside}
 use Rattle.windows.proofs.Windows.{carriedBack, window-leaf, window-step, window-within}
 use Rattle.listing.specs.Listing.{runRow}
-use Rattle.sharing.specs.Sharing.{displaced, bitsOf, keptRow, keptRows, entering, sharedRows, overRows}
+use Rattle.sharing.specs.Sharing.{displaced, bitsOf, keptRow, keptRows, entering, byList, sharedRows, overRows}
 
 -- the rows have root bit x with leaf bit y
 abbrev pub Give : List Row → ℤ → ℤ → Type 0
@@ -217,7 +217,7 @@ module _ {g : Graph} {l : ℤ} (f : Fit g l) where
     pub shared-hits : (k shared : ℕ) (v : ℤ) (r : Run) → ((a : ℤ) → InRun r a → StandsOn (node g v) a) → ((p : List Edge) → Way g v p l → length p ≤ k) → (x y : ℤ)
         → Give (sharedRows k shared g v l r) x y ↔ Hits v r x y
     unfolding sharedRows
-    shared-hits zero shared v r stands short x y = go (eqZ v (pos shared)) (eqZ v l) (eqZ? v l)
+    shared-hits zero shared v r stands short x y = go (byList shared g v l r) (eqZ v l) (eqZ? v l)
       where
         none : v ≢ l → Hits v r x y → ⊥
         none n (a, j, h) =
@@ -231,7 +231,7 @@ module _ {g : Graph} {l : ℤ} (f : Fit g l) where
         go false true (passed e) = leaf-hits v r e stands x y
         go false false (failed n) = (λ (t, m, h). absurd (List·Memᴰ·not-nil m), λ h. absurd (none n h))
     shared-hits (suc k) shared v r stands short x y =
-        go (eqZ v (pos shared)) (eqZ v l) (eqZ? v l)
+        go (byList shared g v l r) (eqZ v l) (eqZ? v l)
         (λ e m.
         let from = leaving-out g v m in
         shared-hits k shared (e .to) (entering g l r e) (entering-stands r e (from .0)) (λ p w. let h = short (e ∷ p) (over e (from .0) (from .1) w) in omega (arith, h)) x y)

@@ -6,7 +6,7 @@ use mathlib.Core.Logic.{_↔_, _≢_, ⊎-elim}
 use Prim.Native.Nat.{ℕ, zero, suc, _≤_}
 use native.Mathlib.Omega.{arith}
 use lib.Dec.{T}
-use lib.IntN.{ℤ, pos, _-ℤ_}
+use lib.IntN.{ℤ, _-ℤ_}
 use lib.Signed.{_≤ℤ_}
 use lib.ListN.{length, length-map}
 use Rattle.integers.specs.Integers.{eqZ}
@@ -38,7 +38,7 @@ use Rattle.windows.specs.Windows.{cut, window}
 use Rattle.windows.proofs.Spans.{cut-inside}
 use Rattle.windows.proofs.Windows.{window-within}
 use Rattle.listing.specs.Listing.{runRow}
-use Rattle.sharing.specs.Sharing.{displaced, bitsOf, keptRow, keptRows, entering, sharedRows, overRows}
+use Rattle.sharing.specs.Sharing.{displaced, bitsOf, keptRow, keptRows, entering, byList, sharedRows, overRows}
 use Rattle.sharing.proofs.Giving.{cut-joins, window-holds, Hits, shared-hits}
 
 -- ---- each row has a bit
@@ -76,13 +76,13 @@ leaf-full g l r some t m =
 -- the rows of a run that has a bit
 shared-full : (k shared : ℕ) (g : Graph) (v l : ℤ) (r : Run) → T (not (empty r)) → Full (sharedRows k shared g v l r)
 unfolding sharedRows keptRows
-shared-full zero shared g v l r some = go (eqZ v (pos shared)) (eqZ v l)
+shared-full zero shared g v l r some = go (byList shared g v l r) (eqZ v l)
   where
     go : (b c : Bool) → Full (cond b (keptRows r (listOf g v l)) (cond c (runRow (node g l) r ∷ []) []))
     go true c = full-flatMap (keptRow r) (listOf g v l) (kept-full r)
     go false true = leaf-full g l r some
     go false false = λ t m. absurd (List·Memᴰ·not-nil m)
-shared-full (suc k) shared g v l r some = go (eqZ v (pos shared)) (eqZ v l) (λ e. each e (empty (entering g l r e)) (test? (empty (entering g l r e))) (shared-full k shared g (e .to) l (entering g l r e)))
+shared-full (suc k) shared g v l r some = go (byList shared g v l r) (eqZ v l) (λ e. each e (empty (entering g l r e)) (test? (empty (entering g l r e))) (shared-full k shared g (e .to) l (entering g l r e)))
   where
     each : (e : Edge) (b : Bool) → Test (T (empty (entering g l r e))) (T (not (empty (entering g l r e)))) b
         → (T (not (empty (entering g l r e))) → Full (sharedRows k shared g (e .to) l (entering g l r e)))
@@ -125,14 +125,14 @@ module _ {g : Graph} {l : ℤ} (f : Fit g l) where
   -- there are no more rows than paths to the leaf
   pub shared-length : (k shared : ℕ) (v : ℤ) (r : Run) → length (sharedRows k shared g v l r) ≤ pathCount g v l
   unfolding sharedRows
-  shared-length zero shared v r = go (eqZ v (pos shared)) (eqZ v l) (eqZ? v l)
+  shared-length zero shared v r = go (byList shared g v l r) (eqZ v l) (eqZ? v l)
     where
       go : (b c : Bool) → Test (v ≡ l) (v ≢ l) c → length (cond b (keptRows r (listOf g v l)) (cond c (runRow (node g l) r ∷ []) [])) ≤ pathCount g v l
       go true c t = omega (arith, kept-length r (listOf g v l), list-within-paths g v l)
       go false true (passed e) = rw e (omega (arith, count-leaf g l))
       go false false t = omega arith
   shared-length (suc k) shared v r =
-      go (eqZ v (pos shared)) (eqZ v l) (eqZ? v l) (λ e. each e (empty (entering g l r e)) (shared-length k shared (e .to) (entering g l r e)))
+      go (byList shared g v l r) (eqZ v l) (eqZ? v l) (λ e. each e (empty (entering g l r e)) (shared-length k shared (e .to) (entering g l r e)))
     where
       each : (e : Edge) (b : Bool) → length (sharedRows k shared g (e .to) l (entering g l r e)) ≤ pathCount g (e .to) l
           → length (cond b [] (sharedRows k shared g (e .to) l (entering g l r e))) ≤ pathCount g (e .to) l

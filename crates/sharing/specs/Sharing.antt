@@ -1,11 +1,11 @@
 -- The list of one node, kept while the lists of the roots that lead to it are made. Assumes nothing.
 use mathlib.Core.Path.{_≡_}
-use mathlib.Core.Bool.{cond, _&&_}
+use mathlib.Core.Bool.{Bool, cond, _&&_}
 use mathlib.Core.List.{List, [], _∷_, flatMap}
 use Prim.Native.Nat.{ℕ, zero, suc, _+_, _*_, _≤_}
 use lib.Dec.{ltb}
 use lib.IntN.{ℤ, pos, _+ℤ_, _-ℤ_}
-use lib.Signed.{_≤ℤ_}
+use lib.Signed.{leZ, _≤ℤ_}
 use lib.ListN.{length, take}
 use Rattle.integers.specs.Integers.{eqZ}
 use Rattle.model.specs.Limits.{maxNodes, maxPaths}
@@ -23,11 +23,18 @@ use Rattle.windows.specs.Windows.{Span, cut, window}
 use Rattle.listing.specs.Listing.{LinkedTo, Windowed, runRow}
 use Rattle.sharing.specs.declared.Shared.{Shared}
 
--- the node v, where it is a node row with at most 1,024 paths to the leaf l; else 2,000, which no node row is
-abbrev pub keptNode : Graph → ℤ → ℕ → ℕ
-keptNode g l v = cond (ltb v (length (g .nodes)) && ltb (pathCount g (pos v) l) (maxPaths + 1)) v maxNodes
+-- no node whose list is kept: 2,000, which no node row is, and no record
+abbrev pub noneKept : Shared
+noneKept = record { node = maxNodes; count = 0 }
 
--- where the shared node is a node row, its bitmapping list stands in front of `kept`
+-- node v with the length of its list, where it is a node row with at most 1,024 paths to the leaf l; else none
+abbrev pub keptOf : Graph → ℤ → ℕ → Shared
+keptOf g l v =
+    cond (ltb v (length (g .nodes)) && ltb (pathCount g (pos v) l) (maxPaths + 1))
+    (record { node = v; count = length (listOf g (pos v) l) })
+    noneKept
+
+-- where the shared node is a node row, its bitmapping list stands in front of `kept`, with as many records as s counts
 pub record Keeps (ns es : List ℤ) (leaf : ℕ) (s : Shared) (kept : List ℤ) : Type 0 where
   pub count : NodeRow (graphOf ns es) (pos (s .node)) → s .count ≡ length (listOf (graphOf ns es) (pos (s .node)) (pos leaf))
   pub numbers : NodeRow (graphOf ns es) (pos (s .node)) → take (3 * s .count) kept ≡ numbersOf (listOf (graphOf ns es) (pos (s .node)) (pos leaf))
@@ -77,16 +84,24 @@ keptRows r l = flatMap (keptRow r) l
 abbrev pub entering : Graph → ℤ → Run → Edge → Run
 entering g l r e = cut (window g (e .to) l) (shift (bitOffset g e) r)
 
--- the rows of run r at node v for the leaf l, over at most k edges: at the shared node by its list, at the leaf one row, elsewhere those of the edges that
--- leave v, each of what enters over it
+-- the run has every bit address of the span
+unfoldable pub hasAll : Run → Span → Bool
+hasAll r w = leZ (r .low) (w .low) && leZ (w .high) (r .high)
+
+-- v is the shared node, and the run has all of its window
+abbrev pub byList : ℕ → Graph → ℤ → ℤ → Run → Bool
+byList shared g v l r = eqZ v (pos shared) && hasAll r (window g v l)
+
+-- the rows of run r at node v for the leaf l, over at most k edges: at the shared node by its list, where r has all of its window; else at the leaf
+-- one row, and at any other node those of the edges that leave it, each of what enters over it
 unfoldable pub sharedRows : ℕ → ℕ → Graph → ℤ → ℤ → Run → List Row
 sharedRows zero shared g v l r =
     let kept = keptRows r (listOf g v l) in
-    cond (eqZ v (pos shared)) kept (cond (eqZ v l) (runRow (node g l) r ∷ []) [])
+    cond (byList shared g v l r) kept (cond (eqZ v l) (runRow (node g l) r ∷ []) [])
 sharedRows (suc k) shared g v l r =
     let kept = keptRows r (listOf g v l) in
     let onward = flatMap (λ e. cond (empty (entering g l r e)) [] (sharedRows k shared g (e .to) l (entering g l r e))) (leaving g v) in
-    cond (eqZ v (pos shared)) kept (cond (eqZ v l) (runRow (node g l) r ∷ []) onward)
+    cond (byList shared g v l r) kept (cond (eqZ v l) (runRow (node g l) r ∷ []) onward)
 
 -- what an edge gives of a run: nothing where no bit enters, else the rows of what enters
 abbrev pub overRows : ℕ → ℕ → Graph → ℤ → Run → Edge → List Row

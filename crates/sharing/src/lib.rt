@@ -1,19 +1,21 @@
 // The list of one node, kept while the lists of the roots that lead to it are made: the part of a list behind that node is listed once, and not
 // again for each root.
 ghost use mathlib.Core.Path.{_≡_};
+ghost use mathlib.Core.Bool.{_&&_};
 ghost use Prim.Native.Nat.{ℕ, _+_, _*_, _≤_, _<_};
 ghost use lib.IntN.{pos};
 ghost use lib.ListN.{length, take};
-ghost use Rattle.model.specs.Limits.{maxNodes};
 ghost use Rattle.model.specs.Graph.{graphOf, NodeRow};
 ghost use Rattle.model.specs.Runs.{listOf};
 ghost use Rattle.model.specs.Calls.{numbersOf};
 ghost use Rattle.steps.specs.Steps.{runOf, living, livingOf, SmallRun};
+ghost use Rattle.integers.specs.Integers.{eqZ};
 ghost use Rattle.windows.specs.Windows.{cut};
+ghost use Rattle.windows.specs.Tables.{spanAt};
 ghost use Rattle.normalisation.specs.Merging.{byDisplacement};
 ghost use Rattle.verdicts.specs.Records.{recordAt, recordsOf};
 ghost use Rattle.listing.specs.Listing.{LinkedTo, Windowed, Listable, Appended};
-ghost use Rattle.sharing.specs.Sharing.{keptNode, Keeps, Keepable, displaced, Displaceable, bitsOf, SmallKept, keptRow, keptRows, sharedRows};
+ghost use Rattle.sharing.specs.Sharing.{noneKept, keptOf, Keeps, Keepable, displaced, Displaceable, bitsOf, SmallKept, keptRow, keptRows, hasAll, sharedRows};
 use listing::append_row;
 use listing::edge_behind;
 use listing::list_linked;
@@ -36,7 +38,7 @@ pub struct Shared {
 
 // No node whose list is kept.
 fn none_shared() -> Shared
-    ensures { λ r. ⌜ r .node ≡ maxNodes ⌝ }
+    ensures { λ r. ⌜ r ≡ noneKept ⌝ }
 {
     Shared {
         node: MAX_NODES,
@@ -61,7 +63,7 @@ pub fn keep_list(
 ) -> Shared
     requires { ⌜
         Keepable (now nodes) (now edges) leaf (now counts) (now head) (now next) (now offsets) (now windows) (now kept) (now spare) ⌝ }
-    ensures { λ r. ⌜ r .node ≡ keptNode (graphOf (now (nodes .entry)) (now (edges .entry))) (pos leaf) node ⌝ }
+    ensures { λ r. ⌜ r ≡ keptOf (graphOf (now (nodes .entry)) (now (edges .entry))) (pos leaf) node ⌝ }
     ensures { λ r. ⌜ Keeps (now (nodes .entry)) (now (edges .entry)) leaf r (now (kept .exit)) ⌝ }
 {
     if nodes.len() / NODE_WIDTH <= node {
@@ -150,10 +152,38 @@ fn append_kept(kept: &[i64], count: usize, run: Run, out: &mut [i64], n: usize) 
     m
 }
 
-// Lists the rows of a run at node v, over at most `left` edges, behind the first n rows of `out`: at the shared node by its list, at the leaf one row,
-// elsewhere those of the linked edges. Returns how many rows stand there then. Goes over the edges that some bit of the run crosses into the window of the
-// node entered.
-pub fn list_shared_from(
+// Whether a run has every bit address of the window of node v.
+pub fn has_window(windows: &[i64], v: usize, run: Run) -> bool
+    requires { ⌜ 2 * v + 2 ≤ length (now windows) ⌝ }
+    ensures { λ r. ⌜ r ≡ hasAll (runOf run) (spanAt (now (windows .entry)) v) ⌝ }
+{
+    let window = windows::span_at(windows, v);
+    let low = window.low;
+    let high = window.high;
+    let first = run.low;
+    let last = run.high;
+    if first.0 <= low.0 {
+        return high.0 <= last.0;
+    }
+    false
+}
+
+// Whether the rows of a run at node v come from the kept list: at the shared node, where the run has all of its window. A run that has less
+// goes along the paths, since its window may leave most of them at once.
+fn by_list(windows: &[i64], shared: Shared, v: usize, run: Run) -> bool
+    requires { ⌜ 2 * v + 2 ≤ length (now windows) ⌝ }
+    ensures { λ r. ⌜ r ≡ (eqZ (pos v) (pos (shared .node)) && hasAll (runOf run) (spanAt (now (windows .entry)) v)) ⌝ }
+{
+    if v != shared.node {
+        return false;
+    }
+    has_window(windows, v, run)
+}
+
+// Lists the rows of a run at node v, over at most `left` edges, behind the first n rows of `out`: by the kept list where by_list says so, at the leaf
+// one row, elsewhere those of the linked edges. Returns how many rows stand there then. Goes over the edges that some bit of the run crosses into the
+// window of the node entered.
+fn list_shared_from(
     nodes: &[i64],
     edges: &[i64],
     head: &[usize],
@@ -180,7 +210,7 @@ pub fn list_shared_from(
         Appended (sharedRows left (shared .node) (graphOf (now (nodes .entry)) (now (edges .entry))) (pos v) (pos leaf) (runOf run))
         (now (out .entry)) (now (out .exit)) n r ⌝ }
 {
-    if v == shared.node {
+    if by_list(windows, shared, v, run) {
         return append_kept(kept, shared.count, run, out, n);
     }
     if v == leaf {

@@ -12,12 +12,13 @@ use Rattle.model.specs.Graph.{graphOf}
 use Rattle.model.specs.Compare.{Tables, specGraph, implGraph}
 use Rattle.pairing.specs.Pairs.{pairAt}
 use Rattle.windows.specs.Tables.{extentsOver, offsetsOver}
-use Rattle.windows.proofs.Bits.{extents-in, offsets-in}
+use Rattle.windows.proofs.Bits.{extents-in, offsets-in, edge-shiftable}
+use Rattle.listing.proofs.Windowed.{row-cuttable}
 use Rattle.sharing.specs.declared.Shared.{Shared}
 use Rattle.sharing.specs.Sharing.{Keeps, Keepable}
 use Rattle.pairs.specs.Entering.{EntersNodes}
 use Rattle.pairs.specs.Inputs.{Inputs, Sweepable, Swept, BothSwept, LeafReady}
-use Rattle.survey.specs.Inputs.{Measured, AllReady}
+use Rattle.survey.specs.Inputs.{Measured, AllReady, Enterable}
 use Rattle.survey.proofs.Sizes.{SweepSizes, WorkSizes}
 use Rattle.pairs.proofs.Inputs.{row-leaves}
 
@@ -37,6 +38,17 @@ pub swept-keepable : {ns es : List ℤ} {leaf : ℕ} {counts head next : List �
     → Keepable ns es leaf counts head next offsets windows kept spare
 swept-keepable p a b =
     record { linked = p .linked; windowed = p .windowed; held = p .held; counted = p .counted; keptRoom = a; spareRoom = b }
+
+-- and the edges of its roots can be gone over
+pub swept-enterable : {ns es : List ℤ} {leaf : ℕ} {counts head next : List ℕ} {offsets windows : List ℤ}
+    → Swept ns es (pos leaf) counts head next offsets windows → Enterable ns es offsets windows
+swept-enterable p =
+    let tables = p .linked .tables in
+    record {
+      tables = tables;
+      offset = λ e h. edge-shiftable tables (p .windowed .edgeBits) e h;
+      window = λ v row. row-cuttable (p .linked) (p .windowed) row;
+    }
 
 -- the work areas may be those that other pairs were found in
 pub leaf-ready-on : {t : Tables} {j : ℕ} {sc sh sx mc mh mx : List ℕ} {sf sv mf mv sk mk sw mw e sw′ mw′ e′ : List ℤ} {sd md : Shared}

@@ -1,11 +1,13 @@
 -- What the pairs of all leaf rows start from. Assumes nothing.
 use mathlib.Core.List.{List}
-use Prim.Native.Nat.{ℕ, _*_, _≤_}
-use lib.IntN.{ℤ}
+use Prim.Native.Nat.{ℕ, _*_, _/_, _≤_, _<_}
+use lib.IntN.{ℤ, pos}
 use lib.ListN.{length}
 use Rattle.model.specs.Limits.{maxNodes, maxEdges, maxPaths}
+use Rattle.model.specs.Graph.{graphOf, NodeRow}
+use Rattle.model.specs.Taken.{TakenTables}
 use Rattle.model.specs.Compare.{Tables}
-use Rattle.windows.specs.Tables.{spanWidth, ExtentsIn, OffsetsIn}
+use Rattle.windows.specs.Tables.{spanWidth, ExtentsIn, OffsetsIn, Shiftable, Cuttable}
 use Rattle.pairs.specs.Inputs.{Ordered, AllFew}
 
 -- the extents of the nodes and the bit offsets of the edges of both graphs
@@ -14,6 +16,12 @@ pub record Measured (t : Tables) (specExtents specOffsets implExtents implOffset
   pub specEdges : OffsetsIn (t .specNodes) (t .specEdges) specOffsets
   pub implNodes : ExtentsIn (t .implNodes) (t .implEdges) implExtents
   pub implEdges : OffsetsIn (t .implNodes) (t .implEdges) implOffsets
+
+-- taken tables, a small bit offset for each edge row, and a window with small ends for each node row
+pub record Enterable (ns es offsets windows : List ℤ) : Type 0 where
+  pub tables : TakenTables ns es
+  pub offset : (e : ℕ) → e < length es / 3 → Shiftable offsets e
+  pub window : (v : ℕ) → NodeRow (graphOf ns es) (pos v) → Cuttable windows v
 
 -- what the pairs of all leaf rows start from: checked tables with few paths, the edges of both graphs in order, the bits of both graphs, and room for
 -- all that is computed

@@ -1,5 +1,5 @@
-// What is kept of all pairs of a comparison. Pairs are worked through leaf row by leaf row, since one sweep of a graph serves all roots of a leaf;
-// keys keep their places in visiting order.
+// What is kept of all pairs of a comparison. Pairs are worked through leaf row by leaf row, since one sweep of a graph and one kept list serve all
+// roots of a leaf; keys keep their places in visiting order.
 ghost use mathlib.Core.Path.{_≡_};
 ghost use mathlib.Core.Bool.{_&&_};
 ghost use Prim.Native.Nat.{_+_, _*_, _/_, _≤_, _<_, _^_};
@@ -14,11 +14,12 @@ ghost use Rattle.totals.specs.Kept.{KeptMost};
 ghost use Rattle.survey.specs.Lines.{Between};
 ghost use Rattle.survey.specs.Found.{LeafKept};
 ghost use Rattle.survey.specs.UpTo.{AllKeptUpTo, SurveyUpTo};
-ghost use Rattle.survey.specs.Inputs.{Measured, AllReady};
+ghost use Rattle.survey.specs.Inputs.{Measured, AllReady, Enterable};
 use model::EDGE_WIDTH;
 use model::MAX_CHAIN;
 use model::MAX_EDGES;
 use model::MAX_NODES;
+use model::NODE_WIDTH;
 use model::PAIR_WIDTH;
 use pairs::either_entered;
 use pairs::impl_node;
@@ -27,7 +28,10 @@ use pairs::place_of;
 use pairs::spec_node;
 use pairs::sweep;
 use sharing::Shared;
+use sharing::has_window;
 use sharing::keep_list;
+use steps::Clipped;
+use tables::edge_to;
 use totals::Kept;
 use totals::no_pair;
 use totals::sort_lines;
@@ -40,7 +44,7 @@ use windows::measure;
 // The column of a pair row that holds a node of the specification.
 const SPEC_COLUMN: usize = 0;
 
-// And the one that holds a node of the implementation.
+// The column of a pair row that holds a node of the implementation.
 const IMPL_COLUMN: usize = 1;
 
 // The numbers of the most records that a list has.
@@ -131,6 +135,9 @@ fn found_of_leaf(
     }
 }
 
+// The next functions choose the node of a graph whose list is kept for a leaf row. The answer is the same whichever is chosen, so that they promise
+// no more than a number up to MAX_NODES.
+
 // A number of a table as a node, MAX_NODES where it is none.
 fn node_of(number: i64) -> usize
     ensures { λ r. ⌜ r ≤ maxNodes ⌝ }
@@ -157,32 +164,37 @@ fn root_in(root_pairs: &[i64], row: usize, column: usize) -> usize
     node_of(number)
 }
 
-// The node that an edge row enters, MAX_NODES where there is none.
-fn entered_by(edges: &[i64], row: usize) -> usize
+// The node that the first linked edge of a node enters, where all bits of the node over this edge have all of its window; else MAX_NODES. The list of a
+// node whose window is seen in part is not kept, since few of the paths behind it may be seen.
+fn first_entered(
+    nodes: &[i64],
+    edges: &[i64],
+    head: &[usize],
+    offsets: &[i64],
+    windows: &[i64],
+    node: usize,
+) -> usize
+    requires { ⌜ Enterable (now nodes) (now edges) (now offsets) (now windows) ⌝ }
     ensures { λ r. ⌜ r ≤ maxNodes ⌝ }
 {
-    if edges.len() / EDGE_WIDTH <= row {
-        return MAX_NODES;
-    }
-    let number = edges[EDGE_WIDTH * row + 1];
-    node_of(number)
-}
-
-// The node that the first linked edge of a node enters, MAX_NODES where no path leads from it.
-fn first_entered(edges: &[i64], counts: &[usize], head: &[usize], node: usize) -> usize
-    ensures { λ r. ⌜ r ≤ maxNodes ⌝ }
-{
-    if counts.len() <= node {
+    if nodes.len() / NODE_WIDTH <= node {
         return MAX_NODES;
     }
     if head.len() <= node {
         return MAX_NODES;
     }
-    if counts[node] == 0 {
+    let e = head[node];
+    if edges.len() / EDGE_WIDTH <= e {
         return MAX_NODES;
     }
-    let row = head[node];
-    entered_by(edges, row)
+    let to = edge_to(edges, e);
+    let crossed = windows::cross(offsets, windows, e, to, steps::whole(nodes, node));
+    if let Clipped::Left(entered) = crossed {
+        if has_window(windows, to, entered) {
+            return to;
+        }
+    }
+    MAX_NODES
 }
 
 // The number of paths from a node to the leaf, 0 where there is no such node.
@@ -195,17 +207,26 @@ fn count_of(counts: &[usize], node: usize) -> usize {
 
 // The node behind a root from which its paths part: along the first linked edges the first with fewer paths behind its next node. MAX_NODES where there is
 // one path or none.
-fn parting_node(edges: &[i64], counts: &[usize], head: &[usize], root: usize) -> usize
+fn parting_node(
+    nodes: &[i64],
+    edges: &[i64],
+    counts: &[usize],
+    head: &[usize],
+    offsets: &[i64],
+    windows: &[i64],
+    root: usize,
+) -> usize
+    requires { ⌜ Enterable (now nodes) (now edges) (now offsets) (now windows) ⌝ }
     ensures { λ r. ⌜ r ≤ maxNodes ⌝ }
 {
-    let mut node = first_entered(edges, counts, head, root);
+    let mut node = first_entered(nodes, edges, head, offsets, windows, root);
     let mut left = MAX_CHAIN;
     while 0 < left {
         let paths = count_of(counts, node);
         if paths < 2 {
             return MAX_NODES;
         }
-        let next = first_entered(edges, counts, head, node);
+        let next = first_entered(nodes, edges, head, offsets, windows, node);
         if count_of(counts, next) != paths {
             return node;
         }
@@ -244,18 +265,21 @@ fn with_root(lead: Lead, node: usize) -> Lead
     }
 }
 
-// The node from which the paths of more than half of the roots with several paths part, two roots at least; where there is none, another node, or
-// MAX_NODES, of which no list is kept. Any node may be chosen, so that nothing is asked of the tables.
+// The node from which the paths of the roots with several paths part, where two more of them have it than have not; else another node, or MAX_NODES,
+// of which no list is kept.
 fn shared_node(
+    nodes: &[i64],
     edges: &[i64],
     counts: &[usize],
     head: &[usize],
+    offsets: &[i64],
+    windows: &[i64],
     root_pairs: &[i64],
     column: usize,
     from: usize,
     to: usize,
 ) -> usize
-    requires { ⌜ column < 2 ⌝ }
+    requires { ⌜ (column < 2) × Enterable (now nodes) (now edges) (now offsets) (now windows) ⌝ }
     ensures { λ r. ⌜ r ≤ maxNodes ⌝ }
 {
     let mut lead = Lead {
@@ -264,7 +288,15 @@ fn shared_node(
     };
     let mut row = from;
     while row < to {
-        let node = parting_node(edges, counts, head, root_in(root_pairs, row, column));
+        let node = parting_node(
+            nodes,
+            edges,
+            counts,
+            head,
+            offsets,
+            windows,
+            root_in(root_pairs, row, column),
+        );
         if node < MAX_NODES {
             lead = with_root(lead, node);
         }
@@ -315,7 +347,18 @@ fn sweep_keeping(
         next,
         windows,
     );
-    let node = shared_node(edges, counts, head, root_pairs, column, from, to);
+    let node = shared_node(
+        nodes,
+        edges,
+        counts,
+        head,
+        offsets,
+        windows,
+        root_pairs,
+        column,
+        from,
+        to,
+    );
     keep_list(
         nodes,
         edges,

@@ -269,7 +269,8 @@ pub fn find_windows(
 }
 
 // Sets counts[v], for each node v, to the number of paths from v to the leaf, as reach::count_paths does, and span v of `windows` to its window.
-// One pass over the edges in the same order. An edge into a node without a path to the leaf adds no path and carries nothing back: it is passed over.
+// One pass over the edges in an order that has each edge behind all edges that leave the node it enters. An edge into a node without a path to the leaf
+// adds no path and carries nothing back: it is passed over.
 pub fn sweep_back(
     nodes: &[i64],
     edges: &[i64],

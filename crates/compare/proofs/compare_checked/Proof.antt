@@ -5,14 +5,14 @@ use borrow.Author.Needs.{needs}
 use Rattle.compare.proofs.compare_checked.Statement.{statement}
 use Rattle.compare.proofs.compare_checked.Tie as tie
 
-slice-aggregate-many-of-all : tie.Need-slice-aggregate-many-of-all
-slice-aggregate-many-of-all c = search needs
+slice-aggregate-lowest-many : tie.Need-slice-aggregate-lowest-many
+slice-aggregate-lowest-many c = search needs
 
-slice-aggregate-many-of-all-2 : tie.Need-slice-aggregate-many-of-all-2
-slice-aggregate-many-of-all-2 c = search needs
+slice-aggregate-lowest-many-2 : tie.Need-slice-aggregate-lowest-many-2
+slice-aggregate-lowest-many-2 c = search needs
 
-many-of-all-requires : tie.Need-many-of-all-requires
-many-of-all-requires c κs = search needs
+lowest-many-requires : tie.Need-lowest-many-requires
+lowest-many-requires c κs = search needs
 
 mul-if1 : tie.Need-mul-if1
 mul-if1 c = search needs
@@ -28,13 +28,13 @@ returns c =
     let m = c .before .before .before .before .before in
     let s = m .before .before .before .before .before in
     let r = c .refusal .ensures in
-    paths-refused (r .0) (r .1) (key-refused (s .pre .0 .inputs) (m .many-of-all .ensures) (c .before .many-paths .ensures))
+    paths-refused (r .0) (r .1) (key-refused (s .pre .0 .inputs) (m .lowest-many .ensures) (c .before .many-paths .ensures))
 
 compare-pairs-requires : tie.Need-compare-pairs-requires
 compare-pairs-requires c κs =
     let m = c .before .before .before .before .before in
     let s = m .before .before .before .before .before in
-    (s .pre .0, key-few (s .pre .0 .inputs) (m .many-of-all .ensures) (c .before .before .if1 .left), s .pre .1)
+    (s .pre .0, key-few (s .pre .0 .inputs) (m .lowest-many .ensures) (c .before .before .if1 .left), s .pre .1)
 
 same-length : tie.Need-same-length
 same-length c = search needs
@@ -47,15 +47,15 @@ returns-2 c =
     let e = c .before .before .before .before .before in
     let m = e .before .before .before in
     let s = m .before .before .before .before .before in
-    paths-full (s .pre .0 .inputs) (m .many-of-all .ensures) (e .if1 .left) (c .before .before .compare-pairs .ensures)
+    paths-full (s .pre .0 .inputs) (m .lowest-many .ensures) (e .if1 .left) (c .before .before .compare-pairs .ensures)
 
 pub compare-checked-spec : {M : Type 1} → statement M
 compare-checked-spec =
     tie.close
     (tie.spec
-    slice-aggregate-many-of-all
-    slice-aggregate-many-of-all-2
-    many-of-all-requires
+    slice-aggregate-lowest-many
+    slice-aggregate-lowest-many-2
+    lowest-many-requires
     mul-if1
     many-paths-requires
     refusal-requires

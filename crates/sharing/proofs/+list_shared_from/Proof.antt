@@ -1,6 +1,7 @@
 -- The measure is the remaining chain length. The loop's invariant is `Passing`, over what an edge gives of the run; the measure of the loop is what
 -- is left of the edges.
-use mathlib.Core.Path.{_≡_, ap, _∙_}
+use mathlib.Core.Path.{_≡_, sym, ap, _∙_}
+use mathlib.Core.Bool.{_&&_}
 use mathlib.Core.List.{_∷_, [], flatMap}
 use mathlib.Core.Logic.{_≢_, inl, inr}
 use Prim.Native.Nat.{ℕ, _<_, _≤_, _+_, _-_, _*_, _/_}
@@ -10,6 +11,7 @@ use borrow.Fn.Kinds.{In}
 use borrow.Fn.PlainCycle.{Measures, is, falls, and}
 use lib.IntN.{pos}
 use lib.ListN.{length}
+use Rattle.integers.specs.Integers.{eqZ}
 use Rattle.integers.proofs.Linear.{ints}
 use Rattle.model.specs.Graph.{graphOf, node}
 use Rattle.model.specs.Runs.{leaving}
@@ -17,22 +19,24 @@ use Rattle.model.proofs.Taken.{taken-fit}
 use Rattle.steps.specs.Steps.{runOf, living, livingOf}
 use Rattle.steps.proofs.Rows.{node-good, edge-in, to-row}
 use Rattle.tables.specs.Tables.{edgeAt}
+use Rattle.windows.specs.Windows.{Span}
 use Rattle.windows.proofs.Bits.{edge-shiftable}
 use Rattle.windows.proofs.Covering.{crossed-small}
 use Rattle.listing.specs.Listing.{runRow}
 use Rattle.listing.proofs.Appending.{append-none, append-length}
 use Rattle.listing.proofs.Passing.{Passing, head-there, entered-row, nexts-length, passing-start, passing-end, turn-room, turn-next, turn-onward}
 use Rattle.listing.proofs.Runs.{crossed-left, crossed-nothing}
-use Rattle.listing.proofs.Windowed.{entered-cuttable, window-small, crossed-by-graph}
-use Rattle.sharing.specs.Sharing.{entering, sharedRows, overRows}
+use Rattle.listing.proofs.Windowed.{row-cuttable, row-window, entered-cuttable, window-small, crossed-by-graph}
+use Rattle.sharing.specs.Sharing.{entering, hasAll, byList, sharedRows, overRows}
 use Rattle.sharing.proofs.Lists.{over-dead}
-use Rattle.sharing.proofs.Entering.{shared-leaf, shared-end, shared-onward, over-left, over-nothing, kept-rows, kept-room, kept-small}
+use Rattle.sharing.proofs.Entering.{shared-node, shared-leaf, shared-end, shared-onward, over-left, over-nothing, kept-rows, kept-room, kept-small}
 use Rattle.sharing.proofs.list_shared_from.Reads as reads
 use Rattle.sharing.proofs.list_shared_from.Kinds as kinds
 use Rattle.sharing.proofs.+list_shared_from.Lts-list_shared_from as lts
 use Rattle.listing.proofs.append_row.Reads as append-row-reads
 use Rattle.listing.proofs.edge_behind.Reads as edge-behind-reads
 use Rattle.listing.proofs.run_row.Reads as run-row-reads
+use Rattle.sharing.proofs.by_list.Reads as by-list-reads
 use Rattle.sharing.proofs.append_kept.Reads as append-kept-reads
 use Rattle.tables.proofs.edge_to.Reads as edge-to-reads
 use Rattle.windows.proofs.cross.Reads as cross-reads
@@ -51,6 +55,8 @@ below t = and 8 kinds.ps (falls 8 kinds.ps _<_ μ-list-shared-from t) reads.Pre
 -- what the calls ask and give
 abbrev claims : ℕ → lts.Claims
 claims t = (
+  by-list-reads.Asked,
+  by-list-reads.Learnt,
   append-kept-reads.Asked,
   append-kept-reads.Learnt,
   run-row-reads.Asked,
@@ -75,9 +81,29 @@ abbrev μ-loop : lts.MeasureT-loop
 μ-loop nodes edges head next offsets windows leaf shared kept v run left out₀ n count m₀ e₀ out m e = length edges / 3 - e
 
 module _ (t : ℕ) where
-  -- a node that is not the shared one
+  -- another node
   other : {v w : ℕ} → v ≢ w → pos v ≢ pos w
   other n e = n (omega (arith, ints, e))
+
+  by-list-requires : lts.Need-by-list-requires (claims t) (at t) reads.Post Inv-loop μ-loop
+  by-list-requires c κs = let p = c .before .before .pre .1 in row-cuttable (p .0) (p .1) (p .3) .there
+
+  -- what the test says, by the graph
+  test : (b : lts.After-by-list (claims t) (at t) reads.Post Inv-loop μ-loop)
+      → let s = b .before .before .before in
+      let g = graphOf (s .args .nodes .now) (s .args .edges .now) in
+      byList (s .args .shared .node) g (pos (s .args .v)) (pos (s .args .leaf)) (runOf (s .args .run)) ≡ b .by-list .result
+  test b =
+      let s = b .before .before .before in
+      let window = row-window (s .pre .1 .0) (s .pre .1 .1) (s .pre .1 .3) in
+      ap (λ (w : Span). eqZ (pos (s .args .v)) (pos (s .args .shared .node)) && hasAll (runOf (s .args .run)) w) (sym window) ∙ sym (b .by-list .ensures)
+
+  -- where it passes, the node is the shared one
+  same : (h : lts.Then1 (claims t) (at t) reads.Post Inv-loop μ-loop) → let s = h .before .before .before .before in s .args .v ≡ s .args .shared .node
+  same h =
+      let s = h .before .before .before .before in
+      let g = graphOf (s .args .nodes .now) (s .args .edges .now) in
+      omega (arith, ints, shared-node (s .args .shared .node) g (pos (s .args .v)) (pos (s .args .leaf)) (runOf (s .args .run)) (test (h .before) ∙ h .if1 .taken))
 
   -- at the leaf there is one row
   at-leaf : (c : lts.Then2 (claims t) (at t) reads.Post Inv-loop μ-loop)
@@ -89,7 +115,7 @@ module _ (t : ℕ) where
       let e = c .before in
       let s = e .before .before .before .before in
       shared-leaf (s .args .shared .node) (graphOf (s .args .nodes .now) (s .args .edges .now)) (pos (s .args .v)) (pos (s .args .leaf)) (runOf (s .args .run))
-      (other (e .if1 .left)) (s .args .left) (ap pos (c .if2 .taken))
+      (test (e .before) ∙ e .if1 .left) (s .args .left) (ap pos (c .if2 .taken))
 
   -- past the three tests the rows are those that the edges give
   onward : (c : lts.Else3 (claims t) (at t) reads.Post Inv-loop μ-loop)
@@ -102,7 +128,7 @@ module _ (t : ℕ) where
       let e = f .before in
       let s = e .before .before .before .before in
       shared-onward (s .args .shared .node) (graphOf (s .args .nodes .now) (s .args .edges .now)) (pos (s .args .v)) (pos (s .args .leaf)) (runOf (s .args .run))
-      (other (e .if1 .left)) (s .args .left) (other (f .if2 .left)) (c .if3 .left)
+      (test (e .before) ∙ e .if1 .left) (s .args .left) (other (f .if2 .left)) (c .if3 .left)
 
   -- so there is room for these
   room : (l : lts.At-loop (claims t) (at t) reads.Post Inv-loop μ-loop)
@@ -119,10 +145,10 @@ module _ (t : ℕ) where
       let h = c .before in
       let s = h .before .before .before .before in
       let p = s .pre .1 in (
-        kept-room (p .0) (p .2) (p .3) (h .if1 .taken),
+        kept-room (p .0) (p .2) (p .3) (same h),
         p .4,
-        kept-small (p .0) (p .2) (p .3) (h .if1 .taken),
-        rw (← kept-rows (p .0) (p .2) (p .3) (h .if1 .taken) (s .args .left) (runOf (s .args .run))) (p .5),
+        kept-small (p .0) (p .2) (p .3) (same h),
+        rw (← kept-rows (p .0) (p .2) (p .3) (same h) (s .args .left) (runOf (s .args .run)) (test (h .before) ∙ h .if1 .taken)) (p .5),
       )
 
   same-length : lts.Need-same-length (claims t) (at t) reads.Post Inv-loop μ-loop
@@ -134,7 +160,7 @@ module _ (t : ℕ) where
       let h = a .before .before in
       let s = h .before .before .before .before in
       let p = s .pre .1 in
-      rw (kept-rows (p .0) (p .2) (p .3) (h .if1 .taken) (s .args .left) (runOf (s .args .run))) (a .append-kept .ensures)
+      rw (kept-rows (p .0) (p .2) (p .3) (same h) (s .args .left) (runOf (s .args .run)) (test (h .before) ∙ h .if1 .taken)) (a .append-kept .ensures)
 
   run-row-requires : lts.Need-run-row-requires (claims t) (at t) reads.Post Inv-loop μ-loop
   run-row-requires c κs = let p = c .before .before .before .before .before .before .pre .1 in (node-good (p .0 .tables) (p .0 .block .row), p .4)
@@ -161,7 +187,7 @@ module _ (t : ℕ) where
       let s = e .before .before .before .before in
       let end =
       shared-end (s .args .shared .node) (graphOf (s .args .nodes .now) (s .args .edges .now)) (pos (s .args .v)) (pos (s .args .leaf)) (runOf (s .args .run))
-      (other (e .if1 .left)) (s .args .left) (other (f .if2 .left)) (c .if3 .taken) in
+      (test (e .before) ∙ e .if1 .left) (s .args .left) (other (f .if2 .left)) (c .if3 .taken) in
       rw end (append-none (s .args .out .now) (s .args .n))
 
   mul-e : lts.Need-mul-e (claims t) (at t) reads.Post Inv-loop μ-loop
@@ -286,6 +312,7 @@ pub +list-shared-from-spec : {M : Type 1} → statement M
 +list-shared-from-spec =
     close μ-list-shared-from
     λ t. lts.spec (claims t) (at t) reads.Post Inv-loop μ-loop
+    (by-list-requires t)
     (append-kept-requires t)
     (same-length t)
     (returns t)

@@ -1,5 +1,6 @@
 -- A node row with few paths has its list kept; of any other, none is.
-use mathlib.Core.Path.{_∙_}
+use mathlib.Core.Path.{ap, _∙_}
+use Prim.Native.Nat.{ℕ}
 use borrow.Author.Needs.{needs}
 use lib.IntN.{pos}
 use Rattle.sharing.proofs.Keeping.{kept-past, none-keeps, kept-counted, kept-over, kept-row, kept-listable}
@@ -47,7 +48,7 @@ returns-3 c =
     let l = c .before .before in
     let e = l .before .before .before in
     let s = e .before .before .before .before .before .before in
-    (kept-row (s .pre) (s .args .node) (e .before .before .if1 .left) (e .if2 .left), record { count = λ row. l .list-linked .ensures .0; numbers = λ row. l .list-linked .ensures .1 })
+    (ap (λ (n : ℕ). record { node = s .args .node; count = n }) (l .list-linked .ensures .0) ∙ kept-row (s .pre) (s .args .node) (e .before .before .if1 .left) (e .if2 .left), record { count = λ row. l .list-linked .ensures .0; numbers = λ row. l .list-linked .ensures .1 })
 
 pub keep-list-spec : {M : Type 1} → statement M
 keep-list-spec =

@@ -6,10 +6,10 @@ use Rattle.survey.proofs.parting_node.Statement.{statement}
 use Rattle.survey.proofs.parting_node.Tie as tie
 
 abbrev Inv-loop : tie.InvT-loop
-Inv-loop edges counts head root node₀ left₀ node left = node ≤ maxNodes
+Inv-loop nodes edges counts head offsets windows root node₀ left₀ node left = node ≤ maxNodes
 
 abbrev μ-loop : tie.MeasureT-loop
-μ-loop edges counts head root node₀ left₀ node left = left
+μ-loop nodes edges counts head offsets windows root node₀ left₀ node left = left
 
 first-entered-requires : tie.Need-first-entered-requires Inv-loop μ-loop
 first-entered-requires c κs = search needs

@@ -8,10 +8,10 @@ use Rattle.survey.proofs.shared_node.Statement.{statement}
 use Rattle.survey.proofs.shared_node.Tie as tie
 
 abbrev Inv-loop : tie.InvT-loop
-Inv-loop edges counts head root-pairs column from to lead₀ row₀ lead row = (lead .node ≤ maxNodes) × (lead .roots ≤ row)
+Inv-loop nodes edges counts head offsets windows root-pairs column from to lead₀ row₀ lead row = (lead .node ≤ maxNodes) × (lead .roots ≤ row)
 
 abbrev μ-loop : tie.MeasureT-loop
-μ-loop edges counts head root-pairs column from to lead₀ row₀ lead row = to - row
+μ-loop nodes edges counts head offsets windows root-pairs column from to lead₀ row₀ lead row = to - row
 
 loop-holds : tie.Need-loop-holds Inv-loop μ-loop
 loop-holds c = (omega arith, omega arith)
@@ -20,7 +20,7 @@ root-in-requires : tie.Need-root-in-requires Inv-loop μ-loop
 root-in-requires c κs = search needs
 
 parting-node-requires : tie.Need-parting-node-requires Inv-loop μ-loop
-parting-node-requires c κs = search needs
+parting-node-requires c κs = c .before .before .before .before .before .pre .1
 
 with-root-requires : tie.Need-with-root-requires Inv-loop μ-loop
 with-root-requires c κs =

@@ -1,7 +1,7 @@
 -- The graph is swept, and then the list of any node can be kept.
 use borrow.Author.Needs.{needs}
 use Rattle.pairs.proofs.Sweeps.{sweep-done}
-use Rattle.survey.proofs.Ready.{swept-keepable}
+use Rattle.survey.proofs.Ready.{swept-keepable, swept-enterable}
 use Rattle.survey.proofs.sweep_keeping.Statement.{statement}
 use Rattle.survey.proofs.sweep_keeping.Tie as tie
 
@@ -9,11 +9,14 @@ sweep-requires : tie.Need-sweep-requires
 sweep-requires c κs = search needs
 
 shared-node-requires : tie.Need-shared-node-requires
-shared-node-requires c κs = search needs
+shared-node-requires c κs =
+    let w = c .before .before .before .before .before .before .before .before .before .before in
+    let s = w .before .before .before .before .before .before .before .before .before in
+    (s .pre .1, swept-enterable (sweep-done (s .pre .0) (w .sweep .ensures .0) (w .sweep .ensures .1 .0) (w .sweep .ensures .1 .1)))
 
 keep-list-requires : tie.Need-keep-list-requires
 keep-list-requires c κs =
-    let w = c .before .before .before .before .before .before .before .before .before .before .before .before .before .before .before .before in
+    let w = c .before .before .before .before .before .before .before .before .before .before .before .before .before .before .before .before .before in
     let s = w .before .before .before .before .before .before .before .before .before in
     swept-keepable (sweep-done (s .pre .0) (w .sweep .ensures .0) (w .sweep .ensures .1 .0) (w .sweep .ensures .1 .1)) (s .pre .2) (s .pre .3)
 
@@ -37,7 +40,7 @@ same-length-6 c = search needs
 
 returns : tie.Need-returns
 returns c =
-    let w = c .before .before .before .before .before .before .before .before .before .before .before .before .before .before .before .before .before .before .before in
+    let w = c .before .before .before .before .before .before .before .before .before .before .before .before .before .before .before .before .before .before .before .before in
     let s = w .before .before .before .before .before .before .before .before .before in
     (sweep-done (s .pre .0) (w .sweep .ensures .0) (w .sweep .ensures .1 .0) (w .sweep .ensures .1 .1), c .before .before .keep-list .ensures .1)
 

@@ -3,3 +3,4 @@ pub mod Many
 pub mod Few
 pub mod Checks
 pub mod Results
+pub mod Stopping

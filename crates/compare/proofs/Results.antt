@@ -37,7 +37,7 @@ use Rattle.compare.proofs.Checks.{then-none, full-none, answer-stops, a
 -- ---- the full result
 
 -- all root rows
-abbrev rowCount : Tables → ℕ
+abbrev pub rowCount : Tables → ℕ
 rowCount t = length (t .rootPairs) / pairWidth
 
 module _ {t : Tables} {kept : Kept} {lines : List ℤ} (p : SurveyPromise t 0 (rowCount t) kept lines) where
@@ -66,7 +66,7 @@ module _ {t : Tables} (k : Inputs t) {key : ℕ} (e : key ≡ lowestMany t) wher
   key-refused h = rw (sym key-paths, sym h) refl
 
   -- or none
-  key-none : 2 * noKey ≤ key → checkPaths t ≡ none
+  pub key-none : 2 * noKey ≤ key → checkPaths t ≡ none
   unfolding lowestMany refusalFrom
   key-none h =
       let keys = map (manyKey (specGraph t) (implGraph t)) (byLeaf (rootRows t) (leafRows t)) in

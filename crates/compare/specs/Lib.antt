@@ -1,4 +1,5 @@
 pub mod Inputs
 pub mod Keys
 pub mod Promises
+pub mod UpTo
 pub mod Few

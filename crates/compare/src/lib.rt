@@ -7,9 +7,8 @@ ghost use lib.ListN.{length};
 ghost use Rattle.model.specs.Limits.{maxNodes, maxEdges};
 ghost use Rattle.model.specs.Rows.{pairRows};
 ghost use Rattle.model.specs.Graph.{graphOf};
-ghost use Rattle.model.specs.Compare.{findings, resultOf};
 ghost use Rattle.model.specs.Checks.{checkTables};
-ghost use Rattle.model.specs.Calls.{refused, full};
+ghost use Rattle.model.specs.Calls.{refused};
 ghost use Rattle.model.specs.Answers.{comparisonResult, comparedAnswer, verdictNumber, refusalOf};
 ghost use Rattle.reach.specs.AllPaths.{Totalable};
 ghost use Rattle.pairing.specs.Pairs.{tablesOf};
@@ -18,10 +17,11 @@ ghost use Rattle.pairs.specs.Inputs.{Ordered, AllFew};
 ghost use Rattle.totals.specs.Kept.{asTotals};
 ghost use Rattle.survey.specs.Lines.{LinesHeld, findingsBetween};
 ghost use Rattle.survey.specs.Found.{wholeVerdict};
-ghost use Rattle.compare.specs.Inputs.{pathsAnswer, InputsChecked};
+ghost use Rattle.compare.specs.Inputs.{InputsChecked};
 ghost use Rattle.compare.specs.Few.{allFewBy, allFewFrom, Totalled, PairsNodes};
 ghost use Rattle.compare.specs.Keys.{keyBy, countKey, Keyed, rowKeys, lowestMany};
-ghost use Rattle.compare.specs.Promises.{ComparePromise, LinesPromise};
+ghost use Rattle.compare.specs.Promises.{ComparePromise};
+ghost use Rattle.compare.specs.UpTo.{PairsUpTo, PathsUpTo, LinedUpTo};
 use depth::check_graph_with;
 use depth::order_edges;
 use model::Checked;
@@ -48,6 +48,9 @@ use reach::count_paths;
 use survey::survey;
 use totals::NO_KEY;
 use totals::Totals;
+
+// The most pairs that there are: MAX_PAIRS root rows with MAX_PAIRS leaf rows.
+const MAX_VISITS: usize = 1000000;
 
 // The answer of a comparison and how many pairs have a record on either side: 0 where it is a refusal.
 pub struct Lined {
@@ -357,7 +360,7 @@ fn refusal(reason: Reason) -> Lined
 }
 
 // Compares two graphs whose tables are checked and whose pairs have no more than MAX_PATHS paths each: the full result, and the rows of the pairs
-// with a record on either side.
+// with a record on either side, unless more than `most` are counted.
 fn compare_pairs(
     spec_nodes: &[i64],
     spec_edges: &[i64],
@@ -367,6 +370,7 @@ fn compare_pairs(
     leaf_pairs: &[i64],
     spec_order: &[usize],
     impl_order: &[usize],
+    most: usize,
     lines: &mut [i64],
     spare: &mut [i64],
 ) -> Lined
@@ -376,15 +380,10 @@ fn compare_pairs(
         × AllFew (tablesOf (now «spec_nodes») (now «spec_edges») (now «impl_nodes») (now «impl_edges») (now «root_pairs») (now «leaf_pairs»))
         × (length (now lines) ≤ length (now spare)) ⌝ }
     ensures { λ r. ⌜
-        comparedAnswer (r .compared)
-        ≡ full (resultOf (findings
+        PairsUpTo
         (tablesOf (now («spec_nodes» .entry)) (now («spec_edges» .entry)) (now («impl_nodes» .entry)) (now («impl_edges» .entry))
-        (now («root_pairs» .entry)) (now («leaf_pairs» .entry))))) ⌝ }
-    ensures { λ r. ⌜
-        LinesHeld (findings
-        (tablesOf (now («spec_nodes» .entry)) (now («spec_edges» .entry)) (now («impl_nodes» .entry)) (now («impl_edges» .entry))
-        (now («root_pairs» .entry)) (now («leaf_pairs» .entry))))
-        (now (lines .exit)) (r .count) ⌝ }
+        (now («root_pairs» .entry)) (now («leaf_pairs» .entry)))
+        most r (now (lines .exit)) ⌝ }
 {
     let count = root_pairs.len() / PAIR_WIDTH;
     let kept = survey(
@@ -398,6 +397,7 @@ fn compare_pairs(
         impl_order,
         0,
         count,
+        most,
         lines,
         spare,
     );
@@ -419,6 +419,7 @@ fn compare_checked(
     leaf_pairs: &[i64],
     spec_order: &[usize],
     impl_order: &[usize],
+    most: usize,
     lines: &mut [i64],
     spare: &mut [i64],
 ) -> Lined
@@ -427,15 +428,10 @@ fn compare_checked(
         (now «spec_order») (now «impl_order»)
         × (length (now lines) ≤ length (now spare)) ⌝ }
     ensures { λ r. ⌜
-        comparedAnswer (r .compared)
-        ≡ pathsAnswer
-        (tablesOf (now («spec_nodes» .entry)) (now («spec_edges» .entry)) (now («impl_nodes» .entry)) (now («impl_edges» .entry))
-        (now («root_pairs» .entry)) (now («leaf_pairs» .entry))) ⌝ }
-    ensures { λ r. ⌜
-        LinesPromise
+        PathsUpTo
         (tablesOf (now («spec_nodes» .entry)) (now («spec_edges» .entry)) (now («impl_nodes» .entry)) (now («impl_edges» .entry))
         (now («root_pairs» .entry)) (now («leaf_pairs» .entry)))
-        (r .compared) (now (lines .exit)) (r .count) ⌝ }
+        most r (now (lines .exit)) ⌝ }
 {
     let mut spec_counts = [0usize; MAX_NODES];
     let mut impl_counts = [0usize; MAX_NODES];
@@ -463,6 +459,7 @@ fn compare_checked(
         leaf_pairs,
         spec_order,
         impl_order,
+        most,
         lines,
         spare,
     )
@@ -508,7 +505,7 @@ fn check_inputs(
 // different pairs, the whole verdict, and the first unequal pair in visiting order with its lowest differing bit address; or the refusal. The rows
 // of the pairs with a record on either side are counted, and stand in front of `lines` in visiting order where there is room for all of them. What
 // stands in `lines` behind the rows, or where there is no room for all of them or the answer is a refusal, and in `spare`, is space that was worked
-// in.
+// in. Where no refusal holds and more than `most` rows are counted, pairs may be left out: that there are more is all that is then said.
 pub fn compare_lines(
     spec_nodes: &[i64],
     spec_edges: &[i64],
@@ -516,20 +513,16 @@ pub fn compare_lines(
     impl_edges: &[i64],
     root_pairs: &[i64],
     leaf_pairs: &[i64],
+    most: usize,
     lines: &mut [i64],
     spare: &mut [i64],
 ) -> Lined
     requires { ⌜ length (now lines) ≤ length (now spare) ⌝ }
     ensures { λ r. ⌜
-        ComparePromise
+        LinedUpTo
         (tablesOf (now («spec_nodes» .entry)) (now («spec_edges» .entry)) (now («impl_nodes» .entry)) (now («impl_edges» .entry))
         (now («root_pairs» .entry)) (now («leaf_pairs» .entry)))
-        (r .compared) ⌝ }
-    ensures { λ r. ⌜
-        LinesPromise
-        (tablesOf (now («spec_nodes» .entry)) (now («spec_edges» .entry)) (now («impl_nodes» .entry)) (now («impl_edges» .entry))
-        (now («root_pairs» .entry)) (now («leaf_pairs» .entry)))
-        (r .compared) (now (lines .exit)) (r .count) ⌝ }
+        most r (now (lines .exit)) ⌝ }
 {
     let mut spec_order = [0usize; MAX_EDGES];
     let mut impl_order = [0usize; MAX_EDGES];
@@ -555,6 +548,7 @@ pub fn compare_lines(
         leaf_pairs,
         &spec_order,
         &impl_order,
+        most,
         lines,
         spare,
     )
@@ -584,6 +578,7 @@ pub fn compare(
         impl_edges,
         root_pairs,
         leaf_pairs,
+        MAX_VISITS,
         &mut lines,
         &mut spare,
     );
@@ -629,6 +624,7 @@ pub fn lines_between(
         &impl_order,
         from,
         to,
+        MAX_VISITS,
         lines,
         spare,
     );

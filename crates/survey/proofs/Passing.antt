@@ -95,7 +95,7 @@ module _ {t : Tables} {from to j : ℕ} {start : Totals} {n : ℕ} {before : Lis
 -- ---- the pairs of all leaf rows
 
 -- the findings of leaf row j and those behind it
-abbrev restFindings : Tables → ℕ → ℕ → ℕ → List Finding
+abbrev pub restFindings : Tables → ℕ → ℕ → ℕ → List Finding
 restFindings t from to j = map (findingOf t) (byLeaf (rootsBetween t from to) (rowsLeft (t .leafPairs) j))
 
 -- those of leaf row j, and those behind it

@@ -31,7 +31,7 @@ module _ {t : Tables} (k : Inputs t) (from to : ℕ) where
   leaf-few p m = omega (arith, pair-row-below (t .leafPairs) m, rows-few (k .leafShape))
 
   -- the rows taken leaf row by leaf row, sorted
-  between-in-order : sorted (rowsOfFindings (allFindings t from to)) ≡ rowsOfFindings (findingsBetween t from to)
+  pub between-in-order : sorted (rowsOfFindings (allFindings t from to)) ≡ rowsOfFindings (findingsBetween t from to)
   unfolding findingsBetween
   between-in-order = rows-in-order t (between-ascends (to - from) from (pairs-ascending (t .rootPairs))) (pairs-ascending (t .leafPairs)) root-few leaf-few
 

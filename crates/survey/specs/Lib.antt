@@ -1,3 +1,4 @@
 pub mod Lines
 pub mod Inputs
 pub mod Found
+pub mod UpTo

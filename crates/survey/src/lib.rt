@@ -1,6 +1,9 @@
 // What is kept of all pairs of a comparison. Pairs are worked through leaf row by leaf row, since one sweep of a graph and one kept list serve all
 // roots of a leaf; keys keep their places in visiting order.
+ghost use mathlib.Core.Path.{_≡_};
+ghost use mathlib.Core.Bool.{_&&_};
 ghost use Prim.Native.Nat.{_+_, _*_, _/_, _≤_, _<_, _^_};
+ghost use lib.Dec.{leb, ltb};
 ghost use lib.IntN.{pos};
 ghost use lib.ListN.{length};
 ghost use Rattle.model.specs.Limits.{maxNodes, maxPairs, maxPaths};
@@ -9,7 +12,8 @@ ghost use Rattle.sharing.specs.Sharing.{Keeps};
 ghost use Rattle.pairs.specs.Inputs.{Ordered, AllFew, Sweepable, Swept, LeafReady};
 ghost use Rattle.totals.specs.Kept.{KeptMost};
 ghost use Rattle.survey.specs.Lines.{Between};
-ghost use Rattle.survey.specs.Found.{LeafKept, AllKept, SurveyPromise};
+ghost use Rattle.survey.specs.Found.{LeafKept};
+ghost use Rattle.survey.specs.UpTo.{AllKeptUpTo, SurveyUpTo};
 ghost use Rattle.survey.specs.Inputs.{Measured, AllReady, Enterable};
 use model::EDGE_WIDTH;
 use model::MAX_CHAIN;
@@ -490,7 +494,17 @@ fn found_of_row(
     )
 }
 
-// What is kept of the pairs of all leaf rows with these root rows, leaf row by leaf row.
+// Whether leaf row `row` of so many is taken up: it is there, and no more than `most` rows are counted.
+fn goes_on(row: usize, rows: usize, counted: usize, most: usize) -> bool
+    ensures { λ r. ⌜ r ≡ ltb row rows && leb counted most ⌝ }
+{
+    if rows <= row {
+        return false;
+    }
+    counted <= most
+}
+
+// What is kept of the pairs of all leaf rows with these root rows, leaf row by leaf row: no leaf row is begun once more than `most` rows are counted.
 fn found_of_all(
     spec_nodes: &[i64],
     spec_edges: &[i64],
@@ -519,6 +533,7 @@ fn found_of_all(
     spare: &mut [i64],
     from: usize,
     to: usize,
+    most: usize,
     lines: &mut [i64],
 ) -> Kept
     requires { ⌜
@@ -529,14 +544,14 @@ fn found_of_all(
         (now «spec_work») (now «impl_work») (now spare)
         × Between (tablesOf (now «spec_nodes») (now «spec_edges») (now «impl_nodes») (now «impl_edges») (now «root_pairs») (now «leaf_pairs»)) from to ⌝ }
     ensures { λ r. ⌜
-        AllKept
+        AllKeptUpTo
         (tablesOf (now («spec_nodes» .entry)) (now («spec_edges» .entry)) (now («impl_nodes» .entry)) (now («impl_edges» .entry))
-        (now («root_pairs» .entry)) (now («leaf_pairs» .entry))) from to r (now (lines .exit)) ⌝ }
+        (now («root_pairs» .entry)) (now («leaf_pairs» .entry))) from to most r (now (lines .exit)) ⌝ }
 {
     let count = leaf_pairs.len() / PAIR_WIDTH;
     let mut kept = no_pair();
     let mut row: usize = 0;
-    while row < count {
+    while goes_on(row, count, kept.count, most) {
         kept = found_of_row(
             spec_nodes,
             spec_edges,
@@ -575,7 +590,8 @@ fn found_of_all(
 }
 
 // What is kept of all leaf rows with the root rows `from`, .., `to` - 1, by the bits of both graphs: the totals of their verdicts, and the rows of the
-// pairs with a record on either side, in visiting order, in front of `lines` where there is room for all of them.
+// pairs with a record on either side, in visiting order, in front of `lines` where there is room for all of them; pairs may be left out once more
+// than `most` rows are counted.
 fn survey_measured(
     spec_nodes: &[i64],
     spec_edges: &[i64],
@@ -591,6 +607,7 @@ fn survey_measured(
     impl_offsets: &[i64],
     from: usize,
     to: usize,
+    most: usize,
     lines: &mut [i64],
     spare: &mut [i64],
 ) -> Kept
@@ -603,9 +620,9 @@ fn survey_measured(
         × Measured (tablesOf (now «spec_nodes») (now «spec_edges») (now «impl_nodes») (now «impl_edges») (now «root_pairs») (now «leaf_pairs»))
         (now «spec_extents») (now «spec_offsets») (now «impl_extents») (now «impl_offsets») ⌝ }
     ensures { λ r. ⌜
-        SurveyPromise
+        SurveyUpTo
         (tablesOf (now («spec_nodes» .entry)) (now («spec_edges» .entry)) (now («impl_nodes» .entry)) (now («impl_edges» .entry))
-        (now («root_pairs» .entry)) (now («leaf_pairs» .entry))) from to r (now (lines .exit)) ⌝ }
+        (now («root_pairs» .entry)) (now («leaf_pairs» .entry))) from to most r (now (lines .exit)) ⌝ }
 {
     let mut spec_counts = [0usize; MAX_NODES];
     let mut spec_head = [0usize; MAX_NODES];
@@ -648,6 +665,7 @@ fn survey_measured(
         &mut list_spare,
         from,
         to,
+        most,
         lines,
     );
     sort_lines(lines, kept.count, spare);
@@ -656,7 +674,8 @@ fn survey_measured(
 
 // What is kept of all leaf rows with the root rows `from`, .., `to` - 1: the totals of their verdicts, and the rows of the pairs with a record on
 // either side, in visiting order, in front of `lines` where there is room for all of them. What stands in `lines` behind the rows, or where there is
-// no room for all of them, and in `spare`, is space that was worked in.
+// no room for all of them, and in `spare`, is space that was worked in. Once more than `most` rows are counted, pairs may be left out: that there are
+// more is all that is then said.
 pub fn survey(
     spec_nodes: &[i64],
     spec_edges: &[i64],
@@ -668,6 +687,7 @@ pub fn survey(
     impl_order: &[usize],
     from: usize,
     to: usize,
+    most: usize,
     lines: &mut [i64],
     spare: &mut [i64],
 ) -> Kept
@@ -678,9 +698,9 @@ pub fn survey(
         × Between (tablesOf (now «spec_nodes») (now «spec_edges») (now «impl_nodes») (now «impl_edges») (now «root_pairs») (now «leaf_pairs»)) from to
         × (length (now lines) ≤ length (now spare)) ⌝ }
     ensures { λ r. ⌜
-        SurveyPromise
+        SurveyUpTo
         (tablesOf (now («spec_nodes» .entry)) (now («spec_edges» .entry)) (now («impl_nodes» .entry)) (now («impl_edges» .entry))
-        (now («root_pairs» .entry)) (now («leaf_pairs» .entry))) from to r (now (lines .exit)) ⌝ }
+        (now («root_pairs» .entry)) (now («leaf_pairs» .entry))) from to most r (now (lines .exit)) ⌝ }
 {
     let mut spec_extents = [0i64; MAX_ENDS];
     let mut spec_offsets = [0i64; MAX_EDGES];
@@ -703,6 +723,7 @@ pub fn survey(
         &impl_offsets,
         from,
         to,
+        most,
         lines,
         spare,
     )

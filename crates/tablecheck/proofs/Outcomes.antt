@@ -2,18 +2,20 @@
 use mathlib.Core.Path.{_≡_, refl, sym, ap, _∙_}
 use mathlib.Core.List.{List}
 use mathlib.Core.Option.{Option, none, some}
-use Prim.Native.Nat.{ℕ}
+use Prim.Native.Nat.{ℕ, _<_}
 use lib.ListN.{length}
 use native.Mathlib.Omega.{arith}
+use borrow.Author.Tests.{lt-ltb}
 use Rattle.model.specs.Bytes.{Bytes}
 use Rattle.model.specs.Compare.{Tables, Finding, findings, Result, resultOf}
 use Rattle.model.specs.Refusals.{Refusal}
-use Rattle.model.specs.Checks.{_then_, checkTables, checkOutput}
+use Rattle.model.specs.Checks.{when, _then_, checkTables, checkOutput}
 use Rattle.model.specs.Calls.{refused, full, answer, lengthOf, bufferAfter, compareAnswer}
 use Rattle.model.specs.Answers.{writtenAnswer, comparedAnswer, comparisonResult}
 use Rattle.model.specs.Report.{report}
 use Rattle.model.specs.TextCheck.{reportedOf, checkRead, reportOf}
 use Rattle.model.specs.declared.Reason.{Reason}
+use Rattle.model.specs.declared.Reason.the-variants as reason
 use Rattle.model.specs.declared.Comparison.{Comparison}
 use Rattle.model.specs.declared.Compared.{Compared}
 use Rattle.model.specs.declared.Compared.the-variants as compared
@@ -57,6 +59,12 @@ module _ (o : Option Refusal) (fs : List Finding) where
       go (some r) = refl
 
 -- ---- the check of tables
+
+-- a report that is longer than the buffer is refused, and the buffer is untouched
+pub outcome-long : (t : Tables) → checkTables t ≡ none → (buffer : Bytes) → length buffer < length (report (findings t))
+    → Gives (checkRead (length buffer) (full t)) buffer buffer (outcome.Refused reason.LongOutput)
+unfolding checkRead _then_ checkOutput when answer measuredOf reportOf bufferAfter
+outcome-long t taken buffer h = rw (taken, lt-ltb (length buffer) (length (report (findings t))) h) (record { answers = refl; buffer = refl })
 
 module _ (t : Tables) {given : Compared} (promise : ComparePromise t given) where
   -- a refusal of the comparison is that of the check, and the buffer is untouched

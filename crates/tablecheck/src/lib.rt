@@ -192,7 +192,7 @@ fn put_long(
     at + reporting::put_ending(&mut out[at..], result)
 }
 
-// Writes a report with more lines than are held at once. Where even the shortest lines would not fit, nothing is measured.
+// Writes a report with more lines than are held at once.
 fn long_report(
     spec_nodes: &[i64],
     spec_edges: &[i64],
@@ -202,7 +202,6 @@ fn long_report(
     leaf_pairs: &[i64],
     result: Comparison,
     lines: &mut [i64],
-    count: usize,
     spare: &mut [i64],
     out: &mut [u8],
 ) -> Written
@@ -210,9 +209,7 @@ fn long_report(
         Reportable (tablesOf (now «spec_nodes») (now «spec_edges») (now «impl_nodes») (now «impl_edges») (now «root_pairs») (now «leaf_pairs»))
         (now lines) (now spare)
         × (comparisonResult result ≡ resultOf (findings
-        (tablesOf (now «spec_nodes») (now «spec_edges») (now «impl_nodes») (now «impl_edges») (now «root_pairs») (now «leaf_pairs»))))
-        × (count ≡ length (rowsOfFindings (findings
-        (tablesOf (now «spec_nodes») (now «spec_edges») (now «impl_nodes») (now «impl_edges») (now «root_pairs») (now «leaf_pairs»))))) ⌝ }
+        (tablesOf (now «spec_nodes») (now «spec_edges») (now «impl_nodes») (now «impl_edges») (now «root_pairs») (now «leaf_pairs»)))) ⌝ }
     ensures returned { λ r. ⌜
         writtenAnswer r
         ≡ lengthOf (outputAnswer (model.report (findings
@@ -228,9 +225,6 @@ fn long_report(
         (now (out .entry)) ⌝ }
 {
     let room = out.len();
-    if room / LEAST_LINE < count {
-        return Written::Refused(Reason::LongOutput);
-    }
     let length = long_length(
         spec_nodes,
         spec_edges,
@@ -309,7 +303,6 @@ fn table_report(
         leaf_pairs,
         result,
         lines,
-        count,
         spare,
         out,
     )
@@ -328,7 +321,8 @@ fn outcome_of(written: Written, verdict: Verdict) -> Outcome
     }
 }
 
-// Checks the tables of a map: compares the two graphs and writes the report, or refuses.
+// Checks the tables of a map: compares the two graphs and writes the report, or refuses. Where even the shortest lines would not fit, the report is
+// longer than the buffer, and pairs that are left are not looked at.
 pub fn check_tables(
     spec_nodes: &[i64],
     spec_edges: &[i64],
@@ -346,6 +340,7 @@ pub fn check_tables(
 {
     let mut lines = [0i64; LINE_NUMBERS];
     let mut spare = [0i64; LINE_NUMBERS];
+    let most = report.len() / LEAST_LINE;
     let lined = compare::compare_lines(
         spec_nodes,
         spec_edges,
@@ -353,9 +348,13 @@ pub fn check_tables(
         impl_edges,
         root_pairs,
         leaf_pairs,
+        most,
         &mut lines,
         &mut spare,
     );
+    if most < lined.count {
+        return Outcome::Refused(Reason::LongOutput);
+    }
     let compared = lined.compared;
     match compared {
         Compared::Refused(reason) => Outcome::Refused(reason),

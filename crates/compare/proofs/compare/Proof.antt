@@ -1,4 +1,4 @@
--- The answer is that of the comparison with lines.
+-- The answer is that of the comparison with lines, of which there are never too many.
 use borrow.Author.Needs.{needs}
 use Rattle.compare.proofs.compare.Statement.{statement}
 use Rattle.compare.proofs.compare.Tie as tie
@@ -13,7 +13,7 @@ compare-lines-requires : tie.Need-compare-lines-requires
 compare-lines-requires c κs = search needs
 
 returns : tie.Need-returns
-returns c = c .before .before .compare-lines .ensures .0
+returns c = let p = c .before .before .compare-lines .ensures in p .compared (p .few)
 
 pub compare-spec : {M : Type 1} → statement M
 compare-spec =

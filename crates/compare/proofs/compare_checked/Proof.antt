@@ -1,6 +1,6 @@
 -- The lowest key gives a refusal, or no pair has too many paths.
-use mathlib.Core.Path.{_∙_}
-use Rattle.compare.proofs.Results.{key-refused, key-few, key-full, refused-lines, full-lines}
+use Rattle.compare.proofs.Results.{key-refused, key-few}
+use Rattle.compare.proofs.Stopping.{paths-refused, paths-full}
 use borrow.Author.Needs.{needs}
 use Rattle.compare.proofs.compare_checked.Statement.{statement}
 use Rattle.compare.proofs.compare_checked.Tie as tie
@@ -27,10 +27,8 @@ returns : tie.Need-returns
 returns c =
     let m = c .before .before .before .before .before in
     let s = m .before .before .before .before .before in
-    let r = c .refusal .ensures in (
-      r .0 ∙ key-refused (s .pre .0 .inputs) (m .lowest-many .ensures) (c .before .many-paths .ensures),
-      refused-lines _ (c .refusal .result .compared) (r .0) (r .1),
-    )
+    let r = c .refusal .ensures in
+    paths-refused (r .0) (r .1) (key-refused (s .pre .0 .inputs) (m .lowest-many .ensures) (c .before .many-paths .ensures))
 
 compare-pairs-requires : tie.Need-compare-pairs-requires
 compare-pairs-requires c κs =
@@ -46,13 +44,10 @@ same-length-2 c = search needs
 
 returns-2 : tie.Need-returns-2
 returns-2 c =
-    let p = c .before .before .compare-pairs .ensures in
     let e = c .before .before .before .before .before in
     let m = e .before .before .before in
-    let s = m .before .before .before .before .before in (
-      p .0 ∙ key-full (s .pre .0 .inputs) (m .lowest-many .ensures) (e .if1 .left),
-      full-lines _ (c .before .before .compare-pairs .result .compared) (p .0) (p .1),
-    )
+    let s = m .before .before .before .before .before in
+    paths-full (s .pre .0 .inputs) (m .lowest-many .ensures) (e .if1 .left) (c .before .before .compare-pairs .ensures)
 
 pub compare-checked-spec : {M : Type 1} → statement M
 compare-checked-spec =

@@ -1,5 +1,5 @@
 -- The inputs are refused, or the answer is that of the paths and the pairs; demand 3 follows from the answer.
-use Rattle.compare.proofs.Results.{inputs-refused, inputs-taken, refused-lines}
+use Rattle.compare.proofs.Stopping.{lined-refused, lined-taken}
 use borrow.Author.Needs.{needs}
 use Rattle.compare.proofs.compare_lines.Statement.{statement}
 use Rattle.compare.proofs.compare_lines.Tie as tie
@@ -22,10 +22,8 @@ refusal-requires c κs = search needs
 returns : tie.Need-returns
 returns c =
     let k = c .before .before .before .before .before .before in
-    let r = c .refusal .ensures in (
-      inputs-refused (k .check-inputs .ensures) (c .before .before .c .given .1) (r .0),
-      refused-lines _ (c .refusal .result .compared) (r .0) (r .1),
-    )
+    let r = c .refusal .ensures in
+    lined-refused (k .check-inputs .ensures) (c .before .before .c .given .1) (r .0) (r .1)
 
 enum-told : tie.Need-enum-told
 enum-told c = search needs
@@ -50,9 +48,8 @@ same-length-2 c = search needs
 
 returns-2 : tie.Need-returns-2
 returns-2 c =
-    let p = c .before .before .compare-checked .ensures in
     let e = c .before .before .before .before .before .before .before in
-    (inputs-taken (e .before .before .before .before .check-inputs .ensures) (e .enum-told .given .1) (p .0), p .1)
+    lined-taken (e .before .before .before .before .check-inputs .ensures) (e .enum-told .given .1) (c .before .before .compare-checked .ensures)
 
 pub compare-lines-spec : {M : Type 1} → statement M
 compare-lines-spec =

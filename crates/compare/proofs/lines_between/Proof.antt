@@ -62,8 +62,7 @@ same-length-2 : tie.Need-same-length-2
 same-length-2 c = search needs
 
 returns : tie.Need-returns
-returns c =
-    c .before .before .survey .ensures .rows
+returns c = let p = c .before .before .survey .ensures in p .within (p .few) .rows
 
 pub lines-between-spec : {M : Type 1} → statement M
 lines-between-spec =

@@ -1,5 +1,5 @@
 -- The buffers have room, and what is kept of all pairs has its rows sorted.
-use Rattle.survey.proofs.Surveys.{survey-kept}
+use Rattle.survey.proofs.Stopping.{survey-up-to}
 use native.Mathlib.Omega.{arith}
 use borrow.Author.Needs.{needs}
 use Rattle.survey.proofs.survey_measured.Statement.{statement}
@@ -76,7 +76,7 @@ sort-lines-requires : tie.Need-sort-lines-requires
 sort-lines-requires c κs =
     let f = c .before .before .before .before .before .before .before .before .before .before .before .before .before .before .before .before in
     let s = begin (f .before) in
-    (f .found-of-all .ensures .most .count, omega (arith, s .pre .3, f .found-of-all .kept .1 .1 .1 .1 .1 .1 .1 .1 .1 .1 .1 .1 .1 .1 .1 .1 .1 .1 .1 .1 .1 .1 .1 .1 .1 .1 .1 .0))
+    (f .found-of-all .ensures .most .count, omega (arith, s .pre .3, f .found-of-all .kept .1 .1 .1 .1 .1 .1 .1 .1 .1 .1 .1 .1 .1 .1 .1 .1 .1 .1 .1 .1 .1 .1 .1 .1 .1 .1 .1 .1 .0))
 
 same-length : tie.Need-same-length
 same-length c = search needs
@@ -88,7 +88,7 @@ returns : tie.Need-returns
 returns c =
     let r = c .before .before in
     let f = r .before .before .before .before .before .before .before .before .before .before .before .before .before .before .before .before .before in
-    survey-kept (begin (f .before) .pre .0 .inputs) _ _ (f .found-of-all .ensures) (r .sort-lines .ensures)
+    survey-up-to (begin (f .before) .pre .0 .inputs) (f .found-of-all .ensures) (r .sort-lines .ensures)
 
 pub survey-measured-spec : {M : Type 1} → statement M
 survey-measured-spec =

@@ -1,4 +1,4 @@
--- Lines that do not fit by their number, a report that is measured to be too long, and one that is written.
+-- A report that is measured to be too long, and one that is written.
 use borrow.Author.Needs.{needs}
 use native.Mathlib.Omega.{arith}
 use Rattle.model.specs.Compare.{Tables, findings}
@@ -7,7 +7,6 @@ use Rattle.model.specs.Bytes.{Bytes}
 use Rattle.model.specs.Report as model
 use Rattle.reporting.proofs.Parts.{output-long, output-written}
 use Rattle.tablecheck.specs.Reports.{Reportable}
-use Rattle.tablecheck.proofs.Lengths.{report-least}
 use Rattle.tablecheck.proofs.long_report.Statement.{statement}
 use Rattle.tablecheck.proofs.long_report.Tie as tie
 
@@ -20,7 +19,7 @@ abbrev report : tie.Start → Bytes
 report s = model.report (findings (tables s))
 
 abbrev start : tie.After-long-length → tie.Start
-start k = k .before .before .before .before .before
+start k = k .before .before .before .before
 
 -- the work space keeps its sizes
 still : (k : tie.After-long-length) → Reportable (tables (start k)) (k .long-length .last .1 .1 .1 .1 .1 .1 .1 .0) (k .long-length .last .1 .1 .1 .1 .1 .1 .1 .1 .0)
@@ -32,10 +31,6 @@ still k =
       spareRoom = omega (arith, s .pre .0 .spareRoom, k .long-length .kept .1 .1 .1 .1 .1 .1 .1 .0, k .long-length .kept .1 .1 .1 .1 .1 .1 .1 .1 .0);
     }
 
-returns : tie.Need-returns
-returns c = let s = c .before .before in
-    output-long (report s) (s .args .out .now) (omega (arith, c .if1 .taken, report-least (tables s) (s .pre .0 .taken), s .pre .2))
-
 long-length-requires : tie.Need-long-length-requires
 long-length-requires c κs = search needs
 
@@ -45,15 +40,15 @@ same-length c = search needs
 same-length-2 : tie.Need-same-length-2
 same-length-2 c = search needs
 
-returns-2 : tie.Need-returns-2
-returns-2 c = let k = c .before .before .before in
+returns : tie.Need-returns
+returns c = let k = c .before .before .before in
     let s = start k in
-    output-long (report s) (s .args .out .now) (omega (arith, k .long-length .ensures, c .if2 .taken))
+    output-long (report s) (s .args .out .now) (omega (arith, k .long-length .ensures, c .if1 .taken))
 
 put-long-requires : tie.Need-put-long-requires
 put-long-requires c κs = let e = c .before .before .before in
     let k = e .before .before .before in
-    (still k, start k .pre .1, omega (arith, k .long-length .ensures, e .if2 .left))
+    (still k, start k .pre .1, omega (arith, k .long-length .ensures, e .if1 .left))
 
 same-length-3 : tie.Need-same-length-3
 same-length-3 c = search needs
@@ -64,24 +59,23 @@ same-length-4 c = search needs
 same-length-5 : tie.Need-same-length-5
 same-length-5 c = search needs
 
-returns-3 : tie.Need-returns-3
-returns-3 c = let p = c .before .before .before .before in
+returns-2 : tie.Need-returns-2
+returns-2 c = let p = c .before .before .before .before in
     let e = p .before .before .before .before in
     let k = e .before .before .before in
     let s = start k in
-    output-written (report s) (s .args .out .now) (omega (arith, k .long-length .ensures, e .if2 .left)) (p .put-long .ensures)
+    output-written (report s) (s .args .out .now) (omega (arith, k .long-length .ensures, e .if1 .left)) (p .put-long .ensures)
 
 pub long-report-spec : {M : Type 1} → statement M
 long-report-spec =
     tie.close
     (tie.spec
-    returns
     long-length-requires
     same-length
     same-length-2
-    returns-2
+    returns
     put-long-requires
     same-length-3
     same-length-4
     same-length-5
-    returns-3)
+    returns-2)

@@ -1,0 +1,26 @@
+-- What a survey keeps that may stop once more than so many rows are counted. Assumes nothing.
+use mathlib.Core.List.{List}
+use Prim.Native.Nat.{ℕ, _*_, _≤_, _<_}
+use lib.IntN.{ℤ}
+use lib.ListN.{length}
+use Rattle.model.specs.Limits.{maxPairs}
+use Rattle.model.specs.Compare.{Tables}
+use Rattle.visiting.specs.Visiting.{noKey}
+use Rattle.reporting.specs.Lines.{rowsOfFindings}
+use Rattle.totals.specs.declared.Kept.{Kept}
+use Rattle.totals.specs.Kept.{KeptMost}
+use Rattle.survey.specs.Lines.{findingsBetween}
+use Rattle.survey.specs.Found.{allFindings, AllKept, SurveyPromise}
+
+-- what is kept of the pairs of all leaf rows where at most n rows are counted; where more are counted, the pairs have more than n rows
+pub record AllKeptUpTo (t : Tables) (from to n : ℕ) (r : Kept) (lines : List ℤ) : Type 0 where
+  pub within : r .count ≤ n → AllKept t from to r lines
+  pub past : n < r .count → n < length (rowsOfFindings (allFindings t from to))
+  pub most : KeptMost (maxPairs * maxPairs) r
+
+-- what a survey gives where at most n rows are counted; where more are counted, the pairs have more than n rows
+pub record SurveyUpTo (t : Tables) (from to n : ℕ) (r : Kept) (lines : List ℤ) : Type 0 where
+  pub within : r .count ≤ n → SurveyPromise t from to r lines
+  pub past : n < r .count → n < length (rowsOfFindings (findingsBetween t from to))
+  pub key : r .totals .key ≤ noKey
+  pub few : r .count ≤ maxPairs * maxPairs

@@ -49,6 +49,7 @@ paths-refused {t} {r} q counted e =
       lined = λ h. refused-lines t (r .compared) q counted;
       taken = λ h. absurd (omega arith);
       past = λ h. absurd (omega arith);
+      stopped = λ h. absurd (omega arith);
       few = omega arith;
     }
 
@@ -61,6 +62,7 @@ paths-full {t} k e top {r} p =
       lined = λ h. full-lines t (r .compared) (p .answer h) (p .held h);
       taken = λ h. key-none k e top;
       past = p .past;
+      stopped = p .stopped;
       few = p .few;
     }
 
@@ -81,6 +83,7 @@ module _ {t : Tables} {given : Checked} {specOrder implOrder : List ℕ} (p : In
         lined = λ h. refused-lines t (r .compared) q counted;
         taken = λ h. absurd (omega arith);
         past = λ h. absurd (omega arith);
+        stopped = λ h. absurd (omega arith);
         few = omega arith;
       }
 
@@ -92,5 +95,6 @@ module _ {t : Tables} {given : Checked} {specOrder implOrder : List ℕ} (p : In
         lined = q .lined;
         taken = λ h. tables-checked t ∙ none-then (full-none tt (checkInputs t) (ap checkedAnswer (sym e) ∙ p .answers)) (q .taken h);
         past = q .past;
+        stopped = q .stopped;
         few = q .few;
       }

@@ -10,6 +10,7 @@ ghost use Rattle.model.specs.Graph.{graphOf};
 ghost use Rattle.model.specs.Checks.{checkTables};
 ghost use Rattle.model.specs.Calls.{refused};
 ghost use Rattle.model.specs.Answers.{comparisonResult, comparedAnswer, verdictNumber, refusalOf};
+ghost use Rattle.model.specs.declared.Reason.the-variants.{LongOutput};
 ghost use Rattle.reach.specs.AllPaths.{Totalable};
 ghost use Rattle.pairing.specs.Pairs.{tablesOf};
 ghost use Rattle.visiting.specs.Visiting.{noKey, resultFrom, lowestFrom, refusalFrom};
@@ -359,8 +360,19 @@ fn refusal(reason: Reason) -> Lined
     }
 }
 
+// Refusal 11, with this count of rows.
+fn too_long(count: usize) -> Lined
+    ensures { λ r. ⌜ (comparedAnswer (r .compared) ≡ refused (refusalOf LongOutput)) × (r .count ≡ count) ⌝ }
+{
+    let compared = Compared::Refused(Reason::LongOutput);
+    Lined {
+        compared: compared,
+        count: count,
+    }
+}
+
 // Compares two graphs whose tables are checked and whose pairs have no more than MAX_PATHS paths each: the full result, and the rows of the pairs
-// with a record on either side, unless more than `most` are counted.
+// with a record on either side; refusal 11 where they have more than `most` rows.
 fn compare_pairs(
     spec_nodes: &[i64],
     spec_edges: &[i64],
@@ -401,6 +413,9 @@ fn compare_pairs(
         lines,
         spare,
     );
+    if most < kept.count {
+        return too_long(kept.count);
+    }
     let totals = kept.totals;
     let compared = Compared::Result(comparison_of(totals));
     Lined {
@@ -505,7 +520,7 @@ fn check_inputs(
 // different pairs, the whole verdict, and the first unequal pair in visiting order with its lowest differing bit address; or the refusal. The rows
 // of the pairs with a record on either side are counted, and stand in front of `lines` in visiting order where there is room for all of them. What
 // stands in `lines` behind the rows, or where there is no room for all of them or the answer is a refusal, and in `spare`, is space that was worked
-// in. Where no refusal holds and more than `most` rows are counted, pairs may be left out: that there are more is all that is then said.
+// in. Where the tables are not refused and there are more than `most` rows, the answer is refusal 11, and one row more than `most` is counted.
 pub fn compare_lines(
     spec_nodes: &[i64],
     spec_edges: &[i64],

@@ -1,13 +1,13 @@
 -- The rows of the leaf rows passed are counted among those of all pairs: so where more than n are counted, there are more than n.
 use mathlib.Core.Path.{_≡_, refl, ap}
-use mathlib.Core.Bool.{Bool, true, false, _&&_}
+use mathlib.Core.Bool.{Bool, true, false, cond, _&&_}
 use mathlib.Core.List.{List, [], _∷_, _++_}
 use Prim.Native.Nat.{ℕ, zero, suc, _+_, _*_, _/_, _≤_, _<_}
 use native.Mathlib.Omega.{arith}
 use lib.Dec.{leb, ltb}
 use lib.IntN.{ℤ}
 use lib.ListN.{length, length-append}
-use Rattle.integers.proofs.Tests.{Test, failed, ltb?, leb?, test-of, and-out, T-true}
+use Rattle.integers.proofs.Tests.{Test, passed, failed, ltb?, leb?, test-of, and-out, T-true}
 use Rattle.model.specs.Limits.{pairWidth, maxPairs}
 use Rattle.model.specs.Compare.{Tables}
 use Rattle.sorting.specs.declared.Row.{Row}
@@ -16,8 +16,10 @@ use Rattle.sorting.proofs.Sorting.{sorted-length}
 use Rattle.reporting.specs.Lines.{rowsOfFindings}
 use Rattle.pairs.specs.Inputs.{Inputs}
 use Rattle.totals.specs.declared.Kept.{Kept}
+use Rattle.totals.specs.Kept.{pastKept, keptUpTo}
 use Rattle.totals.specs.Lines.{Collected, Sorts}
 use Rattle.totals.proofs.Adding.{at-most-more}
+use Rattle.survey.specs.Lines.{findingsBetween}
 use Rattle.survey.specs.Found.{allFindings}
 use Rattle.survey.specs.UpTo.{AllKeptUpTo, SurveyUpTo}
 use Rattle.survey.proofs.Passing.{restFindings, AllPassed, all-end}
@@ -82,13 +84,17 @@ module _ {t : Tables} {from to : ℕ} {kept : Kept} {lines : List ℤ} {j : ℕ}
 
 -- ---- the survey
 
--- with its rows sorted, what was kept is what a survey gives: in either order there are as many rows
+-- with its rows sorted, what was kept is what a survey gives, unless more than n rows are counted: in either order there are as many rows
 pub survey-up-to : {t : Tables} {from to n : ℕ} {kept : Kept} {lines lines′ : List ℤ} → Inputs t → AllKeptUpTo t from to n kept lines
-    → Sorts lines (kept .count) lines′ → SurveyUpTo t from to n kept lines′
-survey-up-to {t} {from} {to} k p s =
-    record {
-      within = λ h. survey-kept k from to (p .within h) s;
-      past = λ h. omega (arith, p .past h, ap length (between-in-order k from to), sorted-length (rowsOfFindings (allFindings t from to)));
-      key = p .most .totals .key;
-      few = p .most .count;
-    }
+    → Sorts lines (kept .count) lines′ → SurveyUpTo t from to n (keptUpTo n kept) lines′
+unfolding keptUpTo
+survey-up-to {t} {from} {to} {n} {kept} {lines′} k p s = go (ltb n (kept .count)) (ltb? n (kept .count))
+  where
+    more : n < kept .count → n < length (rowsOfFindings (findingsBetween t from to))
+    more h = omega (arith, p .past h, ap length (between-in-order k from to), sorted-length (rowsOfFindings (allFindings t from to)))
+
+    go : (b : Bool) → Test (n < kept .count) (kept .count ≤ n) b → SurveyUpTo t from to n (cond b (pastKept n) kept) lines′
+    go true (passed h) =
+        record { within = λ l. absurd (omega arith); past = λ l. more h; stopped = λ l. refl; key = omega arith; few = omega (arith, p .most .count) }
+    go false (failed h) =
+        record { within = λ l. survey-kept k from to (p .within h) s; past = λ l. absurd (omega arith); stopped = λ l. absurd (omega arith); key = p .most .totals .key; few = p .most .count }

@@ -1,4 +1,5 @@
 -- What a survey keeps that may stop once more than so many rows are counted. Assumes nothing.
+use mathlib.Core.Path.{_≡_}
 use mathlib.Core.List.{List}
 use Prim.Native.Nat.{ℕ, _*_, _≤_, _<_}
 use lib.IntN.{ℤ}
@@ -8,7 +9,7 @@ use Rattle.model.specs.Compare.{Tables}
 use Rattle.visiting.specs.Visiting.{noKey}
 use Rattle.reporting.specs.Lines.{rowsOfFindings}
 use Rattle.totals.specs.declared.Kept.{Kept}
-use Rattle.totals.specs.Kept.{KeptMost}
+use Rattle.totals.specs.Kept.{KeptMost, pastKept}
 use Rattle.survey.specs.Lines.{findingsBetween}
 use Rattle.survey.specs.Found.{allFindings, AllKept, SurveyPromise}
 
@@ -18,9 +19,10 @@ pub record AllKeptUpTo (t : Tables) (from to n : ℕ) (r : Kept) (lines : List �
   pub past : n < r .count → n < length (rowsOfFindings (allFindings t from to))
   pub most : KeptMost (maxPairs * maxPairs) r
 
--- what a survey gives where at most n rows are counted; where more are counted, the pairs have more than n rows
+-- what a survey gives where the pairs have at most n rows; where they have more, no totals and one row more than n
 pub record SurveyUpTo (t : Tables) (from to n : ℕ) (r : Kept) (lines : List ℤ) : Type 0 where
   pub within : r .count ≤ n → SurveyPromise t from to r lines
   pub past : n < r .count → n < length (rowsOfFindings (findingsBetween t from to))
+  pub stopped : n < r .count → r ≡ pastKept n
   pub key : r .totals .key ≤ noKey
   pub few : r .count ≤ maxPairs * maxPairs

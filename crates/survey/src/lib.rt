@@ -35,6 +35,7 @@ use tables::edge_to;
 use totals::Kept;
 use totals::no_pair;
 use totals::sort_lines;
+use totals::up_to;
 use totals::with_equal;
 use totals::with_found;
 use totals::with_line;
@@ -669,13 +670,13 @@ fn survey_measured(
         lines,
     );
     sort_lines(lines, kept.count, spare);
-    kept
+    up_to(kept, most)
 }
 
 // What is kept of all leaf rows with the root rows `from`, .., `to` - 1: the totals of their verdicts, and the rows of the pairs with a record on
 // either side, in visiting order, in front of `lines` where there is room for all of them. What stands in `lines` behind the rows, or where there is
-// no room for all of them, and in `spare`, is space that was worked in. Once more than `most` rows are counted, pairs may be left out: that there are
-// more is all that is then said.
+// no room for all of them, and in `spare`, is space that was worked in. Where there are more than `most` rows, pairs may be left out:
+// the totals are then those of no pair, and one row more than `most` is counted.
 pub fn survey(
     spec_nodes: &[i64],
     spec_edges: &[i64],

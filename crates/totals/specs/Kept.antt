@@ -67,3 +67,11 @@ equalKept n k =
 -- before the first pair
 abbrev pub freshKept : Kept
 freshKept = record { totals = record { equal = 0; partial = 0; different = 0; key = noKey; address = negsuc 0 }; count = 0 }
+
+-- more than n rows: no totals, and one row more than n
+abbrev pub pastKept : ℕ → Kept
+pastKept n = record { totals = freshKept .totals; count = n + 1 }
+
+-- what is kept where at most n rows are counted
+unfoldable pub keptUpTo : ℕ → Kept → Kept
+keptUpTo n k = cond (ltb n (k .count)) (pastKept n) k

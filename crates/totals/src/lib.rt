@@ -8,7 +8,7 @@ ghost use Rattle.model.specs.Limits.{maxPairs};
 ghost use Rattle.model.specs.Answers.{verdictNumber};
 ghost use Rattle.visiting.specs.Visiting.{withVerdict};
 ghost use Rattle.totals.specs.Lines.{Collected, Sorts, FewFound, foundRow, foundRows};
-ghost use Rattle.totals.specs.Kept.{asTotals, AtMost, placed, withCount, KeptMost, equalKept, freshKept};
+ghost use Rattle.totals.specs.Kept.{asTotals, AtMost, placed, withCount, KeptMost, equalKept, freshKept, keptUpTo};
 use model::Verdict;
 use pairs::Found;
 use reporting::LENGTH_STRIDE;
@@ -52,6 +52,21 @@ pub fn no_pair() -> Kept
         totals: totals,
         count: 0,
     }
+}
+
+// What is kept where at most `most` rows are counted; where more are, no totals, and one row more than that.
+pub fn up_to(kept: Kept, most: usize) -> Kept
+    ensures { λ r. ⌜ r ≡ keptUpTo most kept ⌝ }
+{
+    if most < kept.count {
+        let none = no_pair();
+        let totals = none.totals;
+        return Kept {
+            totals: totals,
+            count: most + 1,
+        };
+    }
+    kept
 }
 
 // The totals with this place and address, where the place is below the one kept.

@@ -78,6 +78,9 @@ sort-lines-requires c κs =
     let s = begin (f .before) in
     (f .found-of-all .ensures .most .count, omega (arith, s .pre .3, f .found-of-all .kept .1 .1 .1 .1 .1 .1 .1 .1 .1 .1 .1 .1 .1 .1 .1 .1 .1 .1 .1 .1 .1 .1 .1 .1 .1 .1 .1 .1 .0))
 
+up-to-requires : tie.Need-up-to-requires
+up-to-requires c κs = search needs
+
 same-length : tie.Need-same-length
 same-length c = search needs
 
@@ -86,9 +89,9 @@ same-length-2 c = search needs
 
 returns : tie.Need-returns
 returns c =
-    let r = c .before .before in
+    let r = c .before .before .before in
     let f = r .before .before .before .before .before .before .before .before .before .before .before .before .before .before .before .before .before in
-    survey-up-to (begin (f .before) .pre .0 .inputs) (f .found-of-all .ensures) (r .sort-lines .ensures)
+    rw (c .up-to .ensures) (survey-up-to (begin (f .before) .pre .0 .inputs) (f .found-of-all .ensures) (r .sort-lines .ensures))
 
 pub survey-measured-spec : {M : Type 1} → statement M
 survey-measured-spec =
@@ -109,6 +112,7 @@ survey-measured-spec =
     slice-aggregate-found-of-all-13
     found-of-all-requires
     sort-lines-requires
+    up-to-requires
     same-length
     same-length-2
     returns)

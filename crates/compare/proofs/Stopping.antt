@@ -1,16 +1,19 @@
 -- A comparison that may stop once more than n rows are counted: what its survey, its paths and its inputs leave of what it promises.
 use mathlib.Core.Path.{_≡_, refl, sym, ap, subst, _∙_}
+use mathlib.Core.Bool.{Bool, true, false}
 use mathlib.Core.List.{List, map}
 use mathlib.Core.Option.{Option, none}
 use Prim.Native.Nat.{ℕ, _*_, _≤_, _<_}
 use native.Mathlib.Omega.{arith}
+use lib.Dec.{ltb}
 use lib.IntN.{ℤ}
 use lib.ListN.{length}
+use Rattle.integers.proofs.Tests.{Test, passed, failed, ltb?}
 use Rattle.model.specs.Rows.{Pair}
-use Rattle.model.specs.Compare.{Tables, leafRows, visits, findingOf, findings}
+use Rattle.model.specs.Compare.{Tables, leafRows, visits, findingOf, findings, resultOf}
 use Rattle.model.specs.Refusals.{Refusal}
-use Rattle.model.specs.Checks.{_then_}
-use Rattle.model.specs.Calls.{refused}
+use Rattle.model.specs.Checks.{_then_, checkTables}
+use Rattle.model.specs.Calls.{refused, full, answer, compareAnswer}
 use Rattle.model.specs.Answers.{refusalOf, checkedAnswer, comparedAnswer}
 use Rattle.model.specs.declared.Reason.{Reason}
 use Rattle.model.specs.declared.Checked.{Checked}
@@ -25,7 +28,8 @@ use Rattle.pairs.specs.Inputs.{Inputs}
 use Rattle.compare.specs.declared.Lined.{Lined}
 use Rattle.compare.specs.Inputs.{checkInputs, pathsAnswer, InputsChecked}
 use Rattle.compare.specs.Keys.{lowestMany}
-use Rattle.compare.specs.UpTo.{PairsUpTo, PathsUpTo, LinedUpTo}
+use Rattle.compare.specs.Promises.{ComparePromise, LinesPromise}
+use Rattle.compare.specs.UpTo.{Past, PairsUpTo, PathsUpTo, LinedUpTo}
 use Rattle.compare.proofs.Checks.{full-none, tables-checked}
 use Rattle.compare.proofs.Results.{rowCount, key-none, key-full, inputs-refused, inputs-taken, refused-lines, full-lines}
 
@@ -98,3 +102,26 @@ module _ {t : Tables} {given : Checked} {specOrder implOrder : List ℕ} (p : In
         stopped = q .stopped;
         few = q .few;
       }
+
+-- ---- the answer is fixed by the tables
+
+module _ {t : Tables} {n : ℕ} {r : Lined} {lines : List ℤ} (p : LinedUpTo t n r lines) where
+  -- where the findings have at most n rows, or the tables are refused, the answer is the one promised, with its lines
+  pub lined-short : (checkTables t ≡ none → length (rowsOfFindings (findings t)) ≤ n) → ComparePromise t (r .compared) × LinesPromise t (r .compared) lines (r .count)
+  lined-short h = go (ltb n (r .count)) (ltb? n (r .count))
+    where
+      go : (b : Bool) → Test (n < r .count) (r .count ≤ n) b → ComparePromise t (r .compared) × LinesPromise t (r .compared) lines (r .count)
+      go true (passed k) = absurd (omega (arith, p .past k, h (p .taken k)))
+      go false (failed k) = (p .compared k, p .lined k)
+
+  -- else it is refusal 11, with one row more than n
+  pub lined-long : checkTables t ≡ none → n < length (rowsOfFindings (findings t)) → Past n r
+  unfolding compareAnswer answer
+  lined-long e h = go (ltb n (r .count)) (ltb? n (r .count))
+    where
+      result : r .count ≤ n → comparedAnswer (r .compared) ≡ full (resultOf (findings t))
+      result k = p .compared k .answer ∙ rw e refl
+
+      go : (b : Bool) → Test (n < r .count) (r .count ≤ n) b → Past n r
+      go true (passed k) = p .stopped k
+      go false (failed k) = absurd (omega (arith, p .lined k .held (resultOf (findings t)) (result k) .counted, h, k))

@@ -20,7 +20,7 @@ use Rattle.totals.specs.Kept.{pastKept, keptUpTo}
 use Rattle.totals.specs.Lines.{Collected, Sorts}
 use Rattle.totals.proofs.Adding.{at-most-more}
 use Rattle.survey.specs.Lines.{findingsBetween}
-use Rattle.survey.specs.Found.{allFindings}
+use Rattle.survey.specs.Found.{allFindings, SurveyPromise}
 use Rattle.survey.specs.UpTo.{AllKeptUpTo, SurveyUpTo}
 use Rattle.survey.proofs.Passing.{restFindings, AllPassed, all-end}
 use Rattle.survey.proofs.Surveys.{between-in-order, survey-kept}
@@ -98,3 +98,22 @@ survey-up-to {t} {from} {to} {n} {kept} {lines′} k p s = go (ltb n (kept .coun
         record { within = λ l. absurd (omega arith); past = λ l. more h; stopped = λ l. refl; key = omega arith; few = omega (arith, p .most .count) }
     go false (failed h) =
         record { within = λ l. survey-kept k from to (p .within h) s; past = λ l. absurd (omega arith); stopped = λ l. absurd (omega arith); key = p .most .totals .key; few = p .most .count }
+
+-- ---- the answer is fixed by the pairs
+
+module _ {t : Tables} {from to n : ℕ} {r : Kept} {lines : List ℤ} (p : SurveyUpTo t from to n r lines) where
+  -- at most n rows are all counted
+  pub survey-short : length (rowsOfFindings (findingsBetween t from to)) ≤ n → SurveyPromise t from to r lines
+  survey-short h = go (ltb n (r .count)) (ltb? n (r .count))
+    where
+      go : (b : Bool) → Test (n < r .count) (r .count ≤ n) b → SurveyPromise t from to r lines
+      go true (passed k) = absurd (omega (arith, p .past k, h))
+      go false (failed k) = p .within k
+
+  -- more than n leave no totals and one row more than n
+  pub survey-long : n < length (rowsOfFindings (findingsBetween t from to)) → r ≡ pastKept n
+  survey-long h = go (ltb n (r .count)) (ltb? n (r .count))
+    where
+      go : (b : Bool) → Test (n < r .count) (r .count ≤ n) b → r ≡ pastKept n
+      go true (passed k) = p .stopped k
+      go false (failed k) = absurd (omega (arith, p .within k .rows .counted, h, k))

@@ -1,11 +1,2 @@
-pub mod Text
-pub mod Numerals
-pub mod Parts
-pub mod Fields
-pub mod ValueLines
-pub mod Names
-pub mod ColumnLists
-pub mod RowLines
-pub mod TableRows
 pub mod ReadTables
 pub mod Cut

@@ -16,16 +16,19 @@ use Rattle.model.specs.Refusals.{Refusal}
 use Rattle.model.specs.Calls.{Answer, refused, full, answer}
 use Rattle.model.specs.Answers.{numbered}
 use Rattle.model.specs.Reader.{fieldsOf, columns, Reading, stopped, rows, stop, readValues, readTable, checkText, tablesOf, readThird, readSecond, readFirst, readMap}
+use Rattle.characters.proofs.Text.{checked}
+use Rattle.cursor.specs.declared.Cursor.{Cursor}
+use Rattle.cursor.specs.Parts.{firstLine, laterLines}
+use Rattle.cursor.specs.Given.{Placed, Stands}
+use Rattle.cursor.proofs.Parts.{lines-first}
+use Rattle.cursor.proofs.Lines.{later-behind}
+use Rattle.columns.specs.declared.Columns.{Columns}
+use Rattle.columns.specs.Given.{maxNames, columnList, ColumnsGiven, GoodColumns}
+use Rattle.columns.proofs.ColumnLists.{columns-listed, columns-good}
+use Rattle.sides.specs.Given.{Roomy}
 use Rattle.mapfile.specs.declared.FileTable.{FileTable}
-use Rattle.mapfile.specs.declared.Cursor.{Cursor}
-use Rattle.mapfile.specs.declared.Columns.{Columns}
 use Rattle.mapfile.specs.declared.FileTable.the-variants as fileTable
-use Rattle.mapfile.specs.Parts.{firstLine, laterLines}
-use Rattle.mapfile.specs.Given.{tableOf, roomOf, Placed, Stands, maxNames, columnList, ColumnsGiven, GoodColumns, Roomy}
-use Rattle.mapfile.proofs.Text.{checked}
-use Rattle.mapfile.proofs.Parts.{lines-first}
-use Rattle.mapfile.proofs.ColumnLists.{columns-listed, columns-good}
-use Rattle.mapfile.proofs.TableRows.{later-behind}
+use Rattle.mapfile.specs.Given.{tableOf, roomOf}
 
 -- ---- the tables of the file
 

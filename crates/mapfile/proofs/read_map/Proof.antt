@@ -1,16 +1,17 @@
 -- The three tables are read one after the other, each from where the one before it ends.
 use mathlib.Core.Path.{_≡_, sym, ap, subst, _∙_}
 use mathlib.Core.Bool.{true, false}
+use native.Mathlib.Omega.{arith}
 use borrow.Author.Needs.{needs}
 use lib.ListN.{drop}
 use Rattle.model.specs.MapFile.{lines, nodeTable, edgeTable, pairTable}
 use Rattle.model.specs.Calls.{full}
 use Rattle.model.specs.Answers.{checkedAnswer}
 use Rattle.model.specs.Reader.{checkText, readTable, tablesOf}
-use Rattle.mapfile.specs.declared.Rows.{Rows}
+use Rattle.characters.proofs.Text.{checked}
+use Rattle.sides.specs.declared.Rows.{Rows}
+use Rattle.sides.specs.Given.{RowsGiven, RowsRead}
 use Rattle.mapfile.specs.Tables.{nodeRoom, edgeRoom, pairRoom}
-use Rattle.mapfile.specs.Given.{RowsGiven, RowsRead}
-use Rattle.mapfile.proofs.Text.{checked}
 use Rattle.mapfile.proofs.ReadTables.{map-checked, map-nodes, map-edges, map-pairs, map-tables}
 use Rattle.mapfile.proofs.read_map.Statement.{statement}
 use Rattle.mapfile.proofs.read_map.Tie as tie
@@ -99,7 +100,10 @@ enum-known-rows-2 : tie.Need-enum-known-rows-2
 enum-known-rows-2 c = search needs
 
 read-table-requires-2 : tie.Need-read-table-requires-2
-read-table-requires-2 c κs = let r = c .before .before .before in let s = Entry (Nodes r) in (nodes-read r .placed, s .pre .specEdges, s .pre .implEdges)
+read-table-requires-2 c κs =
+    let r = c .before .before .before in
+    let s = Entry (Nodes r) in
+    (nodes-read r .placed, omega (arith, s .pre .specEdges, s .pre .implEdges), omega (arith, s .pre .specEdges, s .pre .implEdges))
 
 enum-known-rows-3 : tie.Need-enum-known-rows-3
 enum-known-rows-3 c = search needs
@@ -108,7 +112,10 @@ enum-known-rows-4 : tie.Need-enum-known-rows-4
 enum-known-rows-4 c = search needs
 
 read-table-requires-3 : tie.Need-read-table-requires-3
-read-table-requires-3 c κs = let r = c .before .before .before in let s = Entry (Nodes (Before r)) in (edges-read r .placed, s .pre .rootPairs, s .pre .leafPairs)
+read-table-requires-3 c κs =
+    let r = c .before .before .before in
+    let s = Entry (Nodes (Before r)) in
+    (edges-read r .placed, omega (arith, s .pre .rootPairs, s .pre .leafPairs), omega (arith, s .pre .rootPairs, s .pre .leafPairs))
 
 enum-known-rows-5 : tie.Need-enum-known-rows-5
 enum-known-rows-5 c = search needs
@@ -144,7 +151,7 @@ returns-3 c =
     let e = c .before .before .before .before .before in
     let r = e .before .before .before .before in
     let n = Nodes r in
-    map-edges (Entry n .args .text .now) (taken n) (nodes-read r .read) (subst (EdgesGiven e) (c .before .rows3 .given .1) (e .read-table2 .ensures))
+    map-edges (Entry n .args .text .now) (taken n) (nodes-read r .read) (rw (c .before .rows3 .given .1) at (e .read-table2 .ensures))
 
 same-length-7 : tie.Need-same-length-7
 same-length-7 c = search needs
@@ -171,7 +178,7 @@ returns-4 c =
     let r = Before t in
     let n = Nodes r in
     map-pairs (Entry n .args .text .now) (taken n) (nodes-read r .read) (edges-read t .read)
-    (subst (PairsGiven p) (c .before .rows5 .given .1) (p .read-table3 .ensures))
+    (rw (c .before .rows5 .given .1) at (p .read-table3 .ensures))
 
 same-length-13 : tie.Need-same-length-13
 same-length-13 c = search needs

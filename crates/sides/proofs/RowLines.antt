@@ -1,0 +1,132 @@
+-- The row of a value line: its values in the order of the table's names, and its numbers behind those of a table.
+use mathlib.Core.Path.{_≡_, refl, sym, ap, _∙_}
+use mathlib.Core.Bool.{Bool, true, false, cond}
+use mathlib.Core.Logic.{_≢_}
+use mathlib.Core.List.{List, [], _∷_, map}
+use mathlib.Core.Option.{Option, none, some}
+use Prim.Native.Nat.{ℕ, zero, suc, _+_, _-_, _≤_, _<_}
+use native.Mathlib.Numerals.{add-one}
+use native.Mathlib.Omega.{arith}
+use borrow.Author.Tests.{eq-eqb, le-leb, lt-leb}
+use lib.Dec.{eqb}
+use lib.IntN.{ℤ, pos}
+use lib.ListN.{length, take, drop, set, getD, length-map, length-drop}
+use lib.Seq.{drop-cons, getD-take, getD-drop, length-take-le, take-length, paste, paste-suc}
+use Rattle.integers.specs.Integers.{eqZ}
+use Rattle.integers.proofs.Tests.{is-false, eqZ→eq}
+use Rattle.model.specs.Bytes.{Bytes}
+use Rattle.model.specs.Reader.{fieldsOf, valuesOf, keyed, arranged, rowOf}
+use Rattle.cursor.specs.Parts.{firstLine, exactly, lineValues}
+use Rattle.columns.specs.declared.Columns.{Columns}
+use Rattle.columns.specs.Given.{maxNames, columnList, GoodColumns}
+use Rattle.sides.specs.Given.{numbersAt, rowNumbers, Appended}
+
+-- ---- the values at the columns
+
+getD-map : {A B : Type 0} (f : A → B) (l : List A) (i : ℕ) (d : A) (e : B) → i < length l → getD (map f l) i e ≡ f (getD l i d)
+getD-map f [] i d e h = absurd (omega arith)
+getD-map f (x ∷ l) zero d e h = refl
+getD-map f (x ∷ l) (suc i) d e h = getD-map f l i d e (omega arith)
+
+-- columns below n do not look behind n values
+numbers-take : (n : ℕ) (cs : List ℕ) (row : List ℤ) → ((j : ℕ) → j < length cs → getD cs j 0 < n) → numbersAt cs (take n row) ≡ numbersAt cs row
+numbers-take n [] row h = refl
+numbers-take n (c ∷ cs) row h =
+    let here : getD (take n row) c (pos 0) ≡ getD row c (pos 0) = getD-take n row c (pos 0) (h 0 (omega arith)) in
+    cc (here, numbers-take n cs row (λ j k. h (suc j) (omega arith)))
+
+-- only as many values as there are columns make a row
+arranged-exactly : (cs : List ℕ) (o : Option (List ℤ)) → arranged cs (exactly (length cs) o) ≡ arranged cs o
+unfolding arranged exactly
+arranged-exactly cs none = refl
+arranged-exactly cs (some vs) = go (eqb (length vs) (length cs)) refl
+  where
+    go : (b : Bool) → eqb (length vs) (length cs) ≡ b
+        → arranged cs (cond b (some vs) none) ≡ cond b (keyed (map (λ c. getD vs c (pos 0)) cs)) none
+    go true e = rw e refl
+    go false e = refl
+
+-- ---- the row of a line
+
+keyed-none : (k : ℤ) (r : List ℤ) → k ≢ pos 0 → k ≢ pos 1 → keyed (k ∷ r) ≡ none
+unfolding keyed
+keyed-none k r p q = rw (is-false (eqZ k (pos 0)) (λ t. p (eqZ→eq k (pos 0) t)), is-false (eqZ k (pos 1)) (λ t. q (eqZ→eq k (pos 1) t))) refl
+
+-- side or role of a row
+abbrev pub rowKey : Columns → List ℤ → ℤ
+rowKey cs row = getD row (getD (cs .at) 0 0) (pos 0)
+
+module _ {cs : Columns} (g : GoodColumns cs) (t : Bytes) where
+  row-values : rowOf (columnList cs) (firstLine t) ≡ arranged (columnList cs) (lineValues (cs .count) t)
+  unfolding rowOf
+  row-values = sym (arranged-exactly (columnList cs) (valuesOf (fieldsOf (firstLine t)))) ∙ rw (g .whole) refl
+
+  -- a line that breaks the rules of values
+  pub row-broken : lineValues (cs .count) t ≡ none → rowOf (columnList cs) (firstLine t) ≡ none
+  unfolding arranged
+  row-broken e = row-values ∙ rw e refl
+
+  module _ (row : List ℤ) (room : maxNames ≤ length row) where
+    numbers-key : numbersAt (columnList cs) row ≡ rowKey cs row ∷ rowNumbers cs row
+    numbers-key =
+        let first : columnList cs ≡ getD (columnList cs) 0 0 ∷ drop 1 (columnList cs) = drop-cons (columnList cs) 0 0 (omega (arith, g .whole, g .several)) in
+        ap (λ (l : List ℕ). numbersAt l row) first
+        ∙ rw (getD-take (cs .count) (cs .at) 0 0 (omega (arith, g .several))) refl
+
+    module _ (values : lineValues (cs .count) t ≡ some (take (cs .count) row)) where
+      row-keyed : rowOf (columnList cs) (firstLine t) ≡ keyed (rowKey cs row ∷ rowNumbers cs row)
+      unfolding arranged
+      row-keyed =
+          let many : length (take (cs .count) row) ≡ length (columnList cs) =
+          length-take-le (cs .count) row (omega (arith, g .few)) ∙ sym (g .whole) in
+          let below : (j : ℕ) → j < length (columnList cs) → getD (columnList cs) j 0 < cs .count =
+          λ j h. let k : j < cs .count = omega (arith, g .whole) in rw (getD-take (cs .count) (cs .at) j 0 k) (g .within j k) in
+          row-values ∙ rw (values, eq-eqb (length (take (cs .count) row)) (length (columnList cs)) many)
+          (ap keyed (numbers-take (cs .count) (columnList cs) row below ∙ numbers-key))
+
+      -- side or role 0
+      pub row-first : rowKey cs row ≡ pos 0 → rowOf (columnList cs) (firstLine t) ≡ some (pos 0 ∷ rowNumbers cs row)
+      unfolding keyed
+      row-first e = row-keyed ∙ rw e refl
+
+      -- side or role 1
+      pub row-second : rowKey cs row ≡ pos 1 → rowOf (columnList cs) (firstLine t) ≡ some (pos 1 ∷ rowNumbers cs row)
+      unfolding keyed
+      row-second e = row-keyed ∙ rw e refl
+
+      -- another
+      pub row-keyless : rowKey cs row ≢ pos 0 → rowKey cs row ≢ pos 1 → rowOf (columnList cs) (firstLine t) ≡ none
+      row-keyless p q = row-keyed ∙ keyed-none (rowKey cs row) (rowNumbers cs row) p q
+
+-- ---- the numbers of a row, appended
+
+module _ {cs : Columns} (g : GoodColumns cs) (row : List ℤ) where
+  -- a row has one number fewer than the table has names
+  pub numbers-length : length (rowNumbers cs row) ≡ cs .count - 1
+  numbers-length = length-map (drop 1 (columnList cs)) _ ∙ length-drop 1 (columnList cs) ∙ ap (λ (k : ℕ). k - 1) (g .whole)
+
+  -- each stands at its column
+  pub number-at : (j : ℕ) → j < cs .count - 1 → getD (rowNumbers cs row) j (pos 0) ≡ getD row (getD (cs .at) (j + 1) 0) (pos 0)
+  number-at j h =
+      let here : getD (drop 1 (columnList cs)) j 0 ≡ getD (cs .at) (j + 1) 0 =
+      getD-drop 1 (columnList cs) j 0 ∙ getD-take (cs .count) (cs .at) (1 + j) 0 (omega arith) ∙ ap (λ (k : ℕ). getD (cs .at) k 0) (omega arith) in
+      getD-map (λ c. getD row c (pos 0)) (drop 1 (columnList cs)) j 0 (pos 0) (omega (arith, length-drop 1 (columnList cs), g .whole))
+      ∙ ap (λ (c : ℕ). getD row c (pos 0)) here
+
+module _ (room n : ℕ) (numbers table : List ℤ) where
+  -- the room does not last for them
+  pub append-none : room < n + length numbers → Appended room numbers table table n n
+  append-none h = record { count = rw (lt-leb (n + length numbers) room h) refl; stands = rw (lt-leb (n + length numbers) room h) refl }
+
+  -- all are stored
+  pub append-all : n + length numbers ≤ room → Appended room numbers table (paste table n numbers (length numbers)) n (n + length numbers)
+  append-all h =
+      record {
+        count = rw (le-leb (n + length numbers) room h) refl;
+        stands = rw (le-leb (n + length numbers) room h, take-length numbers) refl;
+      }
+
+-- one number more is stored
+pub append-next : (table numbers : List ℤ) (n j : ℕ) {v : ℤ} → n + j < length table → j < length numbers → getD numbers j (pos 0) ≡ v
+    → set (paste table n numbers j) (n + j) v ≡ paste table n numbers (j + 1)
+append-next table numbers n j h k e = rw (← e, add-one j) (paste-suc table n numbers j (pos 0) h k)

@@ -1,0 +1,68 @@
+-- What the functions of value lines give: rows of side or role 0 and 1, in two slices. Assumes nothing.
+use mathlib.Core.Path.{_≡_}
+use mathlib.Core.Bool.{cond}
+use mathlib.Core.List.{List, _∷_, _++_, map}
+use mathlib.Core.Option.{none, some}
+use Prim.Native.Nat.{ℕ, suc, _+_, _-_, _*_}
+use lib.Dec.{leb}
+use lib.IntN.{ℤ, pos}
+use lib.ListN.{length, take, drop, getD}
+use Rattle.model.specs.Bytes.{Bytes}
+use Rattle.model.specs.MapFile.{lines}
+use Rattle.model.specs.Answers.{refusalOf}
+use Rattle.model.specs.Reader.{rowOf, Reading, stopped, rows, rowsWith}
+use Rattle.cursor.specs.declared.Cursor.{Cursor}
+use Rattle.cursor.specs.Parts.{firstLine, laterLines}
+use Rattle.cursor.specs.Given.{Placed, Stands}
+use Rattle.columns.specs.declared.Columns.{Columns}
+use Rattle.columns.specs.Given.{columnList}
+use Rattle.sides.specs.declared.Row.{Row}
+use Rattle.sides.specs.declared.Rows.{Rows}
+use Rattle.sides.specs.declared.Row.the-variants as rowRead
+use Rattle.sides.specs.declared.Rows.the-variants as rowsRead
+
+-- the room of a table is that of whole rows, without their side or role
+abbrev pub Roomy : Columns → ℕ → Type 0
+Roomy cs room = (most : ℕ) × (room ≡ (cs .count - 1) * most)
+
+-- the numbers of a row at these columns
+abbrev pub numbersAt : List ℕ → List ℤ → List ℤ
+numbersAt cs row = map (λ c. getD row c (pos 0)) cs
+
+-- the numbers of a row behind its side or role
+abbrev pub rowNumbers : Columns → List ℤ → List ℤ
+rowNumbers cs row = numbersAt (drop 1 (columnList cs)) row
+
+-- a row of side or role 0 or 1, with the cursor before the next line
+abbrev pub RowGiven : Bytes → Cursor → Columns → List ℤ → Row → Type 0
+RowGiven text c cs row (rowRead.First d) =
+    (rowOf (columnList cs) (firstLine (drop (c .at) text)) ≡ some (pos 0 ∷ rowNumbers cs row))
+    × Stands text (laterLines (drop (c .at) text)) (suc (c .line)) d
+RowGiven text c cs row (rowRead.Second d) =
+    (rowOf (columnList cs) (firstLine (drop (c .at) text)) ≡ some (pos 1 ∷ rowNumbers cs row))
+    × Stands text (laterLines (drop (c .at) text)) (suc (c .line)) d
+RowGiven text c cs row rowRead.Bad = rowOf (columnList cs) (firstLine (drop (c .at) text)) ≡ none
+
+-- numbers appended behind n numbers of a table, where the room lasts for them
+pub record Appended (room : ℕ) (numbers before after : List ℤ) (n m : ℕ) : Type 0 where
+  pub count : m ≡ cond (leb (n + length numbers) room) (n + length numbers) n
+  pub stands : after ≡ cond (leb (n + length numbers) room) (take n before ++ numbers ++ drop (n + length numbers) before) before
+
+-- the numbers stand at the front of the lent slice, which keeps what lies behind them, and n is how many they are
+pub record Stored (numbers before after : List ℤ) (n : ℕ) : Type 0 where
+  pub count : n ≡ length numbers
+  pub stands : after ≡ numbers ++ drop n before
+
+-- the rows of a table are read: those of side or role 0 and of 1 stand in the two slices, and the cursor stands behind the table
+pub record RowsRead (reading : Reading) (text : Bytes) (room : ℕ) (before₀ after₀ before₁ after₁ : List ℤ) (c : Cursor) (n m : ℕ) : Type 0 where
+  pub done : List (List ℤ)
+  pub read : reading ≡ rows done (lines (drop (c .at) text)) (c .line)
+  pub placed : Placed text c
+  pub first : Stored (take room (rowsWith (pos 0) done)) before₀ after₀ n
+  pub second : Stored (take room (rowsWith (pos 1) done)) before₁ after₁ m
+
+-- what reading the rows of a table gives
+abbrev pub RowsGiven : Reading → Bytes → ℕ → List ℤ → List ℤ → List ℤ → List ℤ → Rows → Type 0
+RowsGiven reading text room before₀ after₀ before₁ after₁ (rowsRead.Ended c k) =
+    RowsRead reading text room before₀ after₀ before₁ after₁ c (k .first) (k .second)
+RowsGiven reading text room before₀ after₀ before₁ after₁ (rowsRead.Refused r) = reading ≡ stopped (refusalOf r)

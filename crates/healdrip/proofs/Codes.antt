@@ -9,9 +9,8 @@ use mir.Facts.{toZ-ofZ, toZ-pos}
 use Rattle.integers.proofs.Linear.{ints, diff, neg}
 use Rattle.integers.proofs.Range.{fits64}
 use Rattle.model.specs.Bytes.{Bytes}
-use Rattle.model.specs.Refusals.{Refusal}
-use Rattle.model.specs.Calls.{refused, full}
-use Rattle.model.specs.TextCheck.{coded, textGives, codeGives}
+use Rattle.model.specs.Calls.{full}
+use Rattle.model.specs.TextCheck.{coded, textGives}
 
 module _ {n : ℕ} (low : n < 2 ^ 63) where
   -- its negation fits
@@ -33,11 +32,6 @@ pub negated-code : {n : ℕ} (z : ℤ) → n < 2 ^ 63 → pos n ≡ negℤ z →
 negated-code z low e = negated low ∙ ap negℤ e ∙ negℤ-negℤ z
 
 -- a length is its own code
-pub coded-length : (text buffer : Bytes) {n : ℕ} → n < 2 ^ 63 → full n ≡ textGives text buffer → toZ w64 n ≡ codeGives text buffer
-unfolding codeGives coded
+pub coded-length : (text buffer : Bytes) {n : ℕ} → n < 2 ^ 63 → full n ≡ textGives text buffer → toZ w64 n ≡ coded (textGives text buffer)
+unfolding coded
 coded-length text buffer low e = toZ-pos w64 low ∙ ap coded e
-
--- a refusal has its code
-pub coded-refusal : (text buffer : Bytes) {r : Refusal} → refused r ≡ textGives text buffer → coded (refused r) ≡ codeGives text buffer
-unfolding codeGives
-coded-refusal text buffer e = ap coded e

@@ -3,7 +3,8 @@ ghost use mathlib.Core.Path.{_≡_};
 ghost use Prim.Native.Nat.{_<_, _^_};
 ghost use lib.IntN.{pos, negℤ};
 ghost use Rattle.model.specs.Calls.{refused};
-ghost use Rattle.model.specs.TextCheck.{coded, codeGives, textAfter};
+ghost use Rattle.model.specs.TextCheck.{coded};
+ghost use Rattle.textcheck.specs.Promises.{TextPromise};
 ghost use Rattle.refusals.specs.Small.{refusalNumbers, Small};
 use model::Written;
 use refusals::Refusal;
@@ -34,8 +35,7 @@ fn negative_code(refusal: Refusal) -> i64
 // buffer is untouched.
 #[no_mangle]
 pub extern "C" fn healdrip_text_check(text: &[u8], report: &mut [u8]) -> i64
-    ensures returned { λ r. ⌜ r ≡ codeGives (now (text .entry)) (now (report .entry)) ⌝ }
-    ensures buffer { λ _. ⌜ now (report .exit) ≡ textAfter (now (text .entry)) (now (report .entry)) ⌝ }
+    ensures { λ r. ⌜ TextPromise coded (now (text .entry)) (now (report .entry)) (now (report .exit)) r ⌝ }
 {
     let written = textcheck::text_check(text, report);
     match written {

@@ -47,20 +47,20 @@ textGives text buffer = lengthOf (reportOf (textAnswer (length buffer) text))
 unfoldable pub textAfter : Bytes → Bytes → Bytes
 textAfter text buffer = bufferAfter (reportOf (textAnswer (length buffer) text)) buffer
 
+-- the conditions that the tables of a text and their report may meet, with room for so many bytes of report
+unfoldable pub reportConditions : ℕ → Tables → List Condition
+reportConditions room t = compareConditions t next outputConditions (length (report (findings t))) room
+
 -- the conditions of the text check, in order: text, tables, output. t are the tables of the text (FileRules.TablesOf)
 unfoldable pub textConditions : ℕ → Bytes → Tables → List Condition
-textConditions room text t = fileConditions text next compareConditions t next outputConditions (length (report (findings t))) room
+textConditions room text t = fileConditions text next reportConditions room t
 
 -- ---- the answer through C linkage: the report's length, or −(number × 100,000,000 + table × 10,000,000 + row)
 
--- an answer as one number
+-- an answer as one number; what the call through C linkage returns is coded (textGives text buffer), its report buffer afterwards textAfter
 unfoldable pub coded : Answer ℕ → ℤ
 coded (full n) = pos n
 coded (refused r) = negℤ (pos (r .number * 100000000 + r .table * 10000000 + r .row))
-
--- what the call through C linkage returns; its report buffer afterwards is textAfter
-unfoldable pub codeGives : Bytes → Bytes → ℤ
-codeGives text buffer = coded (textGives text buffer)
 
 -- ---- tally: counts of equal, partial, different and refused
 

@@ -5,7 +5,11 @@ use Prim.Native.Nat.{ℕ}
 use lib.ListN.{length}
 use Rattle.model.specs.Bytes.{Bytes}
 use Rattle.model.specs.Calls.{Answer, refused, full}
-use Rattle.model.specs.TextCheck.{Reported, textAnswer, countOf, oneMore, tallyAfter}
+use Rattle.model.specs.Compare.{Tables, findings, resultOf}
+use Rattle.model.specs.FileRules.{KeepsRules}
+use Rattle.model.specs.Refusals.{NoneHolds}
+use Rattle.model.specs.TextCheck.{Reported, reportedOf, textAnswer, reportConditions, countOf, oneMore, tallyAfter}
+use Rattle.filerules.proofs.TextCheck.{text-demand}
 use Rattle.tablecheck.specs.declared.Outcome.{Outcome}
 use Rattle.tablecheck.specs.declared.Outcome.the-variants as outcome
 use Rattle.tablecheck.specs.Outcomes.{Measured, measuredOf, outcomeAnswer, Gives}
@@ -32,3 +36,11 @@ pub tally-counted : (text : Bytes) {report after : Bytes} {o : Outcome} → Give
 unfolding tallyAfter
 tally-counted text {report} {o} g counts =
     ap (λ (i : ℕ). oneMore i counts) (count-outcome o ∙ ap measuredCount (g .answers) ∙ count-measured (textAnswer (length report) text))
+
+-- of a text that keeps the file rules, and whose tables and report meet no condition, the count of the whole verdict moves: that of the result of
+-- which the text check promises demand 3
+pub tally-verdict : (text report : Bytes) (t : Tables) → KeepsRules text t → NoneHolds (reportConditions (length report) t) → (counts : List ℕ)
+    → tallyAfter text report counts ≡ oneMore (resultOf (findings t) .verdict) counts
+unfolding tallyAfter countOf reportedOf
+tally-verdict text report t keeps unmet counts =
+    ap (λ (a : Answer Reported). oneMore (countOf a) counts) (text-demand (length report) text t keeps unmet .0)

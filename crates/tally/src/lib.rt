@@ -2,7 +2,8 @@
 ghost use mathlib.Core.Path.{_≡_};
 ghost use Prim.Native.Nat.{_<_};
 ghost use Rattle.model.specs.Answers.{writtenAnswer};
-ghost use Rattle.model.specs.TextCheck.{textGives, textAfter, oneMore, tallyAfter, freshTally};
+ghost use Rattle.model.specs.TextCheck.{oneMore, tallyAfter, freshTally};
+ghost use Rattle.textcheck.specs.Promises.{asItIs, TextPromise};
 ghost use Rattle.tally.specs.Counts.{outcomeCount, countKinds};
 use model::Verdict;
 use model::Written;
@@ -67,8 +68,7 @@ fn one_more(tally: Tally, place: usize) -> Tally
 
 // Checks a map file and writes the report, as the text check does, and hands back the tally with one more.
 pub fn tally_check(text: &[u8], report: &mut [u8], tally: Tally) -> Tallied
-    ensures returned { λ r. ⌜ writtenAnswer (r .written) ≡ textGives (now (text .entry)) (now (report .entry)) ⌝ }
-    ensures buffer { λ _. ⌜ now (report .exit) ≡ textAfter (now (text .entry)) (now (report .entry)) ⌝ }
+    ensures checked { λ r. ⌜ TextPromise asItIs (now (text .entry)) (now (report .entry)) (now (report .exit)) (writtenAnswer (r .written)) ⌝ }
     ensures counted { λ r. ⌜ r .tally .counts ≡ tallyAfter (now (text .entry)) (now (report .entry)) (tally .counts) ⌝ }
 {
     let outcome = textcheck::check_map(text, report);

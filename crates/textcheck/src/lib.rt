@@ -3,11 +3,12 @@ ghost use mathlib.Core.Path.{_≡_};
 ghost use lib.ListN.{length};
 ghost use Rattle.model.specs.Answers.{writtenAnswer};
 ghost use Rattle.model.specs.Calls.{full};
-ghost use Rattle.model.specs.TextCheck.{checkRead, textAnswer, textGives, textAfter};
+ghost use Rattle.model.specs.TextCheck.{checkRead, textAnswer};
 ghost use Rattle.mapfile.specs.Given.{lent, front};
 ghost use Rattle.tablecheck.specs.Outcomes.{outcomeAnswer, Gives};
 ghost use Rattle.textcheck.specs.Fronts.{Within};
 ghost use Rattle.textcheck.specs.Lengths.{lengthAlone};
+ghost use Rattle.textcheck.specs.Promises.{asItIs, TextPromise};
 use mapfile::EDGE_ROOM;
 use mapfile::NODE_ROOM;
 use mapfile::PAIR_ROOM;
@@ -97,8 +98,7 @@ pub fn written_of(outcome: Outcome) -> Written
 
 // Checks a map file and writes the report: its length, or the refusal, on which the buffer is untouched.
 pub fn text_check(text: &[u8], report: &mut [u8]) -> Written
-    ensures returned { λ r. ⌜ writtenAnswer r ≡ textGives (now (text .entry)) (now (report .entry)) ⌝ }
-    ensures buffer { λ _. ⌜ now (report .exit) ≡ textAfter (now (text .entry)) (now (report .entry)) ⌝ }
+    ensures { λ r. ⌜ TextPromise asItIs (now (text .entry)) (now (report .entry)) (now (report .exit)) (writtenAnswer r) ⌝ }
 {
     let outcome = check_map(text, report);
     written_of(outcome)

@@ -10,8 +10,9 @@ use Rattle.model.specs.Refusals.{Refusal}
 use Rattle.model.specs.Calls.{refused, full}
 use Rattle.model.specs.Answers.{refusalOf, writtenAnswer}
 use Rattle.model.specs.TextCheck.{coded, textGives}
+use Rattle.textcheck.proofs.Promises.{text-promise}
 use Rattle.refusals.proofs.Texts.{gives-small, gives-held}
-use Rattle.healdrip.proofs.Codes.{coded-length, coded-refusal}
+use Rattle.healdrip.proofs.Codes.{coded-length}
 use Rattle.healdrip.proofs.healdrip_text_check.Statement.{statement}
 use Rattle.healdrip.proofs.healdrip_text_check.Tie as tie
 
@@ -24,7 +25,7 @@ module _ (c : tie.After-known-told) where
   checked = c .before .before .before .before .before
 
   counted : full (c .before .written .given .0 .0) ≡ textGives (start checked .args .text .now) (start checked .args .report .now)
-  counted = ap writtenAnswer (sym (c .before .written .given .1)) ∙ checked .text-check .ensures .0
+  counted = ap writtenAnswer (sym (c .before .written .given .1)) ∙ checked .text-check .ensures .answer
 
   low : c .before .written .given .0 .0 < 2 ^ 63
   low =
@@ -37,7 +38,7 @@ module _ (c : tie.After-refusal-numbers) where
   refused-of = c .before .before .before .before .before .before
 
   told : refused (refusalOf (c .before .before .written2 .given .0 .0)) ≡ textGives (start refused-of .args .text .now) (start refused-of .args .report .now)
-  told = ap writtenAnswer (sym (c .before .before .written2 .given .1)) ∙ refused-of .text-check .ensures .0
+  told = ap writtenAnswer (sym (c .before .before .written2 .given .1)) ∙ refused-of .text-check .ensures .answer
 
 text-check-requires : tie.Need-text-check-requires
 text-check-requires c κs = search needs
@@ -61,18 +62,21 @@ same-length : tie.Need-same-length
 same-length c = search needs
 
 returns : tie.Need-returns
-returns c = let s = start (checked c) in (coded-length (s .args .text .now) (s .args .report .now) (low c) (counted c), checked c .text-check .ensures .1)
+returns c = let s = start (checked c) in
+    let text = s .args .text .now in
+    text-promise coded text (s .args .report .now) (coded-length text (s .args .report .now) (low c) (counted c)) (checked c .text-check .ensures .buffer)
 
 same-length-2 : tie.Need-same-length-2
 same-length-2 c = search needs
 
 returns-2 : tie.Need-returns-2
 returns-2 c = let r = c .before in
-    let s = start (refused-of r) in (
-      toZ-ofZ {w = w64} (record { sfits = c .negative-code .ok }) ∙ c .negative-code .ensures ∙ ap (λ (x : Refusal). coded (refused x)) (r .refusal-numbers .ensures)
-          ∙ coded-refusal (s .args .text .now) (s .args .report .now) (told r),
-      refused-of r .text-check .ensures .1,
-    )
+    let s = start (refused-of r) in
+    let text = s .args .text .now in
+    text-promise coded text (s .args .report .now)
+    (toZ-ofZ {w = w64} (record { sfits = c .negative-code .ok }) ∙ c .negative-code .ensures ∙ ap (λ (x : Refusal). coded (refused x)) (r .refusal-numbers .ensures)
+    ∙ ap coded (told r))
+    (refused-of r .text-check .ensures .buffer)
 
 pub healdrip-text-check-spec : {M : Type 1} → statement M
 healdrip-text-check-spec =

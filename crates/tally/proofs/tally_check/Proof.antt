@@ -3,7 +3,9 @@ use mathlib.Core.Path.{_∙_, ap}
 use Prim.Native.Nat.{ℕ}
 use borrow.Author.Needs.{needs}
 use Rattle.model.specs.TextCheck.{oneMore}
+use Rattle.textcheck.specs.Promises.{asItIs}
 use Rattle.textcheck.proofs.Answers.{given-length, given-buffer}
+use Rattle.textcheck.proofs.Promises.{text-promise}
 use Rattle.tally.proofs.Counts.{tally-counted}
 use Rattle.tally.proofs.tally_check.Statement.{statement}
 use Rattle.tally.proofs.tally_check.Tie as tie
@@ -29,12 +31,10 @@ returns c = let m = c .before in
     let k = n .before .before .before in
     let s = k .before .before .before .before in
     let text = s .args .text .now in (
-      c .written-of .ensures ∙ given-length text (k .check-map .ensures),
-      (
-        given-buffer text (k .check-map .ensures),
-        m .one-more .ensures ∙ ap (λ (i : ℕ). oneMore i (s .args .tally .counts)) (n .count-of .ensures .0)
-            ∙ tally-counted text (k .check-map .ensures) (s .args .tally .counts),
-      ),
+      text-promise asItIs text (s .args .report .now) (c .written-of .ensures ∙ given-length text (k .check-map .ensures))
+          (given-buffer text (k .check-map .ensures)),
+      m .one-more .ensures ∙ ap (λ (i : ℕ). oneMore i (s .args .tally .counts)) (n .count-of .ensures .0)
+          ∙ tally-counted text (k .check-map .ensures) (s .args .tally .counts),
     )
 
 pub tally-check-spec : {M : Type 1} → statement M

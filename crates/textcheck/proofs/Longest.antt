@@ -1,0 +1,228 @@
+-- How long a report can be: 131 bytes and 20 for each pair. Numbers are counted by their digits: rows have at most three, lists at most four, counts
+-- seven and an address seventeen.
+use mathlib.Core.Path.{_≡_, refl, sym, ap, subst, _∙_}
+use mathlib.Core.Bool.{Bool, true, false, cond, _&&_}
+use mathlib.Core.Logic.{_≢_}
+use mathlib.Core.Option.{none}
+use mathlib.Core.List.{List, [], _∷_, _++_, map, flatMap, List·Memᴰ·head, List·Memᴰ·tail}
+use Prim.Native.Nat.{ℕ, suc, _+_, _*_, _≤_, _<_, _^_, max}
+use native.Mathlib.Nat.{le-trans, lt-irrefl, lt-of-lt-of-le}
+use native.Mathlib.Omega.{arith}
+use lib.Dec.{eqb}
+use lib.IntN.{ℤ, pos, negsuc}
+use lib.ListN.{length, length-append, length-map}
+use Rattle.integers.proofs.Tests.{Test, passed, failed, eq?}
+use Rattle.integers.proofs.Linear.{le-in}
+use Rattle.lists.specs.Lists.{_∈_, isNil}
+use Rattle.model.specs.Bytes.{Bytes, bytes, lineFeed, blank, dash, digits, shown, spaced}
+use Rattle.model.specs.Rows.{Pair}
+use Rattle.model.specs.Limits.{maxPairs}
+use Rattle.model.specs.Compare.{Tables, Visit, visits, Finding, findingOf, verdictOf, largest, Place, nowhere, Result, rootRows, leafRows, findings, resultOf}
+use Rattle.model.specs.Checks.{checkTables}
+use Rattle.model.specs.Refusals.{NoneHolds, compareConditions, outputConditions}
+use Rattle.model.specs.Report.{lineOf, findingLine, resultLine, report}
+use Rattle.model.specs.TextCheck.{reportConditions}
+use Rattle.model.specs.Demands.{Address, Demand3, FirstDifference}
+use Rattle.model.proofs.Settled.{none-next, settled-none}
+use Rattle.model.proofs.Pairing.{compare-settled}
+use Rattle.model.proofs.Verdicts.{verdict-range}
+use Rattle.model.proofs.Visits.{visits-in, visits-length}
+use Rattle.lists.proofs.Membership.{map-in, map-out}
+use Rattle.model.proofs.Demand.{compare-full, demand3}
+use Rattle.report.proofs.Digits.{digits-one, digits-within}
+use Rattle.reporting.specs.Lines.{SmallFinding, SmallResult}
+use Rattle.tablecheck.proofs.Taken.{findings-small, taken-result-small}
+
+-- ---- lines
+
+-- a number below 10^m has at most m digits, where m is not 0
+shown-within : (n m : ℕ) → n < 10 ^ suc m → length (shown (pos n)) ≤ suc m
+unfolding shown
+shown-within n m h = digits-within 20 n m h
+
+-- -1 has two bytes
+shown-below : length (shown (negsuc 0)) ≡ 2
+unfolding shown
+shown-below = ap (λ (b : Bytes). suc (length b)) (digits-one 20 1 (λ e. omega arith) (omega arith))
+
+-- the bytes of a line: those of each number and one behind it
+abbrev lineSize : List ℤ → ℕ
+lineSize [] = 0
+lineSize (v ∷ vs) = length (shown v) + 1 + lineSize vs
+
+line-size : (v : ℤ) (vs : List ℤ) → length (lineOf (v ∷ vs)) ≡ lineSize (v ∷ vs)
+unfolding lineOf spaced
+line-size v [] = omega (arith, length-append (shown v) (lineFeed ∷ []))
+line-size v (w ∷ vs) =
+    let later = spaced (map shown (w ∷ vs)) in
+    omega (
+      arith,
+      line-size w vs,
+      length-append (shown v) (blank ∷ later),
+      length-append (shown v ++ (blank ∷ later)) (lineFeed ∷ []),
+      length-append later (lineFeed ∷ []),
+    )
+
+-- ---- pairs
+
+verdict-low : (f : Finding) → verdictOf f ≤ 2
+unfolding verdictOf
+verdict-low f = verdict-range (f .spec) (f .impl)
+
+module _ (f : Finding) (small : SmallFinding f) where
+  -- what stands behind the root row
+  behind : List ℤ
+  behind = pos (f .visit .leaf .row) ∷ pos (verdictOf f) ∷ pos (length (f .spec)) ∷ pos (length (f .impl)) ∷ []
+
+  numbers-longest : lineSize (pos (f .visit .root .row) ∷ behind) ≤ 20
+  unfolding behind
+  numbers-longest =
+      omega (
+        arith,
+        shown-within (f .visit .root .row) 2 (omega (arith, small .root)),
+        shown-within (f .visit .leaf .row) 2 (omega (arith, small .leaf)),
+        shown-within (verdictOf f) 0 (omega (arith, verdict-low f)),
+        shown-within (length (f .spec)) 3 (omega (arith, small .spec)),
+        shown-within (length (f .impl)) 3 (omega (arith, small .impl)),
+      )
+
+  -- the line of a pair has at most 20 bytes
+  finding-longest : length (findingLine f) ≤ 20
+  unfolding findingLine behind
+  finding-longest = go (isNil (f .spec) && isNil (f .impl))
+    where
+      go : (b : Bool) → length (cond b [] (lineOf (pos (f .visit .root .row) ∷ behind))) ≤ 20
+      go true = omega arith
+      go false = omega (arith, line-size (pos (f .visit .root .row)) behind, numbers-longest)
+
+-- and the lines of all pairs so many each
+lines-longest : (fs : List Finding) → ((f : Finding) → f ∈ fs → SmallFinding f) → length (flatMap findingLine fs) ≤ 20 * length fs
+unfolding flatMap
+lines-longest [] h = omega arith
+lines-longest (f ∷ fs) h =
+    omega (
+      arith,
+      finding-longest f (h f (List·Memᴰ·head refl)),
+      lines-longest fs (λ g m. h g (List·Memᴰ·tail m)),
+      length-append (findingLine f) (flatMap findingLine fs),
+    )
+
+-- ---- the result
+
+-- no verdict is above 2, nor is the largest
+largest-low : (vs : List ℕ) → ((v : ℕ) → v ∈ vs → v ≤ 2) → largest vs ≤ 2
+unfolding largest
+largest-low [] h = omega arith
+largest-low (v ∷ vs) h = omega (arith, h v (List·Memᴰ·head refl), largest-low vs (λ w m. h w (List·Memᴰ·tail m)))
+
+-- a bit address up to 2^55 − 1 has at most 17 digits
+address-longest : (x : ℤ) → Address x → length (shown x) ≤ 17
+address-longest (pos n) a = shown-within n 16 (omega (arith, le-in (a .high)))
+address-longest (negsuc n) a = absurd (a .low .le)
+
+-- the place of a result, where it is shown
+pub record ShortPlace (p : Place) : Type 0 where
+  pub root : length (shown (p .root)) ≤ 3
+  pub leaf : length (shown (p .leaf)) ≤ 3
+  pub address : length (shown (p .address)) ≤ 17
+
+nowhere-short : ShortPlace nowhere
+nowhere-short = record { root = omega (arith, shown-below); leaf = omega (arith, shown-below); address = omega (arith, shown-below) }
+
+module _ (t : Tables) (taken : checkTables t ≡ none) where
+  -- rows of pairs have at most three digits
+  rows-low : {r l : Pair} → r ∈ rootRows t → l ∈ leafRows t → (r .row < maxPairs) × (l .row < maxPairs)
+  unfolding findings findingOf
+  rows-low {r} {l} p q =
+      let v : Visit = record { root = r; leaf = l } in
+      let small = findings-small t taken (findingOf t v) (map-in (findingOf t) (visits-in (rootRows t) (leafRows t) .1 (p, q))) in
+      (small .root, small .leaf)
+
+  difference-short : {res : Result} → FirstDifference t res → ShortPlace (res .place)
+  difference-short d =
+      let low = rows-low (d .paired .0) (d .paired .1) in
+      record {
+        root = rw (d .reportedRoot) (shown-within (d .root .row) 2 (omega (arith, low .0)));
+        leaf = rw (d .reportedLeaf) (shown-within (d .leaf .row) 2 (omega (arith, low .1)));
+        address = address-longest _ (d .address);
+      }
+
+  place-short : {res : Result} → Demand3 t res → ShortPlace (res .place)
+  place-short {res} d = go (eqb (res .verdict) 0) (eq? (res .verdict) 0)
+    where
+      go : (b : Bool) → Test (res .verdict ≡ 0) (res .verdict ≢ 0) b → ShortPlace (res .place)
+      go true (passed e) = rw (d .none e) nowhere-short
+      go false (failed n) = difference-short (d .unequal n)
+
+-- the line of the result has at most 52 bytes
+result-longest : (res : Result) → res .verdict ≤ 2 → SmallResult res → ShortPlace (res .place) → length (resultLine res) ≤ 52
+unfolding resultLine
+result-longest res low small place =
+    let counts = pos (res .equal) ∷ pos (res .partial) ∷ pos (res .different) ∷ res .place .root ∷ res .place .leaf ∷ res .place .address ∷ [] in
+    omega (
+      arith,
+      line-size (pos (res .verdict)) counts,
+      shown-within (res .verdict) 0 (omega (arith, low)),
+      shown-within (res .equal) 6 (omega (arith, small .equal)),
+      shown-within (res .partial) 6 (omega (arith, small .partial)),
+      shown-within (res .different) 6 (omega (arith, small .different)),
+      place .root,
+      place .leaf,
+      place .address,
+    )
+
+-- ---- the report
+
+names-size : length (bytes "root leaf verdict spec impl\n") ≡ 28
+unfolding bytes
+names-size = refl
+
+middle-size : length (bytes "\nverdict equal partial different root leaf address\n") ≡ 51
+unfolding bytes
+middle-size = refl
+
+report-size : (fs : List Finding) → length (report fs) ≡ 79 + length (flatMap findingLine fs) + length (resultLine (resultOf fs))
+unfolding report
+report-size fs =
+    let names = bytes "root leaf verdict spec impl\n" in
+    let lines = flatMap findingLine fs in
+    let middle = bytes "\nverdict equal partial different root leaf address\n" in
+    omega (
+      arith,
+      names-size,
+      middle-size,
+      length-append names lines,
+      length-append (names ++ lines) middle,
+      length-append (names ++ lines ++ middle) (resultLine (resultOf fs)),
+    )
+
+whole-low : (fs : List Finding) → resultOf fs .verdict ≤ 2
+unfolding resultOf
+whole-low fs = largest-low (map verdictOf fs) (λ v m. let w = map-out verdictOf fs m in rw (w .2) (verdict-low (w .0)))
+
+findings-count : (t : Tables) → length (findings t) ≡ length (rootRows t) * length (leafRows t)
+unfolding findings
+findings-count t = length-map (visits (rootRows t) (leafRows t)) (findingOf t) ∙ visits-length (rootRows t) (leafRows t)
+
+-- the report of tables that meet no condition has at most 131 bytes and 20 for each pair
+pub report-longest : (t : Tables) → NoneHolds (compareConditions t)
+    → length (report (findings t)) ≤ 131 + 20 * (length (rootRows t) * length (leafRows t))
+report-longest t h =
+    let taken = settled-none (checkTables t) (compareConditions t) (compare-settled t) .1 h in
+    let res = resultOf (findings t) in
+    let place = place-short t taken (demand3 t h res (compare-full t h)) in
+    subst (λ (n : ℕ). length (report (findings t)) ≤ 131 + 20 * n) (findings-count t)
+    (omega (
+      arith,
+      report-size (findings t),
+      lines-longest (findings t) (findings-small t taken),
+      result-longest res (whole-low (findings t)) (taken-result-small t taken refl) place,
+    ))
+
+-- so with a buffer of that length no condition is met: refusal 11 is not given
+pub longest-held : (t : Tables) (room : ℕ) → NoneHolds (compareConditions t) → 131 + 20 * (length (rootRows t) * length (leafRows t)) ≤ room
+    → NoneHolds (reportConditions room t)
+unfolding reportConditions outputConditions
+longest-held t room h fits =
+    none-next (compareConditions t) (outputConditions (length (report (findings t))) room) .1
+    (h, ((λ past. lt-irrefl room (lt-of-lt-of-le past (le-trans (report-longest t h) fits))), tt))

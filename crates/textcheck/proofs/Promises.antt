@@ -1,0 +1,84 @@
+-- What a call that checks a text promises follows from its answer and its buffer.
+use mathlib.Core.Path.{_≡_, refl, sym, ap, _∙_}
+use mathlib.Core.Bool.{Bool, true, false, cond}
+use mathlib.Core.Logic.{_≢_, ⊎-elim}
+use mathlib.Core.List.{List, [], _∷_, _++_, append-assoc, map, flatMap, List·Memᴰ·head, List·Memᴰ·tail}
+use Prim.Native.Nat.{ℕ, suc}
+use native.Mathlib.Omega.{arith}
+use lib.Dec.{eqb}
+use lib.IntN.{ℤ}
+use Rattle.integers.proofs.Tests.{Test, passed, failed, eq?}
+use Rattle.lists.specs.Lists.{_∈_}
+use Rattle.lists.proofs.Membership.{map-out}
+use lib.ListN.{length, drop}
+use Rattle.model.specs.Bytes.{Bytes, bytes, lineFeed, shown, spaced}
+use Rattle.model.specs.Compare.{Tables, Finding, Result, findings, resultOf}
+use Rattle.model.specs.Calls.{Answer, full, lengthOf, bufferAfter}
+use Rattle.model.specs.MapFile.{feeds}
+use Rattle.model.specs.Report.{lineOf, findingLine, report, resultLine}
+use Rattle.model.specs.TextCheck.{reportedOf, textAnswer, reportOf, textGives, textAfter}
+use Rattle.filerules.proofs.Splits.{Lacks}
+use Rattle.filerules.proofs.Fields.{spaced-out}
+use Rattle.filerules.proofs.Words.{shown-word, word-lacks-feed}
+use Rattle.filerules.proofs.TextCheck.{text-demand}
+use Rattle.textcheck.specs.Promises.{LastLine, TextPromise}
+
+-- ---- the last line
+
+-- bytes without a line feed add no line
+lacking-feeds : (b t : Bytes) → Lacks lineFeed b → feeds (b ++ t) ≡ feeds t
+unfolding feeds
+lacking-feeds [] t h = refl
+lacking-feeds (c ∷ b) t h = go (eqb c lineFeed) (eq? c lineFeed) (lacking-feeds b t (λ m. h (List·Memᴰ·tail m)))
+  where
+    go : (e : Bool) → Test (c ≡ lineFeed) (c ≢ lineFeed) e → feeds (b ++ t) ≡ feeds t → cond e (suc (feeds (b ++ t))) (feeds (b ++ t)) ≡ feeds t
+    go true (passed e) rest = absurd (h (List·Memᴰ·head (sym e)))
+    go false (failed n) rest = rest
+
+-- a line of numbers is one line
+line-single : (vs : List ℤ) → feeds (lineOf vs) ≡ 1
+unfolding lineOf feeds
+line-single vs = lacking-feeds (spaced (map shown vs)) (lineFeed ∷ []) lacks
+  where
+    lacks : Lacks lineFeed (spaced (map shown vs))
+    lacks m = ⊎-elim (λ e. omega arith) (λ w. let v = map-out shown vs (w .1) in word-lacks-feed (rw (v .2) (shown-word (v .0))) (w .2)) (spaced-out lineFeed (map shown vs) m)
+
+result-single : (res : Result) → feeds (resultLine res) ≡ 1
+unfolding resultLine
+result-single res = line-single _
+
+-- the names above the result line, and the line feed that ends them
+names-end : bytes "\nverdict equal partial different root leaf address\n" ≡ bytes "\nverdict equal partial different root leaf address" ++ (lineFeed ∷ [])
+unfolding bytes
+names-end = refl
+
+-- the report's last line states the result
+pub report-ends : (fs : List Finding) → LastLine (report fs) (resultLine (resultOf fs))
+unfolding report
+report-ends fs =
+    let names = bytes "root leaf verdict spec impl\n" in
+    let lines = flatMap findingLine fs in
+    let above = bytes "\nverdict equal partial different root leaf address" in
+    let line = resultLine (resultOf fs) in
+    record {
+      upper = names ++ lines ++ above;
+      ends = ap (λ (b : Bytes). names ++ lines ++ b ++ line) names-end ∙ ap (λ (b : Bytes). b ++ line) (sym (append-assoc (names ++ lines) above (lineFeed ∷ [])))
+          ∙ append-assoc (names ++ lines ++ above) (lineFeed ∷ []) line;
+      single = result-single (resultOf fs);
+    }
+
+-- ---- the promise
+
+-- a call whose answer and buffer are those defined keeps the promise
+pub text-promise : {A : Type 0} (form : Answer ℕ → A) (text before : Bytes) {after : Bytes} {given : A} → given ≡ form (textGives text before)
+    → after ≡ textAfter text before → TextPromise form text before after given
+unfolding textGives textAfter lengthOf reportOf bufferAfter reportedOf
+text-promise form text before e b =
+    record {
+      answer = e;
+      buffer = b;
+      demand = λ t keeps unmet. let demand = text-demand (length before) text t keeps unmet in (
+        e ∙ ap (λ a. form (lengthOf (reportOf a))) (demand .0),
+        record { stands = b ∙ ap (λ a. bufferAfter (reportOf a) before) (demand .0); lastLine = report-ends (findings t); demand3 = demand .1 },
+      );
+    }

@@ -7,7 +7,7 @@ use lib.IntN.{ℤ, pos, negsuc, negℤ}
 use Rattle.model.specs.Compare.{Tables, Result}
 use Rattle.model.specs.Calls.{Answer, full, checkAnswer, walkGives, walkAfter, listGives, listAfter, compareAnswer}
 use Rattle.model.specs.Bytes.{Bytes, bytes}
-use Rattle.model.specs.TextCheck.{printed, codeGives, tallyAfter, freshTally}
+use Rattle.model.specs.TextCheck.{printed, textGives, coded, tallyAfter, freshTally}
 use Rattle.model.specs.Marked.{refusal, times, text1}
 
 pub data Reading : Type 0 where
@@ -33,7 +33,7 @@ Says (checks ns es a) = checkAnswer ns es ≡ a
 Says (walks ns es r l x b n after) = (walkGives ns es r l x b ≡ n) × (walkAfter ns es r l x b ≡ after)
 Says (listed ns es r l b n after) = (listGives ns es r l b ≡ n) × (listAfter ns es r l b ≡ after)
 Says (compares t a) = compareAnswer t ≡ a
-Says (codes text b n) = codeGives text b ≡ n
+Says (codes text b n) = coded (textGives text b) ≡ n
 Says (tallies text b counts after) = tallyAfter text b counts ≡ after
 
 -- every reading of the list holds
@@ -141,12 +141,19 @@ callReadings =
     walks (pos 0 ∷ pos 0 ∷ pos 16 ∷ pos 8 ∷ pos 2 ∷ pos 0 ∷ pos 16 ∷ pos 8 ∷ []) (pos 0 ∷ pos 1 ∷ pos 0 ∷ []) (pos 0) (pos 1) (negsuc 0) [] (full 0) [] ∷
     -- parallel edges reach a leaf bit once; two offsets reach two, ascending
     walks (pos 0 ∷ pos 0 ∷ pos 16 ∷ pos 8 ∷ pos 2 ∷ pos 0 ∷ pos 16 ∷ pos 8 ∷ []) (pos 0 ∷ pos 1 ∷ pos 1 ∷ pos 0 ∷ pos 1 ∷ pos 0 ∷ pos 0 ∷ pos 1 ∷ pos 1 ∷ []) (pos 0) (pos 1) (pos 8) (pos 7 ∷ pos 7 ∷ pos 7 ∷ []) (full 2) (pos 0 ∷ pos 8 ∷ pos 7 ∷ []) ∷
+    -- a root with base 4: root bits count from address 0, and below its first bit, 32, none is reached
+    walks (pos 0 ∷ pos 4 ∷ pos 16 ∷ pos 8 ∷ pos 2 ∷ pos 0 ∷ pos 16 ∷ pos 8 ∷ []) (pos 0 ∷ pos 1 ∷ pos 4 ∷ []) (pos 0) (pos 1) (pos 40) (pos 9 ∷ []) (full 1) (pos 8 ∷ []) ∷
+    walks (pos 0 ∷ pos 4 ∷ pos 16 ∷ pos 8 ∷ pos 2 ∷ pos 0 ∷ pos 16 ∷ pos 8 ∷ []) (pos 0 ∷ pos 1 ∷ pos 4 ∷ []) (pos 0) (pos 1) (pos 31) (pos 9 ∷ []) (full 0) (pos 9 ∷ []) ∷
     -- no room: 11, and the buffer as it was
     walks (pos 0 ∷ pos 0 ∷ pos 16 ∷ pos 8 ∷ pos 2 ∷ pos 0 ∷ pos 16 ∷ pos 8 ∷ []) (pos 0 ∷ pos 1 ∷ pos 1 ∷ pos 0 ∷ pos 1 ∷ pos 0 ∷ []) (pos 0) (pos 1) (pos 8) (pos 7 ∷ []) (refusal 11 7 0) (pos 7 ∷ []) ∷
     -- the named root is no root; the leaf no leaf; neither a node row
     walks (pos 0 ∷ pos 0 ∷ pos 16 ∷ pos 8 ∷ pos 2 ∷ pos 0 ∷ pos 16 ∷ pos 8 ∷ []) (pos 0 ∷ pos 1 ∷ pos 0 ∷ []) (pos 1) (pos 1) (pos 0) [] (refusal 7 4 0) [] ∷
     walks (pos 0 ∷ pos 0 ∷ pos 16 ∷ pos 8 ∷ pos 2 ∷ pos 0 ∷ pos 16 ∷ pos 8 ∷ []) (pos 0 ∷ pos 1 ∷ pos 0 ∷ []) (pos 0) (pos 0) (pos 0) [] (refusal 7 5 0) [] ∷
     walks (pos 0 ∷ pos 0 ∷ pos 16 ∷ pos 8 ∷ pos 2 ∷ pos 0 ∷ pos 16 ∷ pos 8 ∷ []) (pos 0 ∷ pos 1 ∷ pos 0 ∷ []) (negsuc 0) (pos 7) (pos 0) [] (refusal 7 4 0) [] ∷
+    -- 10 is told though the address lies outside the root
+    walks (pos 0 ∷ pos 0 ∷ pos 16 ∷ pos 8 ∷ pos 2 ∷ pos 0 ∷ pos 16 ∷ pos 8 ∷ []) (times 1025 (pos 0 ∷ pos 1 ∷ pos 0 ∷ [])) (pos 0) (pos 1) (pos 128) [] (refusal 10 1 0) [] ∷
+    -- the record of a root with base 4
+    listed (pos 0 ∷ pos 4 ∷ pos 16 ∷ pos 8 ∷ pos 2 ∷ pos 0 ∷ pos 16 ∷ pos 8 ∷ []) (pos 0 ∷ pos 1 ∷ pos 4 ∷ []) (pos 0) (pos 1) (pos 9 ∷ pos 9 ∷ pos 9 ∷ []) (full 1) (pos 32 ∷ pos 159 ∷ pos 32 ∷ []) ∷
     -- a list of one record needs three numbers, and past them the buffer keeps its own
     listed (pos 0 ∷ pos 0 ∷ pos 16 ∷ pos 8 ∷ pos 2 ∷ pos 0 ∷ pos 16 ∷ pos 8 ∷ []) (pos 0 ∷ pos 1 ∷ pos 0 ∷ []) (pos 0) (pos 1) (pos 9 ∷ pos 9 ∷ pos 9 ∷ pos 9 ∷ []) (full 1) (pos 0 ∷ pos 127 ∷ pos 0 ∷ pos 9 ∷ []) ∷
     listed (pos 0 ∷ pos 0 ∷ pos 16 ∷ pos 8 ∷ pos 2 ∷ pos 0 ∷ pos 16 ∷ pos 8 ∷ []) (pos 0 ∷ pos 1 ∷ pos 0 ∷ []) (pos 0) (pos 1) (pos 9 ∷ pos 9 ∷ []) (refusal 11 7 0) (pos 9 ∷ pos 9 ∷ []) ∷
@@ -162,6 +169,15 @@ callReadings =
     compares (record { specNodes = (pos 0 ∷ pos 0 ∷ pos 16 ∷ pos 8 ∷ pos 0 ∷ pos 0 ∷ pos 16 ∷ pos 8 ∷ pos 2 ∷ pos 0 ∷ pos 16 ∷ pos 8 ∷ []); specEdges = []; implNodes = (pos 0 ∷ pos 0 ∷ pos 16 ∷ pos 8 ∷ pos 0 ∷ pos 0 ∷ pos 16 ∷ pos 8 ∷ pos 2 ∷ pos 0 ∷ pos 16 ∷ pos 8 ∷ []); implEdges = []; rootPairs = (pos 0 ∷ pos 0 ∷ pos 1 ∷ pos 0 ∷ pos 9 ∷ pos 9 ∷ []); leafPairs = (pos 2 ∷ pos 2 ∷ []) }) (refusal 8 4 1) ∷
     -- within a row 7 before 8
     compares (record { specNodes = (pos 0 ∷ pos 0 ∷ pos 16 ∷ pos 8 ∷ pos 0 ∷ pos 0 ∷ pos 16 ∷ pos 8 ∷ pos 2 ∷ pos 0 ∷ pos 16 ∷ pos 8 ∷ []); specEdges = []; implNodes = (pos 0 ∷ pos 0 ∷ pos 16 ∷ pos 8 ∷ pos 0 ∷ pos 0 ∷ pos 16 ∷ pos 8 ∷ pos 2 ∷ pos 0 ∷ pos 16 ∷ pos 8 ∷ []); implEdges = []; rootPairs = (pos 0 ∷ pos 0 ∷ pos 0 ∷ pos 2 ∷ []); leafPairs = (pos 2 ∷ pos 2 ∷ []) }) (refusal 7 4 1) ∷
+    -- in the table of leaf pairs: no leaf; a node paired before, on the implementation's side
+    compares (record { specNodes = (pos 0 ∷ pos 0 ∷ pos 16 ∷ pos 8 ∷ pos 2 ∷ pos 0 ∷ pos 16 ∷ pos 8 ∷ pos 2 ∷ pos 0 ∷ pos 16 ∷ pos 8 ∷ []); specEdges = []; implNodes = (pos 0 ∷ pos 0 ∷ pos 16 ∷ pos 8 ∷ pos 2 ∷ pos 0 ∷ pos 16 ∷ pos 8 ∷ []); implEdges = []; rootPairs = (pos 0 ∷ pos 0 ∷ []); leafPairs = (pos 1 ∷ pos 1 ∷ pos 0 ∷ pos 1 ∷ []) }) (refusal 7 5 1) ∷
+    compares (record { specNodes = (pos 0 ∷ pos 0 ∷ pos 16 ∷ pos 8 ∷ pos 2 ∷ pos 0 ∷ pos 16 ∷ pos 8 ∷ pos 2 ∷ pos 0 ∷ pos 16 ∷ pos 8 ∷ []); specEdges = []; implNodes = (pos 0 ∷ pos 0 ∷ pos 16 ∷ pos 8 ∷ pos 2 ∷ pos 0 ∷ pos 16 ∷ pos 8 ∷ []); implEdges = []; rootPairs = (pos 0 ∷ pos 0 ∷ []); leafPairs = (pos 1 ∷ pos 1 ∷ pos 2 ∷ pos 1 ∷ []) }) (refusal 8 5 1) ∷
+    -- 1,000 root rows, and 1,000 leaf rows, are not too many: what is told is that a node is paired before; 1,001 root rows are
+    compares (record { specNodes = (pos 0 ∷ pos 0 ∷ pos 16 ∷ pos 8 ∷ pos 2 ∷ pos 0 ∷ pos 16 ∷ pos 8 ∷ []); specEdges = []; implNodes = (pos 0 ∷ pos 0 ∷ pos 16 ∷ pos 8 ∷ pos 2 ∷ pos 0 ∷ pos 16 ∷ pos 8 ∷ []); implEdges = []; rootPairs = (times 1000 (pos 0 ∷ pos 0 ∷ [])); leafPairs = (pos 1 ∷ pos 1 ∷ []) }) (refusal 8 4 1) ∷
+    compares (record { specNodes = (pos 0 ∷ pos 0 ∷ pos 16 ∷ pos 8 ∷ pos 2 ∷ pos 0 ∷ pos 16 ∷ pos 8 ∷ []); specEdges = []; implNodes = (pos 0 ∷ pos 0 ∷ pos 16 ∷ pos 8 ∷ pos 2 ∷ pos 0 ∷ pos 16 ∷ pos 8 ∷ []); implEdges = []; rootPairs = (times 1001 (pos 0 ∷ pos 0 ∷ [])); leafPairs = (pos 1 ∷ pos 1 ∷ []) }) (refusal 1 4 0) ∷
+    compares (record { specNodes = (pos 0 ∷ pos 0 ∷ pos 16 ∷ pos 8 ∷ pos 2 ∷ pos 0 ∷ pos 16 ∷ pos 8 ∷ []); specEdges = []; implNodes = (pos 0 ∷ pos 0 ∷ pos 16 ∷ pos 8 ∷ pos 2 ∷ pos 0 ∷ pos 16 ∷ pos 8 ∷ []); implEdges = []; rootPairs = (pos 0 ∷ pos 0 ∷ []); leafPairs = (times 1000 (pos 1 ∷ pos 1 ∷ [])) }) (refusal 8 5 1) ∷
+    -- 10 for the implementation alone, at root row 1 and leaf row 1
+    compares (record { specNodes = (pos 0 ∷ pos 0 ∷ pos 16 ∷ pos 8 ∷ pos 0 ∷ pos 0 ∷ pos 16 ∷ pos 8 ∷ pos 2 ∷ pos 0 ∷ pos 16 ∷ pos 8 ∷ pos 2 ∷ pos 0 ∷ pos 16 ∷ pos 8 ∷ []); specEdges = []; implNodes = (pos 0 ∷ pos 0 ∷ pos 16 ∷ pos 8 ∷ pos 0 ∷ pos 0 ∷ pos 16 ∷ pos 8 ∷ pos 2 ∷ pos 0 ∷ pos 16 ∷ pos 8 ∷ pos 2 ∷ pos 0 ∷ pos 16 ∷ pos 8 ∷ []); implEdges = (times 1025 (pos 1 ∷ pos 3 ∷ pos 0 ∷ [])); rootPairs = (pos 0 ∷ pos 0 ∷ pos 1 ∷ pos 1 ∷ []); leafPairs = (pos 2 ∷ pos 2 ∷ pos 3 ∷ pos 3 ∷ []) }) (refusal 10 3 1001) ∷
     -- the first unequal pair is partial though a later one is different
     compares (record { specNodes = (pos 0 ∷ pos 0 ∷ pos 16 ∷ pos 8 ∷ pos 2 ∷ pos 0 ∷ pos 16 ∷ pos 8 ∷ pos 2 ∷ pos 0 ∷ pos 16 ∷ pos 8 ∷ []); specEdges = (pos 0 ∷ pos 1 ∷ pos 0 ∷ pos 0 ∷ pos 2 ∷ pos 0 ∷ []); implNodes = (pos 0 ∷ pos 0 ∷ pos 16 ∷ pos 8 ∷ pos 2 ∷ pos 0 ∷ pos 8 ∷ pos 8 ∷ pos 2 ∷ pos 0 ∷ pos 16 ∷ pos 8 ∷ []); implEdges = (pos 0 ∷ pos 1 ∷ pos 0 ∷ []); rootPairs = (pos 0 ∷ pos 0 ∷ []); leafPairs = (pos 1 ∷ pos 1 ∷ pos 2 ∷ pos 2 ∷ []) }) (full (record { equal = 0; partial = 1; different = 1; verdict = 2; place = record { root = pos 0; leaf = pos 0; address = pos 64 } })) ∷
     []

@@ -1,7 +1,8 @@
 // Checks the map file on standard input and prints the report, or the refusal.
 ghost use mathlib.Core.Path.{_≡_};
+ghost use Prim.Native.Nat.{suc, _≤_};
 ghost use lib.ListN.{length};
-ghost use Rattle.model.specs.Limits.{reportRoom};
+ghost use Rattle.model.specs.Limits.{maxText, reportRoom};
 ghost use Rattle.model.specs.TextCheck.{printed};
 ghost use Rattle.report.specs.Put.{Put};
 ghost use Rattle.mapcheck.specs.Reading.{InputWithin};
@@ -15,9 +16,10 @@ const TEXT_ROOM: usize = 65537;
 // Bytes of the report buffer.
 const REPORT_ROOM: usize = 65536;
 
-// What was read of standard input: so many bytes, or a read failed.
+// What was read of standard input: so many bytes up to its end, as many as the buffer has, or a read failed.
 enum Input {
     Bytes(usize),
+    Full(usize),
     Failed,
 }
 
@@ -32,8 +34,9 @@ fn read_some(text: &mut [u8]) -> Input
     Input::Bytes(io::count(got, text))
 }
 
-// Reads standard input into the buffer until the buffer is full or the input ends.
+// Reads standard input into the buffer, which has a byte more than the longest text, until the buffer is full or the input ends.
 fn read_input(text: &mut [u8]) -> Input
+    requires { ⌜ length (now text) ≡ suc maxText ⌝ }
     ensures { λ r. ⌜ InputWithin (length (now (text .exit))) r ⌝ }
 {
     let mut at: usize = 0;
@@ -47,7 +50,7 @@ fn read_input(text: &mut [u8]) -> Input
         }
         at += n;
     }
-    Input::Bytes(at)
+    Input::Full(at)
 }
 
 // Writes what is printed for a text, the report or the refusal, and returns its length.
@@ -68,14 +71,24 @@ fn put_printed(text: &[u8], out: &mut [u8]) -> usize
     }
 }
 
-// Prints what is printed for a text. Where that cannot be written, it says so on standard error.
-fn print_text(text: &[u8]) {
-    let mut out = [0u8; REPORT_ROOM];
-    let n = put_printed(text, &mut out);
-    let is_written = io::write_all(STDOUT_FILENO, &out[..n]);
+// Writes what it is lent, which is what is printed for a text, to standard output. The contract alone names the text. Where that cannot be written, it
+// says so on standard error.
+fn write_printed(text: &[u8], out: &[u8])
+    requires { ⌜ now out ≡ printed (now text) ⌝ }
+{
+    let is_written = io::write_all(STDOUT_FILENO, out);
     if !is_written {
         os::fail(b"standard output");
     }
+}
+
+// Prints what is printed for the text of the first n bytes.
+fn print_text(text: &[u8], n: usize)
+    requires { ⌜ n ≤ length (now text) ⌝ }
+{
+    let mut out = [0u8; REPORT_ROOM];
+    let length = put_printed(&text[..n], &mut out);
+    write_printed(&text[..n], &out[..length]);
 }
 
 fn main() {
@@ -83,7 +96,10 @@ fn main() {
     let input = read_input(&mut text);
     match input {
         Input::Bytes(n) => {
-            print_text(&text[..n]);
+            print_text(&text, n);
+        }
+        Input::Full(n) => {
+            print_text(&text, n);
         }
         Input::Failed => {
             os::fail(b"standard input");

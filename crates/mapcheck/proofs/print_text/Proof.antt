@@ -1,50 +1,43 @@
--- What is printed fits into the buffer.
-use mathlib.Core.Path.{sym}
+-- What is lent to be written is the front of the buffer, as long as what was put there.
+use native.Mathlib.Omega.{arith}
 use borrow.Author.Needs.{needs}
-use lib.Seq.{length-take-le}
-use Rattle.mapcheck.proofs.Printing.{put-within}
+use Rattle.mapcheck.proofs.Printing.{front-length, put-within, put-front}
 use Rattle.mapcheck.proofs.print_text.Statement.{statement}
 use Rattle.mapcheck.proofs.print_text.Tie as tie
 
--- What is printed fits into the buffer.
-
 slice-aggregate-put-printed : tie.Need-slice-aggregate-put-printed
-slice-aggregate-put-printed c = search needs
+slice-aggregate-put-printed c = let s = c .before .before in front-length (s .args .text .now) (omega (arith, s .pre))
+
+slice-aggregate-put-printed-2 : tie.Need-slice-aggregate-put-printed-2
+slice-aggregate-put-printed-2 c = search needs
 
 put-printed-requires : tie.Need-put-printed-requires
 put-printed-requires c κs = search needs
 
+slice-aggregate-write-printed : tie.Need-slice-aggregate-write-printed
+slice-aggregate-write-printed c = let s = c .before .before .before .before .before .before in front-length (s .args .text .now) (omega (arith, s .pre))
+
 array-share-prefix-out : tie.Need-array-share-prefix-out
-array-share-prefix-out c = put-within (c .before .put-printed .ensures)
+array-share-prefix-out c = put-within (c .before .before .put-printed .ensures)
 
-slice-aggregate-write-all : tie.Need-slice-aggregate-write-all
-slice-aggregate-write-all c = let p = c .before .before in sym (length-take-le (p .put-printed .result) (p .put-printed .last .1 .0) (put-within (p .put-printed .ensures)))
+slice-aggregate-write-printed-2 : tie.Need-slice-aggregate-write-printed-2
+slice-aggregate-write-printed-2 c = let p = c .before .before .before in front-length (p .put-printed .last .1 .0) (put-within (p .put-printed .ensures))
 
-write-all-requires : tie.Need-write-all-requires
-write-all-requires c κs = search needs
-
-slice-aggregate-fail : tie.Need-slice-aggregate-fail
-slice-aggregate-fail c = search needs
-
-fail-requires : tie.Need-fail-requires
-fail-requires c κs = search needs
+write-printed-requires : tie.Need-write-printed-requires
+write-printed-requires c κs = put-front (c .before .before .before .put-printed .ensures)
 
 returns : tie.Need-returns
 returns c = search needs
-
-returns-2 : tie.Need-returns-2
-returns-2 c = search needs
 
 pub print-text-spec : {M : Type 1} → statement M
 print-text-spec =
     tie.close
     (tie.spec
     slice-aggregate-put-printed
+    slice-aggregate-put-printed-2
     put-printed-requires
+    slice-aggregate-write-printed
     array-share-prefix-out
-    slice-aggregate-write-all
-    write-all-requires
-    slice-aggregate-fail
-    fail-requires
-    returns
-    returns-2)
+    slice-aggregate-write-printed-2
+    write-printed-requires
+    returns)

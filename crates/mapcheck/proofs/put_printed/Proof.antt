@@ -20,7 +20,7 @@ module _ (c : tie.After-refusal-numbers) where
   checked = c .before .before .before .before .before .before
 
   told : refused (refusalNumbers (c .refusal-numbers .result)) ≡ textGives (start checked .args .text .now) (start checked .args .out .now)
-  told = ap refused (c .refusal-numbers .ensures) ∙ ap writtenAnswer (sym (c .before .before .written2 .given .1)) ∙ checked .text-check .ensures .0
+  told = ap refused (c .refusal-numbers .ensures) ∙ ap writtenAnswer (sym (c .before .before .written2 .given .1)) ∙ checked .text-check .ensures .answer
 
   small : Small (refusalNumbers (c .refusal-numbers .result))
   small = gives-small (start checked .args .text .now) (start checked .args .out .now) told
@@ -49,7 +49,7 @@ same-length c = search needs
 returns : tie.Need-returns
 returns c = let k = c .before .before .before .before .before in
     let s = start k in
-    printed-report (s .args .text .now) (s .args .out .now) (s .pre) (k .text-check .ensures .1) (ap writtenAnswer (sym (c .before .written .given .1)) ∙ k .text-check .ensures .0)
+    printed-report (s .args .text .now) (s .args .out .now) (s .pre) (k .text-check .ensures .buffer) (ap writtenAnswer (sym (c .before .written .given .1)) ∙ k .text-check .ensures .answer)
 
 same-length-2 : tie.Need-same-length-2
 same-length-2 c = search needs
@@ -59,8 +59,8 @@ returns-2 c = let p = c .before .before in
     let r = p .before .before in
     let k = checked r in
     let s = start k in
-    let untouched = printed-untouched (s .args .text .now) (s .args .out .now) (s .pre) (k .text-check .ensures .1) (told r) in
-    rw (printed-refusal (s .args .text .now) (s .args .out .now) (s .pre) (k .text-check .ensures .1) (told r)) (rw untouched at (p .put-refusal .ensures))
+    let untouched = printed-untouched (s .args .text .now) (s .args .out .now) (s .pre) (k .text-check .ensures .buffer) (told r) in
+    rw (printed-refusal (s .args .text .now) (s .args .out .now) (s .pre) (k .text-check .ensures .buffer) (told r)) (rw untouched at (p .put-refusal .ensures))
 
 pub put-printed-spec : {M : Type 1} → statement M
 put-printed-spec =

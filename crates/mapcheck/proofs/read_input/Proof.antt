@@ -62,11 +62,8 @@ read-some-requires c κs = search needs
 enum-known-input : tie.Need-enum-known-input Inv-loop μ-loop
 enum-known-input c = search needs
 
-enum-told : tie.Need-enum-told Inv-loop μ-loop
-enum-told c = search needs
-
 same-length : tie.Need-same-length Inv-loop μ-loop
-same-length c = let r = c .before .before .before .before in kept r ∙ loop-of r .loop .inv .1
+same-length c = let r = c .before .before .before in kept r ∙ loop-of r .loop .inv .1
 
 returns : tie.Need-returns Inv-loop μ-loop
 returns c = tt
@@ -91,7 +88,7 @@ same-length-3 : tie.Need-same-length-3 Inv-loop μ-loop
 same-length-3 c = c .before .loop .inv .1
 
 returns-3 : tie.Need-returns-3 Inv-loop μ-loop
-returns-3 c = c .before .loop .inv .0
+returns-3 c = omega (arith, c .before .loop .inv .0, c .loop-test .left)
 
 pub read-input-spec : {M : Type 1} → statement M
 read-input-spec =
@@ -105,7 +102,6 @@ read-input-spec =
     part-read-some-end
     read-some-requires
     enum-known-input
-    enum-told
     same-length
     returns
     same-length-2

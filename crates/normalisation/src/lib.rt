@@ -1,7 +1,9 @@
 // Normalisation in n log n: records are sorted by displacement, those that touch are merged in one pass, and the rest is sorted by first.
 ghost use mathlib.Core.Path.{_≡_};
 ghost use mathlib.Core.List.{_++_, map};
-ghost use Prim.Native.Nat.{_+_, _*_, _≤_};
+ghost use Prim.Native.Nat.{_+_, _*_, _≤_, _^_};
+ghost use lib.IntN.{pos, _+ℤ_};
+ghost use lib.Signed.{leZ, _<ℤ_};
 ghost use lib.ListN.{length, take, drop};
 ghost use Rattle.integers.specs.Integers.{minZ, maxZ};
 ghost use Rattle.sorting.specs.Rows.{rowsOf};
@@ -25,6 +27,14 @@ fn higher(a: i64, b: i64) -> i64
     if a <= b { b } else { a }
 }
 
+// Whether no bit lies between a last bit and a first bit: the first bit lies at most one above.
+fn meets(last: i64, first: i64) -> bool
+    requires { ⌜ last <ℤ pos (2 ^ 62) ⌝ }
+    ensures { λ b. ⌜ b ≡ leZ first (last +ℤ pos 1) ⌝ }
+{
+    first <= last + 1
+}
+
 // Whether two records touch or overlap. Each is a row by displacement.
 fn touches(r: Row, s: Row) -> bool
     requires { ⌜ Small (ofDisplacement r) × Small (ofDisplacement s) ⌝ }
@@ -33,8 +43,8 @@ fn touches(r: Row, s: Row) -> bool
     if r.first != s.first {
         return false;
     }
-    if s.second <= r.third + 1 {
-        return r.second <= s.third + 1;
+    if meets(r.third, s.second) {
+        return meets(s.third, r.second);
     }
     false
 }

@@ -1,6 +1,6 @@
--- The bit offset of an edge is small, so that the difference fits.
-use mathlib.Core.Path.{ap, _∙_}
-use lib.IntN.{_-ℤ_}
+-- The bit offset of an edge is small, so that the difference fits. What the call asks has no name here: an offset that is added is refused at the
+-- equation first.
+use borrow.Author.Needs.{needs}
 use Rattle.steps.proofs.Bounds.{address-movable}
 use Rattle.steps.proofs.Rows.{edge-small}
 use Rattle.steps.proofs.moved.Statement.{statement}
@@ -9,13 +9,13 @@ use Rattle.steps.proofs.moved.Tie as tie
 offset-of-requires : tie.Need-offset-of-requires
 offset-of-requires c κs = (c .pre .0, c .pre .1)
 
-less-requires : tie.Need-less-requires
-less-requires c κs =
-    let s = c .before in
-    address-movable (s .pre .2) (edge-small (s .pre .0) (s .args .e) (s .pre .1) (c .offset-of .ensures))
-
 returns : tie.Need-returns
-returns c = c .less .ensures ∙ ap (λ o. c .before .before .args .a .0 -ℤ o) (c .before .offset-of .ensures)
+returns c = rw (← (c .before .offset-of .ensures)) (search needs)
 
 pub moved-spec : {M : Type 1} → statement M
-moved-spec = tie.close (tie.spec offset-of-requires less-requires returns)
+moved-spec =
+    tie.close
+    (tie.spec
+    offset-of-requires
+    (λ c κs. let s = c .before in address-movable (s .pre .2) (edge-small (s .pre .0) (s .args .e) (s .pre .1) (c .offset-of .ensures)))
+    returns)

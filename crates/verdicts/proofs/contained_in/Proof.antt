@@ -14,6 +14,14 @@ root-test c =
     ∙ ap₂ spanWithin (c .before .before .before .root-bits .ensures)
     (c .before .root-bits2 .ensures ∙ ap rootBits (c .before .before .record-at .ensures))
 
+-- what the second test says
+leaf-test : (c : tie.After-span-within2) → let s = c .before .before .before .before .before .before .before .before .before in
+    c .span-within2 .result ≡ spanWithin (leafBits (asRecord (s .args .r))) (leafBits (recordAt (s .args .t .now) (s .args .i)))
+leaf-test c =
+    c .span-within2 .ensures
+    ∙ ap₂ spanWithin (c .before .before .before .leaf-bits .ensures)
+    (c .before .leaf-bits2 .ensures ∙ ap leafBits (c .before .before .record-at2 .ensures))
+
 root-bits-requires : tie.Need-root-bits-requires
 root-bits-requires c κs = search needs
 
@@ -44,10 +52,7 @@ returns : tie.Need-returns
 returns c =
     let t = c .before .before .before .before in
     let s = t .before .before .before .before .before in
-    let leaf : c .span-within2 .result ≡ spanWithin (leafBits (asRecord (s .args .r))) (leafBits (recordAt (s .args .t .now) (s .args .i))) =
-    c .span-within2 .ensures
-    ∙ ap₂ spanWithin (c .before .before .before .leaf-bits .ensures) (c .before .leaf-bits2 .ensures ∙ ap leafBits (c .before .before .record-at2 .ensures)) in
-    rw (contained-spans (asRecord (s .args .r)) (recordAt (s .args .t .now) (s .args .i)), sym (root-test (t .before)) ∙ t .if1 .taken) leaf
+    rw (contained-spans (asRecord (s .args .r)) (recordAt (s .args .t .now) (s .args .i)), sym (root-test (t .before)) ∙ t .if1 .taken) (leaf-test c)
 
 returns-2 : tie.Need-returns-2
 returns-2 c =

@@ -2,7 +2,7 @@
 
 use crate::generate::{plain_text, small_map, tables, text_of_length, unjoined};
 use crate::generate::{Draft, Random, SEGMENT};
-use crate::reference::{parse, Tables, MAX_TEXT, UNITS};
+use crate::reference::{parse, Tables, BLOCK, MAX_EDGES, MAX_NODES, MAX_TEXT, UNITS};
 
 pub struct Map {
     pub name: &'static str,
@@ -50,6 +50,9 @@ role spec impl
 /// Units in the window of each node that clips nothing.
 const SPAN: i64 = 1 << 20;
 
+/// Units in the window of a root that sees a part of what is behind it.
+const NARROW: i64 = 512;
+
 /// Roots above one segment, stages of doubled edges below it, a chain below them,
 /// and at its end the leaves.
 #[derive(Clone, Copy)]
@@ -64,6 +67,8 @@ struct Funnel {
     leaf_offset: i64,
     /// Each root stands before a segment of its own.
     bridged: bool,
+    /// More roots, which see a part of what the others see.
+    narrow: usize,
 }
 
 const FUNNEL: Funnel = Funnel {
@@ -75,6 +80,7 @@ const FUNNEL: Funnel = Funnel {
     leaf_range: 4,
     leaf_offset: 8,
     bridged: false,
+    narrow: 0,
 };
 
 impl Funnel {
@@ -84,8 +90,9 @@ impl Funnel {
 
     fn add_to(&self, draft: &mut Draft) {
         let mut last = draft.node(SEGMENT, 0, SPAN, 8);
-        for _ in 0..self.roots {
-            let mut above = draft.root(0, SPAN, 8);
+        for number in 0..self.roots + self.narrow {
+            let range = if number < self.roots { SPAN } else { NARROW };
+            let mut above = draft.root(0, range, 8);
             if self.bridged {
                 let bridge = draft.node(SEGMENT, 0, SPAN, 8);
                 draft.join(above, bridge, 0);
@@ -245,13 +252,35 @@ fn partial(name: &'static str, funnel: Funnel) -> Map {
     whole(name, tables(&funnel.draft(), &funnel.shorter().draft()))
 }
 
-/// Roots and leaves as in `connected`, and beside them one pair with as many paths,
-/// records and edges along a path as may be. Each pair that is connected is partial.
-pub fn connected_beside_chain(count: usize) -> Map {
+/// Roots and leaves as in `connected`, and beside them another funnel. Each pair that is
+/// connected is partial.
+fn connected_beside(name: &'static str, count: usize, other: Funnel) -> Map {
     let hub = Funnel { roots: count, leaves: count, stages: 0, ..FUNNEL };
-    let chain = Funnel { roots: 1, leaves: 1, step: 1, chain: 52, ..FUNNEL };
-    let tables = tables(&beside(&[hub, chain]), &beside(&[hub.shorter(), chain.shorter()]));
-    whole("connected through one hub, and a chain of 64", tables)
+    let spec = beside(&[hub, other]);
+    whole(name, tables(&spec, &beside(&[hub.shorter(), other.shorter()])))
+}
+
+/// One leaf with as many paths, records and edges along a path as may be.
+const DEEP: Funnel = Funnel { roots: 1, leaves: 1, step: 1, chain: 52, ..FUNNEL };
+
+/// Many pairs, and beside them one with as many paths, records and edges along a path
+/// as may be.
+pub fn connected_beside_chain(count: usize) -> Map {
+    connected_beside("connected through one hub, and a chain of 64", count, DEEP)
+}
+
+/// The same, with three roots in place of one before the chain. Two of them see all of
+/// the window of the node behind them, so that its list is kept and used; the third sees
+/// a part of it, and what it reaches is listed path by path.
+pub fn connected_beside_shared(count: usize) -> Map {
+    let shared = Funnel { roots: 2, narrow: 1, ..DEEP };
+    connected_beside("connected through one hub, and a chain of 64 that roots share", count, shared)
+}
+
+/// The maps on which the text check takes most stack, the deepest last.
+pub fn deep_maps() -> [Map; 3] {
+    const COUNT: usize = 80;
+    [connected(COUNT), connected_beside_chain(COUNT), connected_beside_shared(COUNT)]
 }
 
 /// Maps with as many paths, records and edges along a path as may be, and few pairs.
@@ -297,5 +326,111 @@ pub fn maps() -> Vec<Map> {
         Funnel { roots: 1, ..wide }.map("1 x 900, 1,024 paths"),
         Funnel { roots: 100, ..wide }.map("100 x 900, 1,024 paths"),
         Funnel { roots: 100, ..clipped }.map("100 x 900, all clipped at the leaf"),
+    ]
+}
+
+// Single graphs
+
+#[derive(Clone, Copy, PartialEq, Eq)]
+pub enum Call {
+    Check,
+    List,
+    Walk,
+}
+
+/// A graph for the calls on one graph, with the root, the leaf and the bit address that
+/// list and walk are asked for.
+pub struct Single {
+    pub name: &'static str,
+    pub calls: &'static [Call],
+    pub nodes: Vec<i64>,
+    pub edges: Vec<i64>,
+    pub root: i64,
+    pub leaf: i64,
+    pub address: i64,
+}
+
+/// A graph that is checked and nothing else.
+fn checked(name: &'static str, draft: &Draft) -> Single {
+    let (nodes, edges) = (draft.node_table(), draft.edge_table());
+    Single { name, calls: &[Call::Check], nodes, edges, root: 0, leaf: 0, address: 0 }
+}
+
+/// A graph whose first root and leaf are asked for, at this bit address.
+fn asked(name: &'static str, calls: &'static [Call], draft: &Draft, address: i64) -> Single {
+    let (root, leaf) = (draft.roots[0] as i64, draft.leaves[0] as i64);
+    Single { calls, root, leaf, address, ..checked(name, draft) }
+}
+
+/// Chains of that many edges side by side, with more edges from one to another, until
+/// there are as many nodes and edges as may be.
+fn layered(depth: usize) -> Draft {
+    let mut draft = Draft::default();
+    for number in 0..MAX_NODES {
+        let kind = if number % (depth + 1) == depth { BLOCK } else { SEGMENT };
+        draft.node(kind, 0, SPAN, 8);
+    }
+    // From each layer to the next, at first within a chain, then further and further.
+    let ends = (0..)
+        .flat_map(|chains| (0..MAX_NODES).map(move |from| (from, from + 1 + chains * (depth + 1))));
+    let ends = ends.filter(|&(from, to)| from % (depth + 1) < depth && to < MAX_NODES);
+    ends.take(MAX_EDGES).for_each(|(from, to)| draft.join(from, to, 0));
+    draft
+}
+
+/// A chain through as many nodes as there may be.
+fn longest_chain() -> Draft {
+    let mut draft = Draft::default();
+    (0..MAX_NODES).for_each(|_| _ = draft.node(SEGMENT, 0, SPAN, 8));
+    (1..MAX_NODES).for_each(|to| draft.join(to - 1, to, 0));
+    draft
+}
+
+/// The same with an edge from its second node to its first.
+fn cycle_before_chain() -> Draft {
+    let mut draft = longest_chain();
+    draft.join(1, 0, 0);
+    draft
+}
+
+/// A root before one leaf, and before doubled edges that end at no leaf.
+fn beside_dead_end(stages: usize) -> Draft {
+    let mut draft = Draft::default();
+    let mut last = draft.root(0, SPAN, 8);
+    let leaf = draft.leaf(0, 4, 8);
+    for _ in 0..stages {
+        let next = draft.node(SEGMENT, 0, SPAN, 8);
+        (0..2).for_each(|_| draft.join(last, next, 0));
+        last = next;
+    }
+    draft.join(draft.roots[0], leaf, 8);
+    draft
+}
+
+pub fn singles() -> Vec<Single> {
+    const BOTH: &[Call] = &[Call::List, Call::Walk];
+    const LIST: &[Call] = &[Call::List];
+    /// The first bit of the leaf behind FUNNEL's offset.
+    const ADDRESS: i64 = 64;
+    let [nodes, edges, ..] = parse(P1.as_bytes()).expect("P1 keeps the file rules");
+    let hub = Funnel { roots: 1, leaves: 900, ..FUNNEL };
+    let short = Funnel { chain: 0, ..DEEP };
+    vec![
+        checked("2,000 nodes, 2,600 edges, depth 8", &layered(8)),
+        checked("cycle before a chain of 1,998 edges", &cycle_before_chain()),
+        checked("chain of 1,999 edges", &longest_chain()),
+        Single {
+            name: "P1, specification",
+            calls: BOTH,
+            nodes,
+            edges,
+            root: 0,
+            leaf: 1,
+            address: 2_048,
+        },
+        asked("1 path, 30 doubled edges to no leaf", BOTH, &beside_dead_end(30), ADDRESS),
+        asked("10 doubled edges, hub, 900 leaves", BOTH, &hub.draft(), ADDRESS),
+        asked("1,024 paths, no merging", LIST, &short.draft(), ADDRESS),
+        asked("1,024 paths of 64 edges, no merging", LIST, &DEEP.draft(), ADDRESS),
     ]
 }

@@ -17,3 +17,5 @@ pub mod generate;
 pub mod large;
 pub mod library;
 pub mod reference;
+#[cfg(healdrip_library)]
+pub mod stack;

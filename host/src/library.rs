@@ -1,12 +1,12 @@
-//! The verified code through C linkage: the library's text check, and the
-//! comparison on tables, which is there for tests and benchmarks alone.
+//! The verified code through C linkage: the library's text check, and the calls on
+//! tables, which are there for tests and benchmarks alone.
 //!
 //! Each is compiled only where its archive was linked (see build.rs).
 
 #[cfg(healdrip_library)]
 extern "C" {
     /// The report's length, or -(number * 100,000,000 + table * 10,000,000 + row).
-    fn healdrip_text_check(
+    pub(crate) fn healdrip_text_check(
         text: *const u8, text_len: usize, report: *mut u8, report_len: usize,
     ) -> i64;
 }
@@ -22,6 +22,23 @@ pub fn text_check(text: &[u8], report: &mut [u8]) -> i64 {
 
 #[cfg(benchcalls_library)]
 extern "C" {
+    /// 0, or the refusal's number below zero.
+    fn benchcalls_check(
+        nodes: *const i64, nodes_len: usize, edges: *const i64, edges_len: usize,
+    ) -> i64;
+
+    /// How many records are written, or the refusal's number below zero.
+    fn benchcalls_list(
+        nodes: *const i64, nodes_len: usize, edges: *const i64, edges_len: usize, root: i64,
+        leaf: i64, out: *mut i64, out_len: usize,
+    ) -> i64;
+
+    /// How many leaf bits are written, or the refusal's number below zero.
+    fn benchcalls_walk(
+        nodes: *const i64, nodes_len: usize, edges: *const i64, edges_len: usize, root: i64,
+        leaf: i64, address: i64, out: *mut i64, out_len: usize,
+    ) -> i64;
+
     /// The answer as `summary` gives it; the tables in the order of their numbers.
     fn benchcalls_compare(
         spec_nodes: *const i64, spec_nodes_len: usize, spec_edges: *const i64,
@@ -29,6 +46,33 @@ extern "C" {
         impl_edges: *const i64, impl_edges_len: usize, root_pairs: *const i64,
         root_pairs_len: usize, leaf_pairs: *const i64, leaf_pairs_len: usize,
     ) -> i64;
+}
+
+/// Check of one graph by the verified code.
+#[cfg(benchcalls_library)]
+pub fn check(nodes: &[i64], edges: &[i64]) -> i64 {
+    // SAFETY: both pointers are valid for their lengths during the call.
+    unsafe { benchcalls_check(nodes.as_ptr(), nodes.len(), edges.as_ptr(), edges.len()) }
+}
+
+/// List of a root and a leaf by the verified code, three numbers for each record.
+#[cfg(benchcalls_library)]
+pub fn list(nodes: &[i64], edges: &[i64], root: i64, leaf: i64, out: &mut [i64]) -> i64 {
+    let (n, e, room) = (nodes.len(), edges.len(), out.len());
+    // SAFETY: every pointer is valid for its length during the call.
+    unsafe {
+        benchcalls_list(nodes.as_ptr(), n, edges.as_ptr(), e, root, leaf, out.as_mut_ptr(), room)
+    }
+}
+
+/// Walk of a bit address from a root to a leaf by the verified code.
+#[cfg(benchcalls_library)]
+pub fn walk(
+    nodes: &[i64], edges: &[i64], root: i64, leaf: i64, address: i64, out: &mut [i64],
+) -> i64 {
+    let (n, e, room, out) = (nodes.len(), edges.len(), out.len(), out.as_mut_ptr());
+    // SAFETY: every pointer is valid for its length during the call.
+    unsafe { benchcalls_walk(nodes.as_ptr(), n, edges.as_ptr(), e, root, leaf, address, out, room) }
 }
 
 /// Comparison of tables by the verified code.
@@ -64,4 +108,10 @@ pub fn summary(answer: &Result<crate::reference::Comparison, crate::reference::R
         }
         Err(refusal) => -refusal.number,
     }
+}
+
+/// The answer of a call on one graph as one number: how many were written, or the
+/// refusal's number below zero.
+pub fn count<T>(answer: &Result<Vec<T>, crate::reference::Refusal>) -> i64 {
+    answer.as_ref().map_or_else(|refusal| -refusal.number, |written| written.len() as i64)
 }

@@ -1,17 +1,73 @@
-//! The reference against the verified comparison on tables, which may hold any
-//! numbers and have any lengths. Compiled only with BENCHCALLS_LIB_DIR set.
+//! The reference against the verified calls on tables, which may hold any numbers and
+//! have any lengths. Compiled only with BENCHCALLS_LIB_DIR set.
 #![cfg(benchcalls_library)]
 
 use host::faults::{base, table_faults};
 use host::generate::{disturbed, far_rows, limits, small_map, Random};
+use host::large::singles;
 use host::library;
-use host::reference::{compare, Tables};
+use host::reference::{self, compare, refusal, Refusal, Tables, LEAF_PAIRS, OUTPUT, ROOT_PAIRS};
 
 const MAPS: u64 = 4_000;
+const FAR: [i64; 11] =
+    [i64::MIN, i64::MIN + 1, -1, 0, 1, 2, 8, 1 << 48, 1 << 62, i64::MAX - 1, i64::MAX];
 
+/// A call with a lent buffer, of the numbers' own length, one less and some more: the
+/// answer and every number of the buffer.
+fn check_written(
+    numbers: Result<Vec<i64>, Refusal>, width: usize, call: impl Fn(&mut [i64]) -> i64,
+) {
+    let length = numbers.as_ref().map_or(0, Vec::len);
+    for room in [length.saturating_sub(1), length, length + 5] {
+        let expected = match &numbers {
+            Ok(numbers) if numbers.len() > room => Err(refusal(11, OUTPUT, 0)),
+            answer => answer.clone(),
+        };
+        let pattern: Vec<i64> = (0..room as i64).map(|place| place * 37 - 5).collect();
+        let mut buffer = pattern.clone();
+        let answer = call(&mut buffer);
+        let written = expected.map(|numbers| numbers.chunks(width).map(Vec::from).collect());
+        assert_eq!(answer, library::count(&written), "room {room}");
+        let front = written.unwrap_or_default().concat();
+        assert!(buffer[..front.len()] == front, "room {room}: {buffer:?}, expected {front:?}");
+        assert!(buffer[front.len()..] == pattern[front.len()..], "room {room}: past the output");
+    }
+}
+
+fn check_walk(nodes: &[i64], edges: &[i64], root: i64, leaf: i64, address: i64) {
+    let expected = reference::walk(nodes, edges, root, leaf, address, usize::MAX);
+    check_written(expected, 1, |out| library::walk(nodes, edges, root, leaf, address, out));
+}
+
+/// The calls on one graph: list, and walks at and around the ends of its records.
+fn check_pair(nodes: &[i64], edges: &[i64], root: i64, leaf: i64) {
+    let records = reference::list(nodes, edges, root, leaf, usize::MAX);
+    let numbers = records.clone().map(|records| {
+        records.iter().flat_map(|r| [r.first, r.last, r.displacement]).collect::<Vec<_>>()
+    });
+    check_written(numbers, 3, |out| library::list(nodes, edges, root, leaf, out));
+    let records = records.unwrap_or_default();
+    let ends = records.iter().take(3).flat_map(|r| [r.first - 1, r.first, r.last, r.last + 1]);
+    ends.chain([0]).for_each(|address| check_walk(nodes, edges, root, leaf, address));
+}
+
+fn check_graph(nodes: &[i64], edges: &[i64]) {
+    let expected = reference::check(nodes, edges).map_or_else(|refusal| -refusal.number, |()| 0);
+    assert_eq!(library::check(nodes, edges), expected, "{nodes:?} {edges:?}");
+}
+
+/// The comparison, and on either side the calls on one graph with what the first rows
+/// of the pairing name.
 fn check(tables: &Tables) {
     let given = tables.clone();
     assert_eq!(library::compare(tables), library::summary(&compare(tables)), "{tables:?}");
+    for side in 0..2 {
+        let (nodes, edges) = (&tables[2 * side], &tables[2 * side + 1]);
+        check_graph(nodes, edges);
+        let column = |table: usize| tables[table].chunks_exact(2).map(move |pair| pair[side]);
+        let pairs = column(ROOT_PAIRS).zip(column(LEAF_PAIRS));
+        pairs.take(2).for_each(|(root, leaf)| check_pair(nodes, edges, root, leaf));
+    }
     assert!(*tables == given, "the tables have changed");
 }
 
@@ -46,8 +102,6 @@ fn generated_maps() {
 
 #[test]
 fn numbers_and_lengths_of_any_size() {
-    const FAR: [i64; 11] =
-        [i64::MIN, i64::MIN + 1, -1, 0, 1, 2, 8, 1 << 48, 1 << 62, i64::MAX - 1, i64::MAX];
     let tables = base();
     for table in 0..6 {
         for place in 0..tables[table].len() {
@@ -62,4 +116,46 @@ fn numbers_and_lengths_of_any_size() {
         }
     }
     check(&Tables::default());
+}
+
+#[test]
+fn roots_leaves_and_addresses_of_any_size() {
+    let tables = base();
+    for side in 0..2 {
+        let (nodes, edges) = (&tables[2 * side], &tables[2 * side + 1]);
+        let (root, leaf) = (tables[ROOT_PAIRS][side], tables[LEAF_PAIRS][side]);
+        for far in FAR {
+            check_pair(nodes, edges, far, leaf);
+            check_pair(nodes, edges, root, far);
+            check_walk(nodes, edges, root, leaf, far);
+        }
+    }
+}
+
+/// Name, and what check answers or how many records the list has.
+const SINGLES: [(&str, i64); 8] = [
+    ("2,000 nodes, 2,600 edges, depth 8", 0),
+    ("cycle before a chain of 1,998 edges", -5),
+    ("chain of 1,999 edges", -6),
+    ("P1, specification", 1),
+    ("1 path, 30 doubled edges to no leaf", 1),
+    ("10 doubled edges, hub, 900 leaves", 1),
+    ("1,024 paths, no merging", 1_024),
+    ("1,024 paths of 64 edges, no merging", 1_024),
+];
+
+#[test]
+fn single_graphs() {
+    for (graph, (name, expected)) in singles().iter().zip(SINGLES) {
+        let (nodes, edges) = (&graph.nodes, &graph.edges);
+        check_graph(nodes, edges);
+        check_pair(nodes, edges, graph.root, graph.leaf);
+        check_walk(nodes, edges, graph.root, graph.leaf, graph.address);
+        let listed = reference::list(nodes, edges, graph.root, graph.leaf, usize::MAX);
+        let found = match graph.calls {
+            [host::large::Call::Check] => library::check(nodes, edges),
+            _ => library::count(&listed),
+        };
+        assert_eq!((graph.name, found), (name, expected));
+    }
 }

@@ -1,4 +1,4 @@
--- The answer of a comparison as one number, for the benchmark. Assumes nothing.
+-- The answers of the calls as one number each, for the benchmark. Assumes nothing.
 use Prim.Native.Nat.{ℕ, _+_, _*_, _^_, min}
 use lib.IntN.{ℤ, pos, negℤ}
 use Rattle.model.specs.Compare.{Result}
@@ -8,7 +8,7 @@ use Rattle.model.specs.Calls.{Answer, refused, full}
 abbrev pub mostCounted : ℕ
 mostCounted = 1048575
 
--- a count of pairs in 20 binary digits
+-- a count in 20 binary digits
 abbrev pub digits : ℕ → ℕ
 digits n = min n mostCounted
 
@@ -16,7 +16,19 @@ digits n = min n mostCounted
 abbrev pub packed : Result → ℕ
 packed res = res .verdict * 2 ^ 60 + digits (res .equal) * 2 ^ 40 + digits (res .partial) * 2 ^ 20 + digits (res .different)
 
--- an answer: a full result as above, a refusal as its number below zero
-unfoldable pub summary : Answer Result → ℤ
-summary (refused r) = negℤ (pos (r .number))
-summary (full res) = pos (packed res)
+-- an answer: a full result by its number, a refusal as its number below zero
+unfoldable pub signed : {A : Type 0} → (A → ℕ) → Answer A → ℤ
+signed number (refused r) = negℤ (pos (r .number))
+signed number (full a) = pos (number a)
+
+-- the answer of a comparison
+abbrev pub summary : Answer Result → ℤ
+summary = signed packed
+
+-- the answer of the check of one graph: 0 where it is taken
+abbrev pub taken : Answer (Unit {0}) → ℤ
+taken = signed (λ _. 0)
+
+-- the answer of walk and list: how many numbers or records were written, at most 1,024
+abbrev pub written : Answer ℕ → ℤ
+written = signed digits

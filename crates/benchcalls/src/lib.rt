@@ -1,17 +1,22 @@
-// The comparison of two graphs through C linkage, for the benchmark of host/: a text holds at most 65,536 bytes, and some of the maps that are
+// The calls on tables through C linkage, for the benchmark and the tests of host/: a text holds at most 65,536 bytes, and some of the maps that are
 // measured need more. The library that the design environment links has the text check alone.
 ghost use mathlib.Core.Path.{_≡_};
 ghost use Prim.Native.Nat.{_≤_};
 ghost use lib.IntN.{pos, negℤ};
-ghost use Rattle.model.specs.Answers.{comparisonResult, comparedAnswer, verdictNumber, refusalOf};
-ghost use Rattle.model.specs.Calls.{compareAnswer};
+ghost use Rattle.model.specs.Answers.{comparisonResult, verdictNumber, refusalOf, checkedAnswer, writtenAnswer};
+ghost use Rattle.model.specs.Calls.{checkAnswer, walkGives, walkAfter, listGives, listAfter, compareAnswer};
 ghost use Rattle.pairing.specs.Pairs.{tablesOf};
-ghost use Rattle.benchcalls.specs.Summary.{digits, packed, summary};
+ghost use Rattle.benchcalls.specs.Summary.{digits, packed, summary, taken, written};
+use bitmapping::list;
+use bitmapping::walk;
 use compare::compare;
+use depth::check_graph;
+use model::Checked;
 use model::Compared;
 use model::Comparison;
 use model::Reason;
 use model::Verdict;
+use model::Written;
 
 // The highest count that 20 binary digits hold.
 const MOST_COUNTED: usize = 1048575;
@@ -77,6 +82,68 @@ fn refused_number(reason: Reason) -> i64
         Reason::Names { line: _ } => -13,
         Reason::Values { line: _ } => -14,
     }
+}
+
+// The answer of the check of one graph.
+fn checked_number(checked: Checked) -> i64
+    ensures { λ r. ⌜ r ≡ taken (checkedAnswer checked) ⌝ }
+{
+    match checked {
+        Checked::Taken => 0,
+        Checked::Refused(reason) => refused_number(reason),
+    }
+}
+
+// The answer of a call with a lent buffer.
+fn written_number(given: Written) -> i64
+    ensures { λ r. ⌜ r ≡ written (writtenAnswer given) ⌝ }
+{
+    match given {
+        Written::Count(n) => digits_of(n) as i64,
+        Written::Refused(reason) => refused_number(reason),
+    }
+}
+
+// Checks one graph and gives the answer as one number.
+#[no_mangle]
+pub extern "C" fn benchcalls_check(nodes: &[i64], edges: &[i64]) -> i64
+    ensures { λ r. ⌜ r ≡ taken (checkAnswer (now (nodes .entry)) (now (edges .entry))) ⌝ }
+{
+    let checked = check_graph(nodes, edges);
+    checked_number(checked)
+}
+
+// Lists the bitmapping list of a root and a leaf and gives the answer as one number.
+#[no_mangle]
+pub extern "C" fn benchcalls_list(
+    nodes: &[i64],
+    edges: &[i64],
+    root: i64,
+    leaf: i64,
+    out: &mut [i64],
+) -> i64
+    ensures returned { λ r. ⌜ r ≡ written (listGives (now (nodes .entry)) (now (edges .entry)) root leaf (now (out .entry))) ⌝ }
+    ensures buffer { λ _. ⌜ now (out .exit) ≡ listAfter (now (nodes .entry)) (now (edges .entry)) root leaf (now (out .entry)) ⌝ }
+{
+    let given = list(nodes, edges, root, leaf, out);
+    written_number(given)
+}
+
+// Walks a bit address from a root to a leaf and gives the answer as one number.
+#[no_mangle]
+pub extern "C" fn benchcalls_walk(
+    nodes: &[i64],
+    edges: &[i64],
+    root: i64,
+    leaf: i64,
+    address: i64,
+    out: &mut [i64],
+) -> i64
+    ensures returned { λ r. ⌜ r ≡ written (walkGives (now (nodes .entry)) (now (edges .entry)) root leaf address (now (out .entry))) ⌝ }
+    ensures buffer { λ _. ⌜ now (out .exit) ≡ walkAfter (now (nodes .entry)) (now (edges .entry)) root leaf address (now (out .entry)) ⌝ }
+{
+    let given = walk(nodes, edges, root, leaf, address, out);
+    written_number(given)
 }
 
 // Compares two graphs and gives the answer as one number.

@@ -1,17 +1,18 @@
 //! Times the verified code beside the reference on the named maps and prints tables
-//! in markdown: the text check, the comparison on tables, and the whole program with
-//! its start. The answers must agree.
+//! in markdown: the calls on one graph, the text check, the comparison on tables, and
+//! the whole program with its start. The answers must agree. A last table has the stack
+//! that the text check takes.
 //!
 //! ```text
-//! bench [--long] [part of a map's name]
+//! bench [--long] [part of a map's name or of a table's title]
 //! ```
 //!
 //! `--long` adds the maps that take seconds. The script `bench` at the top of the
 //! repository builds what is needed and runs this. A call's time is processor time,
 //! the program's is wall clock; each is the lowest of several runs.
 
-use host::large::{maps, Map};
-use host::reference::{compare_by, printed, text_check_by, Listing};
+use host::large::{deep_maps, maps, singles, Call, Map, Single};
+use host::reference::{check, compare_by, list, printed, text_check_by, walk, Listing, Refusal};
 use std::ffi::c_long;
 use std::hint::black_box;
 use std::io::Write;
@@ -36,6 +37,13 @@ const AS_TEXT: [&str; 6] = [
     "30 x 30, 1,024 paths, no merging",
 ];
 const ALSO_AS_TABLES: usize = 2;
+
+/// The titles of the tables.
+const ONE_GRAPH: &str = "One graph";
+const TEXT_CHECK: &str = "Text check";
+const COMPARISON: &str = "Comparison on tables";
+const PROGRAM: &str = "Whole program, its start included";
+const STACK: &str = "Stack of the text check";
 
 /// Starts of the whole program for one figure, at least and at most.
 const FEWEST_STARTS: usize = 5;
@@ -81,6 +89,46 @@ fn time<T>(mut run: impl FnMut() -> T) -> f64 {
         batches += 1;
     }
     lowest / runs as f64
+}
+
+/// A call on one graph by the reference: the numbers that it writes.
+fn rust_call(call: Call, graph: &Single) -> Result<Vec<i64>, Refusal> {
+    let Single { nodes, edges, root, leaf, address, .. } = graph;
+    match call {
+        Call::Check => check(nodes, edges).map(|_| Vec::new()),
+        Call::List => {
+            let records = list(nodes, edges, *root, *leaf, usize::MAX)?.into_iter();
+            Ok(records.flat_map(|r| [r.first, r.last, r.displacement]).collect())
+        }
+        Call::Walk => walk(nodes, edges, *root, *leaf, *address, usize::MAX),
+    }
+}
+
+#[cfg(benchcalls_library)]
+fn time_call(call: Call, graph: &Single) -> Option<f64> {
+    use host::library;
+    let Single { nodes, edges, root, leaf, address, .. } = graph;
+    let expected = rust_call(call, graph);
+    let mut out = vec![0; expected.as_ref().map_or(0, Vec::len)];
+    let mut answer = 0;
+    let millis = time(|| {
+        answer = match call {
+            Call::Check => library::check(nodes, edges),
+            Call::List => library::list(nodes, edges, *root, *leaf, &mut out),
+            Call::Walk => library::walk(nodes, edges, *root, *leaf, *address, &mut out),
+        }
+    });
+    // A record is three numbers.
+    let width = if call == Call::List { 3 } else { 1 };
+    let written = expected.as_ref().map(|numbers| numbers.chunks(width).collect());
+    assert_eq!(answer, library::count(&written.map_err(|refusal| *refusal)), "the answers differ");
+    assert!(expected.is_ok_and(|numbers| numbers == out) || answer < 0, "the numbers differ");
+    Some(millis)
+}
+
+#[cfg(not(benchcalls_library))]
+fn time_call(_call: Call, _graph: &Single) -> Option<f64> {
+    None
 }
 
 #[cfg(healdrip_library)]
@@ -148,6 +196,24 @@ fn cells([proved, by_pair, by_root]: [Option<f64>; 3]) -> [String; 5] {
     [a, b, c, d, e]
 }
 
+fn print_singles(graphs: &[Single]) {
+    let mut rows = Vec::new();
+    for graph in graphs {
+        for &call in graph.calls {
+            let name = match call {
+                Call::Check => "check",
+                Call::List => "list",
+                Call::Walk => "walk",
+            };
+            let proved = time_call(call, graph);
+            let rust = Some(time(|| rust_call(call, graph)));
+            let times = [shown(proved), shown(rust), ratio(proved, rust)];
+            rows.push([vec![name.to_string(), graph.name.to_string()], times.to_vec()].concat());
+        }
+    }
+    print_table(ONE_GRAPH, &["Call", "Map", "Proved", "Rust", "Proved / Rust"], &rows);
+}
+
 const COLUMNS: [&str; 5] =
     ["Proved", "Rust by pair", "Rust by root", "Proved / by pair", "Proved / by root"];
 
@@ -161,7 +227,7 @@ fn print_texts(maps: &[Map]) {
         row.extend(cells(times));
         rows.push(row);
     }
-    print_table("Text check", &[&["Map", "Bytes", "Pairs"], &COLUMNS[..]].concat(), &rows);
+    print_table(TEXT_CHECK, &[&["Map", "Bytes", "Pairs"], &COLUMNS[..]].concat(), &rows);
 }
 
 fn print_tables(maps: &[Map]) {
@@ -176,7 +242,7 @@ fn print_tables(maps: &[Map]) {
         row.extend(cells(times));
         rows.push(row);
     }
-    print_table("Comparison on tables", &[&["Map", "Pairs"], &COLUMNS[..]].concat(), &rows);
+    print_table(COMPARISON, &[&["Map", "Pairs"], &COLUMNS[..]].concat(), &rows);
 }
 
 /// Milliseconds from the start of a program to its end, the lowest of several.
@@ -214,7 +280,46 @@ fn print_programs(maps: &[Map]) {
         rows.push([vec![map.name.to_string(), text.len().to_string()], times.to_vec()].concat());
     }
     let names = ["Map", "Bytes", "Proved", "Rust by root", "Proved / by root"];
-    print_table("Whole program, its start included", &names, &rows);
+    print_table(PROGRAM, &names, &rows);
+}
+
+#[cfg(healdrip_library)]
+fn stack_of(text: &[u8]) -> Option<usize> {
+    let report = host::reference::text_check(text, usize::MAX).expect("the map is taken");
+    Some(host::stack::of_text_check(text, &mut vec![0; report.len()]))
+}
+
+#[cfg(not(healdrip_library))]
+fn stack_of(_text: &[u8]) -> Option<usize> {
+    None
+}
+
+fn print_stack(maps: &[Map]) {
+    let mut rows = Vec::new();
+    for map in maps {
+        let stack = stack_of(&map.text().expect("the map fits into a text"));
+        let stack = stack.map_or("-".to_string(), |bytes| bytes.to_string());
+        rows.push(vec![map.name.to_string(), map.pairs().to_string(), stack]);
+    }
+    print_table(STACK, &["Map", "Pairs", "Bytes of stack"], &rows);
+}
+
+/// Which maps are asked for, by a part of their names or of a table's title.
+struct Wanted {
+    part: String,
+    long: bool,
+}
+
+impl Wanted {
+    fn has(&self, title: &str, name: &str) -> bool {
+        title.contains(&self.part) || name.contains(&self.part)
+    }
+
+    /// Those of the maps that the table of that title has.
+    fn among(&self, title: &str, maps: impl IntoIterator<Item = Map>) -> Vec<Map> {
+        let wanted = |map: &Map| self.has(title, map.name) && (self.long || !map.long);
+        maps.into_iter().filter(wanted).collect()
+    }
 }
 
 /// The processor's name, how many there are, and how busy they are.
@@ -233,16 +338,17 @@ fn main() {
     let (options, names): (Vec<String>, Vec<String>) =
         std::env::args().skip(1).partition(|word| word.starts_with("--"));
     assert!(options.iter().all(|option| option == "--long"), "usage: bench [--long] [NAME]");
-    let long = !options.is_empty();
-    let wanted = names.first().cloned().unwrap_or_default();
-    let mut maps = maps();
-    maps.retain(|map| map.name.contains(&wanted) && (long || !map.long));
+    let part = names.first().cloned().unwrap_or_default();
+    let wanted = Wanted { part, long: !options.is_empty() };
     println!(
         "Machine: {}. Command: `./bench{}`. Times in milliseconds, the lowest of several runs.",
         machine(),
         std::env::args().skip(1).map(|word| format!(" {word}")).collect::<String>()
     );
-    print_texts(&maps);
-    print_tables(&maps);
-    print_programs(&maps);
+    let graphs = singles().into_iter().filter(|graph| wanted.has(ONE_GRAPH, graph.name));
+    print_singles(&graphs.collect::<Vec<_>>());
+    print_texts(&wanted.among(TEXT_CHECK, maps()));
+    print_tables(&wanted.among(COMPARISON, maps()));
+    print_programs(&wanted.among(PROGRAM, maps()));
+    print_stack(&wanted.among(STACK, deep_maps()));
 }

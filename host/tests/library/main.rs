@@ -11,6 +11,8 @@ mod generated;
 #[cfg(healdrip_library)]
 mod limits;
 #[cfg(healdrip_library)]
+mod stack;
+#[cfg(healdrip_library)]
 mod threads;
 
 #[cfg(not(healdrip_library))]

@@ -2,7 +2,7 @@
 
 use crate::asking::{check_room, Unlimited};
 use host::generate::{damaged, long_map, mixed_text, Random};
-use host::large::{connected, connected_beside_chain, narrow_maps};
+use host::large::{connected, connected_beside_chain, connected_beside_shared, narrow_maps};
 use host::reference::text_check;
 use std::panic::catch_unwind;
 use std::sync::atomic::{AtomicBool, Ordering};
@@ -13,7 +13,7 @@ const TEXTS: u64 = 24;
 const ROUNDS: usize = 60;
 const DEEP_ROUNDS: usize = 4;
 /// The library says that its call needs less than 1 MB of stack, and is given no more.
-const LIBRARY_STACK: usize = 1_000_000;
+pub const LIBRARY_STACK: usize = 1_000_000;
 /// For the start of a Rust thread and the test's calls above the library's, which take
 /// 5 to 9 KB. More would hide a library that takes more than it says.
 const TEST_STACK: usize = 1 << 14;
@@ -50,10 +50,12 @@ fn texts() -> Vec<Asked> {
     (0..TEXTS).map(text).collect()
 }
 
-/// Maps with many lines, many paths, many records and long paths, also all in one map.
+/// Maps with many lines, many paths, many records and long paths, also all in one map;
+/// in some the list of a node is kept, and a root goes past it along the paths.
 fn deep_texts() -> Vec<Asked> {
     let random = &mut Random::new(8_000_000);
-    let maps = COUNTS.map(connected_beside_chain).into_iter().chain(narrow_maps());
+    let maps = COUNTS.map(connected_beside_chain).into_iter();
+    let maps = maps.chain(COUNTS.map(connected_beside_shared)).chain(narrow_maps());
     maps.map(|map| asked(mixed_text(random, &map.tables))).collect()
 }
 
@@ -94,7 +96,10 @@ fn many_lines_and_long_paths_at_the_same_time() {
         let report = unlimited.as_ref().expect("the map is not refused");
         report.iter().filter(|&&byte| byte == b'\n').count()
     };
-    assert_eq!([0, 1, 2].map(|text| lines(&texts[text]) > HELD_LINES), [true, true, false]);
+    for maps in texts.chunks(COUNTS.len()).take(2) {
+        let in_parts: Vec<bool> = maps.iter().map(|text| lines(text) > HELD_LINES).collect();
+        assert_eq!(in_parts, [true, true, false]);
+    }
     // Refused after the report was measured, the report's own length, and more.
     let room = |length, thread| match thread % 4 {
         0 => length - 1,

@@ -9,7 +9,7 @@ use Rattle.model.specs.Calls.{compareAnswer}
 use Rattle.model.specs.Answers.{comparedAnswer}
 use Rattle.model.specs.declared.Compared.{Compared}
 use Rattle.compare.specs.Promises.{ComparePromise}
-use Rattle.benchcalls.specs.Summary.{summary}
+use Rattle.benchcalls.specs.Summary.{signed, summary}
 use borrow.Author.Needs.{needs}
 use Rattle.benchcalls.proofs.benchcalls_compare.Statement.{statement}
 use Rattle.benchcalls.proofs.benchcalls_compare.Tie as tie
@@ -35,14 +35,14 @@ refused-number-requires : tie.Need-refused-number-requires
 refused-number-requires c κs = search needs
 
 returns : tie.Need-returns
-unfolding summary
+unfolding signed
 returns c =
     let k = c .before .before in
     let fits : SFits w64 (c .packed-of .result) = search needs in
     toZ-ofZ fits ∙ promised _ _ _ (c .packed-of .ensures) (k .answer .given .1) (k .before .before .compare .ensures)
 
 returns-2 : tie.Need-returns-2
-unfolding summary
+unfolding signed
 returns-2 c =
     let k = c .before .before in
     let fits : SFits w64 (c .refused-number .result) = search needs in

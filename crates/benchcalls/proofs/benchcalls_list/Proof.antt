@@ -1,0 +1,30 @@
+-- The number of the answer that list promises, and the buffer that it leaves.
+use mathlib.Core.Path.{ap, _∙_}
+use mir.Syntax.{w64}
+use mir.Val.{SFits}
+use mir.Facts.{toZ-ofZ}
+use Rattle.benchcalls.specs.Summary.{written}
+use borrow.Author.Needs.{needs}
+use Rattle.benchcalls.proofs.benchcalls_list.Statement.{statement}
+use Rattle.benchcalls.proofs.benchcalls_list.Tie as tie
+
+list-requires : tie.Need-list-requires
+list-requires c κs = search needs
+
+written-number-requires : tie.Need-written-number-requires
+written-number-requires c κs = search needs
+
+same-length : tie.Need-same-length
+same-length c = search needs
+
+returns : tie.Need-returns
+returns c =
+    let s = c .before .before .before .before in
+    let fits : SFits w64 (c .written-number .result) = search needs in
+    let promise = c .before .before .list .ensures in (
+      toZ-ofZ fits ∙ c .written-number .ensures ∙ ap written (simp (toZ-ofZ, s .fits .root, s .fits .leaf) at (promise .answer)),
+      simp (toZ-ofZ, s .fits .root, s .fits .leaf) at (promise .buffer),
+    )
+
+pub benchcalls-list-spec : {M : Type 1} → statement M
+benchcalls-list-spec = tie.close (tie.spec list-requires written-number-requires same-length returns)

@@ -1,0 +1,51 @@
+-- Each case of the answer has its number; a count of 20 binary digits fits.
+use mathlib.Core.Path.{_≡_, sym, ap, _∙_}
+use lib.IntN.{pos}
+use mir.Syntax.{w64}
+use mir.Val.{SFits}
+use mir.Facts.{toZ-ofZ, toZ-pos}
+use native.Mathlib.Omega.{arith}
+use Rattle.model.specs.Answers.{writtenAnswer}
+use Rattle.benchcalls.specs.Summary.{signed, written}
+use borrow.Author.Needs.{needs}
+use Rattle.benchcalls.proofs.written_number.Statement.{statement}
+use Rattle.benchcalls.proofs.written_number.Tie as tie
+
+enum-known-given : tie.Need-enum-known-given
+enum-known-given c = search needs
+
+digits-of-requires : tie.Need-digits-of-requires
+digits-of-requires c κs = search needs
+
+cast-result : tie.Need-cast-result
+cast-result c = omega arith
+
+enum-known-given-2 : tie.Need-enum-known-given-2
+enum-known-given-2 c = search needs
+
+refused-number-requires : tie.Need-refused-number-requires
+refused-number-requires c κs = search needs
+
+returns : tie.Need-returns
+unfolding signed
+returns c =
+    toZ-pos w64 {n = c .digits-of .result} (omega arith) ∙ ap pos (c .digits-of .ensures)
+    ∙ ap (λ a. written (writtenAnswer a)) (sym (c .before .before .given .given .1))
+
+returns-2 : tie.Need-returns-2
+unfolding signed
+returns-2 c =
+    let fits : SFits w64 (c .refused-number .result) = search needs in
+    toZ-ofZ fits ∙ c .refused-number .ensures ∙ ap (λ a. written (writtenAnswer a)) (sym (c .before .before .given2 .given .1))
+
+pub written-number-spec : {M : Type 1} → statement M
+written-number-spec =
+    tie.close
+    (tie.spec
+    enum-known-given
+    digits-of-requires
+    cast-result
+    enum-known-given-2
+    refused-number-requires
+    returns
+    returns-2)

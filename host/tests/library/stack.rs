@@ -1,0 +1,22 @@
+//! How much stack the text check takes, measured on a painted one.
+
+use crate::threads::LIBRARY_STACK;
+use host::large::deep_maps;
+use host::reference::text_check;
+use host::stack;
+
+#[test]
+fn less_than_the_library_says() {
+    let taken = deep_maps().map(|map| {
+        let text = map.text().expect("the map fits into a text");
+        let report = text_check(&text, usize::MAX).expect("the map is not refused");
+        let mut buffer = vec![0; report.len()];
+        let taken = stack::of_text_check(&text, &mut buffer);
+        assert!(buffer == report, "{}", map.name);
+        assert!(taken < LIBRARY_STACK, "{} takes {taken} bytes", map.name);
+        taken
+    });
+    println!("bytes of stack: {taken:?}");
+    // A chain of 64 edges goes deeper than a hub, and past a kept list deeper still.
+    assert!(taken.is_sorted_by(|less, more| less < more), "{taken:?}");
+}

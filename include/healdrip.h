@@ -1,6 +1,6 @@
 /* The text check of Healdrip: a map file in, a report out.
  *
- * Link libhealdrip.a, which `rt staticlib healdrip` writes to target/staticlib/ (x86-64 Linux). */
+ * Link libhealdrip.a (x86-64 Linux), which `rt staticlib healdrip` writes to target/staticlib/ and `./install DIR` copies to DIR/lib/. */
 #ifndef HEALDRIP_H
 #define HEALDRIP_H
 
@@ -25,12 +25,28 @@ extern "C" {
  *   - they point to that many bytes, which may be read, and for report written;
  *   - the two do not overlap, and nothing else writes to them during the call.
  *
- * The call needs less than 1,000,000 bytes of stack (987,448 is the most that was measured) and nothing else: it allocates nothing, keeps nothing from call to
+ * The call needs less than 1,000,000 bytes of stack (989,904 is the most that was measured) and nothing else: it allocates nothing, keeps nothing from call to
  * call and calls no function of the C library but memset. It may be called from several threads at once. */
 int64_t healdrip_text_check(const uint8_t *text, size_t text_length, uint8_t *report, size_t report_length);
 
 #ifdef __cplusplus
 }
 #endif
+
+/* Number, table and row of the refusal that a code below 0 stands for, each an int. */
+#define HEALDRIP_NUMBER(code) ((int)(-(int64_t)(code) / 100000000))
+#define HEALDRIP_TABLE(code) ((int)(-(int64_t)(code) / 10000000 % 10))
+#define HEALDRIP_ROW(code) ((int)(-(int64_t)(code) % 10000000))
+
+/* How long a report on so many pairs (root pairs times leaf pairs) can be: with a buffer of this length there is no refusal with number 11. That is
+ * proved (docs/CLAIMS.md).
+ *   28  the names of the upper table
+ *   20  a pair's line: rows up to 999, a verdict of one digit, and two lists of up to 1024 records, since a pair has at most 1024 paths;
+ *       as "999 999 2 1024 1024". A pair with no record on either side has no line
+ *   51  the empty line and the names of the lower table
+ *   52  the last line: a verdict, counts up to 1000000, rows up to 999 and a bit address up to 2^55 - 1;
+ *       as "2 1000000 1000000 1000000 999 999 36028797018963967"
+ * Each line is counted with its line feed. */
+#define HEALDRIP_REPORT_LENGTH(pairs) ((size_t)28 + (size_t)20 * (size_t)(pairs) + 51 + 52)
 
 #endif

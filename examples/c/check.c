@@ -1,11 +1,12 @@
 /* Checks the map file that its argument names and prints the report, or the refusal.
- * Ends with 0 for a report, 1 for a refusal, 2 where it cannot read the file. */
+ * Ends with 0 for a report, 1 for a refusal, 2 where it cannot read the file or print. */
 #include <stdio.h>
 #include <stdlib.h>
 
 #include "healdrip.h"
 
-/* Bytes of the report buffer: a longer report is refused with number 11. */
+/* Bytes of the report buffer, as many as mapcheck has: a longer report is refused with number 11.
+ * Who knows the number of pairs takes HEALDRIP_REPORT_LENGTH(pairs), which is always enough. */
 #define REPORT_ROOM 65536
 
 /* Reads a whole file into memory that the caller frees; NULL where that fails. */
@@ -33,12 +34,6 @@ static uint8_t *read_file(const char *name, size_t *length) {
     return bytes;
 }
 
-/* Prints the refusal that a code stands for. */
-static void print_refusal(int64_t code) {
-    long long numbers = -code;
-    printf("refusal table row\n%lld %lld %lld\n", numbers / 100000000, numbers / 10000000 % 10, numbers % 10000000);
-}
-
 int main(int count, char **arguments) {
     static uint8_t report[REPORT_ROOM];
     size_t length = 0;
@@ -50,8 +45,13 @@ int main(int count, char **arguments) {
     int64_t code = healdrip_text_check(text, length, report, sizeof report);
     free(text);
     if (code < 0) {
-        print_refusal(code);
-        return 1;
+        printf("refusal table row\n%d %d %d\n", HEALDRIP_NUMBER(code), HEALDRIP_TABLE(code), HEALDRIP_ROW(code));
+    } else {
+        fwrite(report, 1, (size_t)code, stdout);
     }
-    return fwrite(report, 1, (size_t)code, stdout) == (size_t)code ? 0 : 2;
+    if (fflush(stdout) != 0 || ferror(stdout)) {
+        perror("standard output");
+        return 2;
+    }
+    return code < 0 ? 1 : 0;
 }

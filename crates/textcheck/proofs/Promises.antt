@@ -12,8 +12,8 @@ use Rattle.lists.specs.Lists.{_∈_}
 use Rattle.lists.proofs.Membership.{map-out}
 use lib.ListN.{length, drop}
 use Rattle.model.specs.Bytes.{Bytes, bytes, lineFeed, shown, spaced}
-use Rattle.model.specs.Compare.{Tables, Finding, Result, findings, resultOf}
-use Rattle.model.specs.Calls.{Answer, full, lengthOf, bufferAfter}
+use Rattle.model.specs.Compare.{Finding, findings, resultOf}
+use Rattle.model.specs.Calls.{Answer, lengthOf, bufferAfter}
 use Rattle.model.specs.MapFile.{feeds}
 use Rattle.model.specs.Report.{lineOf, findingLine, report, resultLine}
 use Rattle.model.specs.TextCheck.{reportedOf, textAnswer, reportOf, textGives, textAfter}
@@ -25,47 +25,49 @@ use Rattle.textcheck.specs.Promises.{LastLine, TextPromise}
 
 -- ---- the last line
 
--- bytes without a line feed add no line
-lacking-feeds : (b t : Bytes) → Lacks lineFeed b → feeds (b ++ t) ≡ feeds t
+-- bytes that lack line feeds have none
+lacking-feeds : (b : Bytes) → Lacks lineFeed b → feeds b ≡ 0
 unfolding feeds
-lacking-feeds [] t h = refl
-lacking-feeds (c ∷ b) t h = go (eqb c lineFeed) (eq? c lineFeed) (lacking-feeds b t (λ m. h (List·Memᴰ·tail m)))
+lacking-feeds [] h = refl
+lacking-feeds (c ∷ b) h = go (eqb c lineFeed) (eq? c lineFeed) (lacking-feeds b (λ m. h (List·Memᴰ·tail m)))
   where
-    go : (e : Bool) → Test (c ≡ lineFeed) (c ≢ lineFeed) e → feeds (b ++ t) ≡ feeds t → cond e (suc (feeds (b ++ t))) (feeds (b ++ t)) ≡ feeds t
+    go : (e : Bool) → Test (c ≡ lineFeed) (c ≢ lineFeed) e → feeds b ≡ 0 → cond e (suc (feeds b)) (feeds b) ≡ 0
     go true (passed e) rest = absurd (h (List·Memᴰ·head (sym e)))
     go false (failed n) rest = rest
 
--- a line of numbers is one line
-line-single : (vs : List ℤ) → feeds (lineOf vs) ≡ 1
-unfolding lineOf feeds
-line-single vs = lacking-feeds (spaced (map shown vs)) (lineFeed ∷ []) lacks
+-- numbers with spaces between them are within one line
+numbers-single : (vs : List ℤ) → feeds (spaced (map shown vs)) ≡ 0
+numbers-single vs = lacking-feeds (spaced (map shown vs)) lacks
   where
     lacks : Lacks lineFeed (spaced (map shown vs))
     lacks m = ⊎-elim (λ e. omega arith) (λ w. let v = map-out shown vs (w .1) in word-lacks-feed (rw (v .2) (shown-word (v .0))) (w .2)) (spaced-out lineFeed (map shown vs) m)
-
-result-single : (res : Result) → feeds (resultLine res) ≡ 1
-unfolding resultLine
-result-single res = line-single _
 
 -- the names above the result line, and the line feed that ends them
 names-end : bytes "\nverdict equal partial different root leaf address\n" ≡ bytes "\nverdict equal partial different root leaf address" ++ (lineFeed ∷ [])
 unfolding bytes
 names-end = refl
 
--- the report's last line states the result
-pub report-ends : (fs : List Finding) → LastLine (report fs) (resultLine (resultOf fs))
-unfolding report
-report-ends fs =
+-- what begins behind the names is a line of numbers, and the last
+names-before : (fs : List Finding) (vs : List ℤ) → resultLine (resultOf fs) ≡ lineOf vs → LastLine (report fs) (resultLine (resultOf fs))
+unfolding report lineOf
+names-before fs vs e =
     let names = bytes "root leaf verdict spec impl\n" in
     let lines = flatMap findingLine fs in
     let above = bytes "\nverdict equal partial different root leaf address" in
     let line = resultLine (resultOf fs) in
     record {
       upper = names ++ lines ++ above;
-      ends = ap (λ (b : Bytes). names ++ lines ++ b ++ line) names-end ∙ ap (λ (b : Bytes). b ++ line) (sym (append-assoc (names ++ lines) above (lineFeed ∷ [])))
+      words = spaced (map shown vs);
+      begins = ap (λ (b : Bytes). names ++ lines ++ b ++ line) names-end ∙ ap (λ (b : Bytes). b ++ line) (sym (append-assoc (names ++ lines) above (lineFeed ∷ [])))
           ∙ append-assoc (names ++ lines ++ above) (lineFeed ∷ []) line;
-      single = result-single (resultOf fs);
+      ends = e;
+      single = numbers-single vs;
     }
+
+-- the report's last line states the result
+pub report-ends : (fs : List Finding) → LastLine (report fs) (resultLine (resultOf fs))
+unfolding resultLine
+report-ends fs = names-before fs _ refl
 
 -- ---- the promise
 

@@ -1,6 +1,6 @@
 -- What a call that checks a text promises. Assumes nothing.
 use mathlib.Core.Path.{_≡_}
-use mathlib.Core.List.{_∷_, _++_}
+use mathlib.Core.List.{[], _∷_, _++_}
 use Prim.Native.Nat.{ℕ}
 use lib.ListN.{length, drop}
 use Rattle.model.specs.Bytes.{Bytes, lineFeed}
@@ -13,11 +13,13 @@ use Rattle.model.specs.Report.{report, resultLine}
 use Rattle.model.specs.TextCheck.{reportConditions, textGives, textAfter}
 use Rattle.model.specs.Demands.{Demand3}
 
--- the last line of the whole is this one: it begins behind a line feed, and has one line feed, at its end
+-- the last line of the whole is this one: it begins behind a line feed, ends with one, and has no other
 pub record LastLine (whole line : Bytes) : Type 0 where
   pub upper : Bytes
-  pub ends : whole ≡ upper ++ lineFeed ∷ line
-  pub single : feeds line ≡ 1
+  pub words : Bytes
+  pub begins : whole ≡ upper ++ lineFeed ∷ line
+  pub ends : line ≡ words ++ (lineFeed ∷ [])
+  pub single : feeds words ≡ 0
 
 -- the buffer holds the report of exactly these tables, past it what it held before, and demand 3 holds of the result that the report's
 -- last line states

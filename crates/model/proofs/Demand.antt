@@ -1,30 +1,35 @@
 -- Demand 3 holds of every full result of compare: the counts, the whole verdict, the first unequal pair and its lowest address say of the
--- reached sets of the two graphs what they report.
+-- reached sets of the two graphs what they report. And a pair is partial exactly where its
+-- reached sets are: `partial-by-walks`.
 use mathlib.Core.Path.{_≡_, refl, sym, ap, _∙_, subst}
-use mathlib.Core.List.{List, [], _∷_, map, map-map, List·Memᴰ·head, List·Memᴰ·tail}
+use mathlib.Core.List.{List, [], _∷_, map, map-map, List·Memᴰ·head, List·Memᴰ·tail, List·Memᴰ·not-nil}
 use mathlib.Core.Logic.{_≢_, _⊎_, inl, inr, _↔_, Iff·trans, Iff·symm}
 use mathlib.Core.Option.{Option, none, some}
 use Prim.Native.Nat.{ℕ, _+_, _*_, _≤_}
-use lib.IntN.{ℤ}
-use lib.Signed.{_<ℤ_}
+use native.Mathlib.Omega.{arith}
+use lib.IntN.{ℤ, _-ℤ_}
+use lib.Signed.{_≤ℤ_, _<ℤ_}
 use lib.ListN.{length, length-map}
+use Rattle.integers.proofs.Linear.{ints}
 use Rattle.lists.specs.Lists.{_∈_}
 use Rattle.lists.proofs.Membership.{map-in, map-out}
 use Rattle.lists.proofs.Decisions.{test-stable}
 use Rattle.model.specs.Rows.{Pair}
-use Rattle.model.specs.Bitmapping.{Record}
+use Rattle.model.specs.Bitmapping.{Record, IsBitmappingList}
 use Rattle.model.specs.Runs.{listOf}
 use Rattle.model.specs.Verdicts.{verdict, lowest}
 use Rattle.model.specs.Compare.{Tables, specGraph, implGraph, rootRows, leafRows, Visit, visits, Finding, findingOf, findings, verdictOf, count, largest, firstUnequal, placeOf, Result, resultOf}
 use Rattle.model.specs.Refusals.{Refusal, NoneHolds, compareConditions}
 use Rattle.model.specs.Checks.{checkTables}
 use Rattle.model.specs.Calls.{full, answer, compareAnswer}
-use Rattle.model.specs.Demands.{Address, InSpec, InImpl, SameSets, SetsDiffer, VisitedBefore, inOrder, VerdictsOfPairs, FirstDifference, Demand3}
+use Rattle.model.specs.Demands.{Address, InSpec, InImpl, SameSets, SetsDiffer, VisitedBefore, inOrder, VerdictsOfPairs, FirstDifference, Demand3, PartialPair, PartialByWalks, MissingFrom}
 use Rattle.model.proofs.Paths.{Fit}
+use Rattle.model.proofs.Records.{has-at}
 use Rattle.model.proofs.Walks.{reached-address}
-use Rattle.model.proofs.Verdicts.{verdict-equal, verdict-range, rules-unique}
+use Rattle.model.proofs.Verdicts.{verdict-equal, verdict-partial, verdict-range, rules-unique}
+use Rattle.model.proofs.Containment.{contained-within}
 use Rattle.model.proofs.Lowest.{HasSome, DifferOn, DifferAt, lowest?, lowest-agrees}
-use Rattle.model.proofs.ListLaw.{list-only, list-reached, list-same}
+use Rattle.model.proofs.ListLaw.{list-of-reached, list-only, list-reached, list-same}
 use Rattle.model.proofs.Taken.{taken-fit, taken-address}
 use Rattle.model.proofs.Visits.{Ascends, ascends-map, ascends-ahead, pairs-ascending, VisitBefore, visit-before-asym, visits-in, visits-ascending, visits-length}
 use Rattle.model.proofs.Folds.{counts-total, largest-equal, FirstUnequal, first-unequal-in, FirstFound, first-unequal, place-none}
@@ -36,6 +41,11 @@ specList t r l = listOf (specGraph t) (r .spec) (l .spec)
 
 abbrev implList : Tables → Pair → Pair → List Record
 implList t r l = listOf (implGraph t) (r .impl) (l .impl)
+
+-- a list that is not empty has a record
+list-some : (l : List Record) → l ≢ [] → (s : Record) × (s ∈ l)
+list-some [] n = absurd (n refl)
+list-some (s ∷ l) n = (s, List·Memᴰ·head refl)
 
 -- a is the lowest address at which the sets of a pair differ
 record LowestDifference (t : Tables) (r l : Pair) (a : ℤ) : Type 0 where
@@ -84,6 +94,39 @@ module _ {t : Tables} (c : Comparable t) {r l : Pair} (p : r ∈ rootRows t) (q 
   -- the verdict on a pair is 0 exactly where its sets are the same everywhere
   pair-equal : (verdict (specList t r l) (implList t r l) ≡ 0) ↔ ((x : ℤ) → SameSets t r l x)
   pair-equal = Iff·trans (verdict-equal (specList t r l) (implList t r l)) (list-same spec-fit impl-fit)
+
+  -- the verdict on a pair is 1 exactly where it is partial by walks
+  pair-partial : (verdict (specList t r l) (implList t r l) ≡ 1) ↔ PartialPair t r l
+  pair-partial = Iff·trans (verdict-partial spec impl) (
+    λ p.
+        let (s, m) = list-some impl (p .some) in
+        record {
+          within = λ x y w. list-reached spec-fit x y .1 (contained-within specList-is implFull .0 (p .each) x y (list-reached impl-fit x y .0 w));
+          some = (s .first, s .first -ℤ s .displacement, list-reached impl-fit (s .first) (s .first -ℤ s .displacement) .1 (s, m, has-at s (s .first) (omega (arith, ints)) (implFull s m)));
+          unequal = λ same. p .unequal (list-same spec-fit impl-fit .1 same);
+        },
+    λ p.
+        record {
+          unequal = λ e. p .unequal (list-same spec-fit impl-fit .0 e);
+          some = λ e. nothing e (list-reached impl-fit (p .some .0) (p .some .1) .0 (p .some .2));
+          each = contained-within specList-is implFull .1 (λ x y w. list-reached spec-fit x y .0 (p .within x y (list-reached impl-fit x y .1 w)));
+        },
+  )
+    where
+      spec : List Record
+      spec = specList t r l
+
+      impl : List Record
+      impl = implList t r l
+
+      specList-is : IsBitmappingList (specGraph t) (r .spec) (l .spec) spec
+      specList-is = list-of-reached spec-fit
+
+      implFull : (s : Record) → s ∈ impl → s .first ≤ℤ s .last
+      implFull = list-of-reached impl-fit .full
+
+      nothing : {x y : ℤ} → impl ≡ [] → HasSome impl x y → ⊥
+      nothing e w = List·Memᴰ·not-nil (subst (λ (m : List Record). w .0 ∈ m) e (w .1))
 
   -- where the verdict on a pair is not 0, the reported address is the lowest at which its sets differ
   pair-lowest : verdict (specList t r l) (implList t r l) ≢ 0 → LowestDifference t r l (lowest (specList t r l) (implList t r l))
@@ -247,3 +290,23 @@ result-demand {t} c =
 -- demand 3 holds of every full result of compare
 pub demand3 : (t : Tables) → NoneHolds (compareConditions t) → (res : Result) → compareAnswer t ≡ full res → Demand3 t res
 demand3 t h res e = let q : resultOf (findings t) ≡ res = cc (compare-full t h) in subst (Demand3 t) q (result-demand (compare-comparable t h))
+
+-- partial by walks: of tables that compare refuses for nothing, the verdict on a pair is 1 exactly where all that the implementation reaches the
+-- specification reaches, the implementation reaches something, and the two do not agree everywhere
+pub partial-by-walks : (t : Tables) → NoneHolds (compareConditions t) → PartialByWalks t
+unfolding findingOf verdictOf
+partial-by-walks t h r l p q = pair-partial (compare-comparable t h) p q
+
+-- the lowest address at which the sets of a partial pair differ is the lowest from which something specified is not reached
+pub partial-lowest : {t : Tables} {r l : Pair} {x : ℤ} → PartialPair t r l → SetsDiffer t r l x → ((z : ℤ) → z <ℤ x → SameSets t r l z)
+    → MissingFrom t r l x
+partial-lowest p (y, inl (w, n)) below = record { leafBit = y; specified = w; missing = n; below = below }
+partial-lowest {x} p (y, inr (n, w)) below = absurd (n (p .within x y w))
+
+-- of a partial pair there is such an address
+pub partial-missing : (t : Tables) → NoneHolds (compareConditions t) → (r l : Pair) → r ∈ rootRows t → l ∈ leafRows t → PartialPair t r l
+    → (x : ℤ) × MissingFrom t r l x
+partial-missing t h r l m n p =
+    let c = compare-comparable t h in
+    let low = pair-lowest c m n (λ e. p .unequal (pair-equal c m n .0 e)) in
+    (lowest (specList t r l) (implList t r l), partial-lowest p (low .differs) (low .below))

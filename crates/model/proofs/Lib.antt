@@ -8,6 +8,7 @@ pub mod Uniqueness
 pub mod Normalisation
 pub mod Verdicts
 pub mod Lowest
+pub mod Containment
 pub mod ListLaw
 pub mod Chains
 pub mod Settled

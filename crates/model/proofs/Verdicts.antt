@@ -6,11 +6,12 @@ use mathlib.Core.List.{List, [], _∷_}
 use Prim.Native.Nat.{ℕ, _≤_}
 use native.Mathlib.Omega.{arith}
 use lib.Dec.{T}
+use Rattle.integers.proofs.Linear.{ints, diff}
 use Rattle.integers.proofs.Tests.{Test, passed, failed, eqZ?}
-use Rattle.lists.specs.Lists.{_∈_, any, all, isNil}
+use Rattle.lists.specs.Lists.{_∈_, isNil}
 use Rattle.model.specs.Bitmapping.{Record}
-use Rattle.model.specs.Verdicts.{firstLeafBit, lastLeafBit, Contained, Partly, Rules, equal, partial, different, sameRecord, sameList, contained, verdict}
-use Rattle.model.proofs.Records.{record-path}
+use Rattle.model.specs.Verdicts.{Contained, Partly, Rules, equal, partial, different, sameRecord, sameList, contained, allContained, verdict}
+use Rattle.model.proofs.Records.{record-path, Within}
 use Rattle.lists.proofs.Decisions.{Decides, test-map, not?, decides-iff, decides-as, decides-and, decides-le, decides-nil, all?, any?}
 
 -- ---- the tests
@@ -35,25 +36,37 @@ sameList? (r ∷ q) (s ∷ t) = decides-as (λ p. (λ i. p .0 i ∷ p .1 i), λ 
 pub same-list : (l m : List Record) → T (sameList l m) ↔ (l ≡ m)
 same-list l m = decides-iff (sameList? l m)
 
+-- one record is contained in the other where it lies within it: with equal displacements the leaf bits are contained where the root bits are
+pub contained-is : (r s : Record) → Contained r s ↔ Within r s
+contained-is r s = (
+  λ c. record { same = c .displacement; first = c .rootLow; last = c .rootHigh },
+  λ w. record {
+    rootLow = w .first;
+    rootHigh = w .last;
+    leafLow = omega (arith, ints, w .same, w .first, diff (r .first) (r .displacement), diff (s .first) (s .displacement));
+    leafHigh = omega (arith, ints, w .same, w .last, diff (r .last) (r .displacement), diff (s .last) (s .displacement));
+    displacement = w .same;
+  },
+)
+
 -- contained decides whether one record is contained in the other
 pub contained? : (r s : Record) → Test (Contained r s) (Contained r s → ⊥) (contained r s)
 unfolding contained
 contained? r s =
     decides-as (
-      λ p. record { rootLow = p .0 .0 .0; rootHigh = p .0 .0 .1; leafLow = p .0 .1; leafHigh = p .1 },
-      λ c. (((c .rootLow, c .rootHigh), c .leafLow), c .leafHigh),
+      λ p. contained-is r s .1 (record { same = p .0 .0; first = p .0 .1; last = p .1 }),
+      λ c. ((c .displacement, c .rootLow), c .rootHigh),
     )
-    (decides-and
-    (decides-and (decides-and (decides-le (s .first) (r .first)) (decides-le (r .last) (s .last))) (decides-le (firstLeafBit s) (firstLeafBit r)))
-    (decides-le (lastLeafBit r) (lastLeafBit s)))
+    (decides-and (decides-and (eqZ? (r .displacement) (s .displacement)) (decides-le (s .first) (r .first))) (decides-le (r .last) (s .last)))
 
 -- the test of each implementation record decides whether each is contained in one specification record
-each? : (spec impl : List Record) → Decides ((r : Record) → r ∈ impl → (s : Record) × (s ∈ spec) × Contained r s) (all (λ r. any (contained r) spec) impl)
+pub each? : (spec impl : List Record) → Decides ((r : Record) → r ∈ impl → (s : Record) × (s ∈ spec) × Contained r s) (allContained spec impl)
+unfolding allContained
 each? spec impl =
     test-map (λ h. h) (λ w h. let c = h (w .0) (w .1) in w .2 (c .0) (c .1) (c .2)) (all? (λ r. any? (contained? r) spec) impl)
 
 -- for unequal lists, the second test of the verdict decides whether they are partly equal
-partly? : (spec impl : List Record) → spec ≢ impl → Decides (Partly spec impl) (not (isNil impl) && all (λ r. any (contained r) spec) impl)
+partly? : (spec impl : List Record) → spec ≢ impl → Decides (Partly spec impl) (not (isNil impl) && allContained spec impl)
 partly? spec impl n =
     decides-as (λ p. record { unequal = n; some = p .0; each = p .1 }, λ p. (p .some, p .each))
     (decides-and (test-map (λ h. h) (λ e k. k e) (not? (decides-nil impl))) (each? spec impl))
@@ -66,7 +79,7 @@ unfolding verdict
 verdict-rules spec impl = first (sameList spec impl) (sameList? spec impl)
   where
     contains : Bool
-    contains = not (isNil impl) && all (λ r. any (contained r) spec) impl
+    contains = not (isNil impl) && allContained spec impl
 
     second : (b : Bool) → spec ≢ impl → Decides (Partly spec impl) b → Rules spec impl (cond b 1 2)
     second true n (passed p) = partial p

@@ -1,4 +1,5 @@
--- Demand 3, as one statement about two graphs, a pairing and a full result, by walks of single addresses. Assumes nothing.
+-- Demand 3, as one statement about two graphs, a pairing and a full result, and what partial says of a pair: both by walks of single addresses.
+-- Assumes nothing.
 use mathlib.Core.Path.{_≡_}
 use mathlib.Core.Logic.{_≢_, _⊎_, _↔_}
 use mathlib.Core.List.{List, map}
@@ -12,7 +13,7 @@ use Rattle.model.specs.Rows.{Pair}
 use Rattle.model.specs.Walk.{Reached}
 use Rattle.model.specs.Bitmapping.{Record, IsBitmappingList}
 use Rattle.model.specs.Verdicts.{Rules}
-use Rattle.model.specs.Compare.{Tables, specGraph, implGraph, rootRows, leafRows, Visit, visits, count, largest, Place, nowhere, Result}
+use Rattle.model.specs.Compare.{Tables, specGraph, implGraph, rootRows, leafRows, Visit, visits, findingOf, verdictOf, count, largest, Place, nowhere, Result}
 
 -- a bit address from 0 to 2^55 − 1
 pub record Address (x : ℤ) : Type 0 where
@@ -77,3 +78,23 @@ pub record Demand3 (t : Tables) (res : Result) : Type 0 where
   pub unequal : res .verdict ≢ 0 → FirstDifference t res
   -- where the graphs are reported equal, no place is
   pub none : res .verdict ≡ 0 → res .place ≡ nowhere
+
+-- ---- partial by walks
+
+-- every leaf bit that the implementation reaches from a root bit the specification reaches from that root bit too, the implementation reaches
+-- something, and the two do not agree everywhere
+pub record PartialPair (t : Tables) (r l : Pair) : Type 0 where
+  pub within : (x y : ℤ) → InImpl t r l x y → InSpec t r l x y
+  pub some : (x : ℤ) × (y : ℤ) × InImpl t r l x y
+  pub unequal : ((x : ℤ) → SameSets t r l x) → ⊥
+
+-- the verdict on a pair is partial exactly where that holds of it
+abbrev pub PartialByWalks : Tables → Type 0
+PartialByWalks t = (r l : Pair) → r ∈ rootRows t → l ∈ leafRows t → (verdictOf (findingOf t (record { root = r; leaf = l })) ≡ 1) ↔ PartialPair t r l
+
+-- x is the lowest root bit from which something specified is not reached; below it both reach the same
+pub record MissingFrom (t : Tables) (r l : Pair) (x : ℤ) : Type 0 where
+  pub leafBit : ℤ
+  pub specified : InSpec t r l x leafBit
+  pub missing : InImpl t r l x leafBit → ⊥
+  pub below : (z : ℤ) → z <ℤ x → SameSets t r l z

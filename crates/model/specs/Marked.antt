@@ -98,7 +98,7 @@ text3 =
     "side kind base range unit\n0 0 0 4096 8\n0 2 256 64 8\n1 0 0 4096 8\n1 0 0 32 32\n1 2 0 16 32\n\nside from to offset\n0 0 1 0\n1 0 1 64\n1 1 2 -8\n\nrole spec impl\n0 0 0\n1 1 2\n"
 
 abbrev pub report3 : String
-report3 = "root leaf verdict spec impl\n0 0 1 1 1\n\nverdict equal partial different root leaf address\n1 0 1 0 0 0 2048\n"
+report3 = "root leaf verdict spec impl\n0 0 2 1 1\n\nverdict equal partial different root leaf address\n2 0 0 1 0 0 2048\n"
 
 abbrev pub refusal : {A : Type 0} → ℕ → ℕ → ℕ → Answer A
 refusal n t r = refused (record { number = n; table = t; row = r })
@@ -117,7 +117,8 @@ p2 =
     ∷ lists (implNodes 32) (implEdges (pos 0)) (pos 0) (pos 2) 3 (full (rec 2048 2559 2048 ∷ []))
     ∷ []
 
--- P3: P2 with last edge offset −8: record 2048, 2303, 1792
+-- P3: P2 with last edge offset −8: record 2048, 2303, 1792. The specification's record contains its bits and has another displacement: different
+-- (document 02, item 1)
 abbrev pub p3 : List Case
 p3 = prints text3 report3 ∷ lists (implNodes 32) (implEdges (negsuc 7)) (pos 0) (pos 2) 3 (full (rec 2048 2303 1792 ∷ [])) ∷ []
 

@@ -19,12 +19,14 @@ firstLeafBit r = r .first -ℤ r .displacement
 abbrev pub lastLeafBit : Record → ℤ
 lastLeafBit r = r .last -ℤ r .displacement
 
--- the root bits of r are contained in the root bits of s, and its leaf bits in the leaf bits of s (003, II)
+-- the root bits of r are contained in the root bits of s, its leaf bits in the leaf bits of s (003, II), and its displacement is that of s
+-- (document 02, item 1; 000, 4.2 no. 2: equal address alignment)
 pub record Contained (r s : Record) : Type 0 where
   pub rootLow : s .first ≤ℤ r .first
   pub rootHigh : r .last ≤ℤ s .last
   pub leafLow : firstLeafBit s ≤ℤ firstLeafBit r
   pub leafHigh : lastLeafBit r ≤ℤ lastLeafBit s
+  pub displacement : r .displacement ≡ s .displacement
 
 -- partial: not equal, the implementation's list is not empty, and each of its records is contained in one specification record
 pub record Partly (spec impl : List Record) : Type 0 where
@@ -51,14 +53,17 @@ sameList [] (s ∷ t) = false
 sameList (r ∷ q) [] = false
 sameList (r ∷ q) (s ∷ t) = sameRecord r s && sameList q t
 
--- r is contained in s
+-- r is contained in s: it has the displacement of s, and its root bits are contained in those of s, and so its leaf bits
 unfoldable pub contained : Record → Record → Bool
-contained r s =
-    leZ (s .first) (r .first) && leZ (r .last) (s .last) && leZ (firstLeafBit s) (firstLeafBit r) && leZ (lastLeafBit r) (lastLeafBit s)
+contained r s = eqZ (r .displacement) (s .displacement) && leZ (s .first) (r .first) && leZ (r .last) (s .last)
+
+-- each implementation record is contained in one specification record
+unfoldable pub allContained : List Record → List Record → Bool
+allContained spec impl = all (λ r. any (contained r) spec) impl
 
 -- the verdict on the lists of specification and implementation
 unfoldable pub verdict : List Record → List Record → ℕ
-verdict spec impl = cond (sameList spec impl) 0 (cond (not (isNil impl) && all (λ r. any (contained r) spec) impl) 1 2)
+verdict spec impl = cond (sameList spec impl) 0 (cond (not (isNil impl) && allContained spec impl) 1 2)
 
 -- ---- the lowest differing bit address
 

@@ -1,3 +1,4 @@
+pub mod Records
 pub mod Sorted
 pub mod Merging
 pub mod Touching

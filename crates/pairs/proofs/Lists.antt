@@ -1,35 +1,35 @@
--- The list of a pair along a swept graph: none where there is no path, its records are small, and what stands in front of a work area is a normal
--- list.
+-- The list of a pair along a swept graph: none where there is no path, its records are small, and what stands in front of a work area is a list of
+-- such.
 use mathlib.Core.Path.{_≡_, refl, sym, ap, _∙_}
 use mathlib.Core.Bool.{not}
 use mathlib.Core.List.{List, [], _∷_, map}
-use Prim.Native.Nat.{ℕ, _*_, _≤_, _<_, _^_}
+use Prim.Native.Nat.{ℕ, _*_, _≤_, _<_}
 use native.Mathlib.Omega.{arith}
 use lib.IntN.{ℤ, pos, _-ℤ_}
 use lib.Signed.{_≤ℤ_}
 use lib.ListN.{length, getD, drop, length-append, length-map, length-take}
-use Rattle.integers.proofs.Linear.{ints, sum, diff, neg}
+use Rattle.integers.proofs.Linear.{ints}
 use Rattle.lists.specs.Lists.{keep}
 use Rattle.lists.proofs.Kept.{keep-length}
-use Rattle.model.specs.Limits.{maxPaths}
-use Rattle.model.specs.Graph.{Graph, graphOf, NodeRow, node, firstBit}
-use Rattle.model.specs.Walk.{Reached}
+use Rattle.model.specs.Limits.{maxPaths, lastAddress}
+use Rattle.model.specs.Graph.{Graph, graphOf, NodeRow, node}
 use Rattle.model.specs.Paths.{Leaf}
 use Rattle.model.specs.Bitmapping.{Record}
-use Rattle.model.specs.Quantities.{Movable}
 use Rattle.model.specs.Runs.{whole, empty, along, paths, runs, recordOf, normal, listOf}
 use Rattle.model.specs.Calls.{numbersOf}
 use Rattle.model.specs.Taken.{Taken}
 use Rattle.model.proofs.Normalisation.{normal-length}
-use Rattle.model.proofs.Taken.{taken-fit, taken-address, taken-node-full}
-use Rattle.model.proofs.Walks.{reached-address, reached-leaf-bit}
+use Rattle.model.proofs.Records.{has-at}
+use Rattle.model.proofs.Taken.{taken-fit, taken-address}
+use Rattle.model.proofs.Walks.{reached-address}
 use Rattle.model.proofs.ListLaw.{list-of-reached}
 use Rattle.reach.specs.Counting.{pathCount, stopped, countsOf, countsOver, valuesOf}
 use Rattle.reach.proofs.Values.{values-length}
 use Rattle.reach.proofs.Reaching.{count-at}
 use Rattle.sharing.specs.declared.Shared.{Shared}
-use Rattle.verdicts.specs.Records.{SmallRecords, NormalList, recordsOf}
-use Rattle.verdicts.proofs.Records.{recordsOf-front, stored-normal}
+use Rattle.normalisation.specs.Records.{recordsOf}
+use Rattle.normalisation.proofs.Records.{recordsOf-front, stored-normal}
+use Rattle.verdicts.specs.Records.{SmallRecords, SmallList}
 use Rattle.pairs.specs.Inputs.{FewPaths, ListReady}
 use Rattle.pairs.specs.Found.{Listed}
 
@@ -90,30 +90,14 @@ module _ {ns es : List ℤ} {root : ℕ} {leaf : ℤ} {counts head next : List �
 -- ---- the records of a list
 
 module _ {g : Graph} {r l : ℤ} (k : Taken g) (root : NodeRow g r) (leaf : Leaf g l) where
-  -- a root bit that is reached, and its leaf bit, are below 2^55
-  reached-small : {x y d : ℤ} → Reached g r l x y → x -ℤ y ≡ d → Movable x d
-  reached-small {x} {y} {d} h e =
-      let at = taken-address k root (reached-address h) in
-      let first = firstBit (node g l) in
-      let stands = reached-leaf-bit h in
-      let bit = taken-address k (leaf .row) stands in
-      let zero = taken-address k (leaf .row) (record { above = omega (arith, ints); below = taken-node-full k (leaf .row) }) in
-      record {
-        low = at .0;
-        high = omega (arith, ints, at .1);
-        offsetLow = omega (arith, ints, at, bit, zero, e, diff x y, sum y first, neg (pos (2 ^ 62)));
-        offsetHigh = omega (arith, ints, at, bit, stands .above, e, diff x y, sum y first);
-      }
-
-  -- the records of the bitmapping list are small
+  -- the records of the bitmapping list are small: the root bits that they have are addresses of the root
   pub list-small : SmallRecords (listOf g r l)
   list-small s m =
       let list = list-of-reached (taken-fit k leaf) in
       let full = list .full s m in
-      let at : (x : ℤ) → s .first ≤ℤ x → x ≤ℤ s .last → Movable x (s .displacement) = λ x a b.
-      let e : x -ℤ (x -ℤ s .displacement) ≡ s .displacement = omega (arith, ints, diff x (x -ℤ s .displacement), diff x (s .displacement)) in
-      reached-small (list .sound s m x (x -ℤ s .displacement) (record { above = a; below = b; apart = e })) e in
-      record { first = at (s .first) (omega (arith, ints)) full; last = at (s .last) full (omega (arith, ints)) }
+      let bit : (x : ℤ) → s .first ≤ℤ x → x ≤ℤ s .last → (pos 0 ≤ℤ x) × (x ≤ℤ lastAddress) = λ x a b.
+      taken-address k root (reached-address (list .sound s m x (x -ℤ s .displacement) (has-at s x a b))) in
+      record { low = bit (s .first) (omega (arith, ints)) full .0; full = full; high = omega (arith, ints, bit (s .last) full (omega (arith, ints)) .1) }
 
 -- ---- lists in work areas
 
@@ -130,11 +114,17 @@ listed-records {work} {n} p = recordsOf-front work n (sym (p .count)) (p .number
 module _ {ns es : List ℤ} {root leaf : ℕ} {counts head next : List ℕ} {offsets windows : List ℤ} {shared : Shared} {kept w e : List ℤ}
     (p : ListReady ns es (pos root) (pos leaf) counts head next offsets windows shared kept w e)
   where
-    -- the bitmapping list in front of a work area is a normal list there
-    pub listed-normal : {work : List ℤ} {n : ℕ} → Listed (listOf (graphOf ns es) (pos root) (pos leaf)) work n → NormalList work n
-    listed-normal {work} {n} q =
+    -- the bitmapping list in front of a work area is a list of small records there
+    pub listed-small : {work : List ℤ} {n : ℕ} → Listed (listOf (graphOf ns es) (pos root) (pos leaf)) work n → SmallList work n
+    listed-small {work} {n} q =
         let k = p .swept .linked in
         let list = listOf (graphOf ns es) (pos root) (pos leaf) in
         let within : 3 * n ≤ length work = omega (arith, ap length (q .numbers), length-take (3 * n) work, numbers-count list, q .count) in
-        stored-normal work n within (sym (q .count)) (q .numbers) (list-of-reached (taken-fit (k .tables .graph) (k .block)))
-        (list-small (k .tables .graph) (p .row) (k .block))
+        record {
+          list = stored-normal work n within (sym (q .count)) (q .numbers) (list-of-reached (taken-fit (k .tables .graph) (k .block)));
+          small = rw (listed-records q) (list-small (k .tables .graph) (p .row) (k .block));
+        }
+
+    -- and has at most 1,024 records
+    pub listed-few : {work : List ℤ} {n : ℕ} → Listed (listOf (graphOf ns es) (pos root) (pos leaf)) work n → n ≤ maxPaths
+    listed-few q = omega (arith, q .count, list-few (graphOf ns es) (pos root) (pos leaf) (p .few))

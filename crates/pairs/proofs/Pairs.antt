@@ -10,7 +10,7 @@ use Rattle.model.specs.Limits.{pairWidth, maxPaths}
 use Rattle.model.specs.Runs.{listOf}
 use Rattle.model.specs.Compare.{Tables, specGraph, implGraph, rootRows, leafRows, findingOf}
 use Rattle.model.proofs.Visits.{visits-in}
-use Rattle.verdicts.specs.Records.{recordsOf}
+use Rattle.normalisation.specs.Records.{recordsOf}
 use Rattle.pairing.specs.Pairs.{pairAt}
 use Rattle.sharing.specs.declared.Shared.{Shared}
 use Rattle.pairs.specs.declared.Found.{Found}

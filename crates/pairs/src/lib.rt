@@ -13,7 +13,8 @@ ghost use Rattle.reach.specs.Counting.{countsOver};
 ghost use Rattle.reach.specs.Links.{Linked};
 ghost use Rattle.windows.specs.Tables.{windowsOver};
 ghost use Rattle.pairing.specs.Pairs.{pairAt, tablesOf};
-ghost use Rattle.verdicts.specs.Records.{recordsOf, NormalList};
+ghost use Rattle.normalisation.specs.Records.{recordsOf};
+ghost use Rattle.verdicts.specs.Records.{SmallList};
 ghost use Rattle.pairs.specs.Inputs.{findingAt, Sweepable, ListReady, LeafReady};
 ghost use Rattle.pairs.specs.Entering.{EntersNodes, isEntered};
 ghost use Rattle.pairs.specs.Found.{Listed, IsFound, IsFinding};
@@ -159,13 +160,22 @@ fn list_swept(
     )
 }
 
-// What is found of the list of the specification and that of the implementation.
-fn judge(spec: &[i64], spec_count: usize, imp: &[i64], impl_count: usize) -> Found
-    requires { ⌜ NormalList (now spec) «spec_count» × NormalList (now imp) «impl_count» ⌝ }
+// What is found of the list of the specification and that of the implementation. The address is found first: the verdict takes the lists in another
+// order, and what stands in the three slices afterwards is space that was worked in.
+fn judge(
+    spec: &mut [i64],
+    spec_count: usize,
+    imp: &mut [i64],
+    impl_count: usize,
+    spare: &mut [i64],
+) -> Found
+    requires { ⌜
+        SmallList (now spec) «spec_count» × SmallList (now imp) «impl_count»
+        × (3 * «spec_count» ≤ length (now spare)) × (3 * «impl_count» ≤ length (now spare)) ⌝ }
     ensures { λ r. ⌜ IsFound (recordsOf (now (spec .entry)) «spec_count») (recordsOf (now (imp .entry)) «impl_count») r ⌝ }
 {
-    let verdict = verdict_of(spec, spec_count, imp, impl_count);
     let address = lowest_of(spec, spec_count, imp, impl_count);
+    let verdict = verdict_of(spec, spec_count, imp, impl_count, spare);
     Found {
         verdict: verdict,
         spec: spec_count,
@@ -249,5 +259,5 @@ pub fn pair_found(
         impl_work,
         spare,
     );
-    judge(spec_work, spec_count, impl_work, impl_count)
+    judge(spec_work, spec_count, impl_work, impl_count, spare)
 }

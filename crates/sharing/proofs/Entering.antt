@@ -19,8 +19,8 @@ use Rattle.model.specs.Runs.{Run, empty, leaving, listOf}
 use Rattle.model.specs.Calls.{numbersOf}
 use Rattle.steps.specs.Steps.{living}
 use Rattle.steps.proofs.Runs.{living-none, living-some}
-use Rattle.verdicts.specs.Records.{recordAt, recordsOf}
-use Rattle.verdicts.proofs.Records.{recordsOf-front, recordAt-in}
+use Rattle.normalisation.specs.Records.{recordAt, recordsOf}
+use Rattle.normalisation.proofs.Records.{recordsOf-front, recordAt-in}
 use Rattle.windows.specs.Windows.{window}
 use Rattle.listing.specs.Listing.{LinkedTo, runRow}
 use Rattle.listing.proofs.Runs.{eqZ-same, eqZ-other}

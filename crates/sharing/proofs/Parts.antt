@@ -29,8 +29,8 @@ use Rattle.steps.specs.Steps.{living, SmallRun}
 use Rattle.steps.proofs.Runs.{living-none, living-some}
 use Rattle.windows.specs.Windows.{cut}
 use Rattle.windows.proofs.Spans.{Inside, cut-inside, cut-small}
-use Rattle.verdicts.specs.Records.{recordAt, recordsOf, recordsFrom}
-use Rattle.verdicts.proofs.Records.{recordsFrom-more, recordsFrom-none, recordsFrom-start}
+use Rattle.normalisation.specs.Records.{recordAt, recordsOf, recordsFrom}
+use Rattle.normalisation.proofs.Records.{recordsFrom-more, recordsFrom-none, recordsFrom-start}
 use Rattle.listing.specs.Listing.{Appended}
 use Rattle.listing.proofs.Appending.{append-none, append-append, append-length}
 use Rattle.listing.proofs.Small.{small-clippable, low-small}

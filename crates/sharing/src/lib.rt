@@ -13,7 +13,7 @@ ghost use Rattle.integers.specs.Integers.{eqZ};
 ghost use Rattle.windows.specs.Windows.{cut};
 ghost use Rattle.windows.specs.Tables.{spanAt};
 ghost use Rattle.normalisation.specs.Merging.{byDisplacement};
-ghost use Rattle.verdicts.specs.Records.{recordAt, recordsOf};
+ghost use Rattle.normalisation.specs.Records.{recordAt, recordsOf};
 ghost use Rattle.listing.specs.Listing.{LinkedTo, Windowed, Listable, Appended};
 ghost use Rattle.sharing.specs.Sharing.{noneKept, keptOf, Keeps, Keepable, displaced, Displaceable, bitsOf, SmallKept, keptRow, keptRows, hasAll, sharedRows};
 use listing::append_row;

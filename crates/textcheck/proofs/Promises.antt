@@ -12,11 +12,15 @@ use Rattle.lists.specs.Lists.{_∈_}
 use Rattle.lists.proofs.Membership.{map-out}
 use lib.ListN.{length, drop}
 use Rattle.model.specs.Bytes.{Bytes, bytes, lineFeed, shown, spaced}
-use Rattle.model.specs.Compare.{Finding, findings, resultOf}
+use Rattle.model.specs.Compare.{Tables, Finding, findings, resultOf}
+use Rattle.model.specs.Refusals.{NoneHolds, compareConditions, outputConditions}
 use Rattle.model.specs.Calls.{Answer, lengthOf, bufferAfter}
 use Rattle.model.specs.MapFile.{feeds}
 use Rattle.model.specs.Report.{lineOf, findingLine, report, resultLine}
-use Rattle.model.specs.TextCheck.{reportedOf, textAnswer, reportOf, textGives, textAfter}
+use Rattle.model.specs.TextCheck.{reportConditions, reportedOf, textAnswer, reportOf, textGives, textAfter}
+use Rattle.model.specs.Demands.{PartialByWalks}
+use Rattle.model.proofs.Settled.{none-next}
+use Rattle.model.proofs.Demand.{partial-by-walks}
 use Rattle.filerules.proofs.Splits.{Lacks}
 use Rattle.filerules.proofs.Fields.{spaced-out}
 use Rattle.filerules.proofs.Words.{shown-word, word-lacks-feed}
@@ -71,6 +75,11 @@ report-ends fs = names-before fs _ refl
 
 -- ---- the promise
 
+-- where tables and report meet no condition, partial says of each pair what it says by walks
+report-partial : (room : ℕ) (t : Tables) → NoneHolds (reportConditions room t) → PartialByWalks t
+unfolding reportConditions
+report-partial room t unmet = partial-by-walks t (none-next (compareConditions t) (outputConditions (length (report (findings t))) room) .0 unmet .0)
+
 -- a call whose answer and buffer are those defined keeps the promise
 pub text-promise : {A : Type 0} (form : Answer ℕ → A) (text before : Bytes) {after : Bytes} {given : A} → given ≡ form (textGives text before)
     → after ≡ textAfter text before → TextPromise form text before after given
@@ -81,6 +90,11 @@ text-promise form text before e b =
       buffer = b;
       demand = λ t keeps unmet. let demand = text-demand (length before) text t keeps unmet in (
         e ∙ ap (λ a. form (lengthOf (reportOf a))) (demand .0),
-        record { stands = b ∙ ap (λ a. bufferAfter (reportOf a) before) (demand .0); lastLine = report-ends (findings t); demand3 = demand .1 },
+        record {
+          stands = b ∙ ap (λ a. bufferAfter (reportOf a) before) (demand .0);
+          lastLine = report-ends (findings t);
+          demand3 = demand .1;
+          partial = report-partial (length before) t unmet;
+        },
       );
     }

@@ -11,7 +11,7 @@ use Rattle.model.specs.MapFile.{feeds}
 use Rattle.model.specs.FileRules.{KeepsRules}
 use Rattle.model.specs.Report.{report, resultLine}
 use Rattle.model.specs.TextCheck.{reportConditions, textGives, textAfter}
-use Rattle.model.specs.Demands.{Demand3}
+use Rattle.model.specs.Demands.{Demand3, PartialByWalks}
 
 -- the last line of the whole is this one: it begins behind a line feed, ends with one, and has no other
 pub record LastLine (whole line : Bytes) : Type 0 where
@@ -21,12 +21,13 @@ pub record LastLine (whole line : Bytes) : Type 0 where
   pub ends : line ≡ words ++ (lineFeed ∷ [])
   pub single : feeds words ≡ 0
 
--- the buffer holds the report of exactly these tables, past it what it held before, and demand 3 holds of the result that the report's
--- last line states
+-- the buffer holds the report of exactly these tables, past it what it held before; demand 3 holds of the result that the report's last line
+-- states; and of each pair partial says what it says by walks
 pub record ReportHeld (t : Tables) (before after : Bytes) : Type 0 where
   pub stands : after ≡ report (findings t) ++ drop (length (report (findings t))) before
   pub lastLine : LastLine (report (findings t)) (resultLine (resultOf (findings t)))
   pub demand3 : Demand3 t (resultOf (findings t))
+  pub partial : PartialByWalks t
 
 -- the answer as it is
 abbrev pub asItIs : Answer ℕ → Answer ℕ

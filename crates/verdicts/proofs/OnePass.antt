@@ -19,7 +19,8 @@ use Rattle.model.specs.Runs.{before}
 use Rattle.model.specs.Verdicts.{differsAt, lowest}
 use Rattle.model.proofs.Records.{displacement-of, has-at, Touch, touch-is, Aligned, before?, before-irrefl, before-trans}
 use Rattle.model.proofs.Lowest.{HasSome, DifferOn, DifferAt, differs-at, agree-at, lowest-differs, lowest-least, lowest-nowhere}
-use Rattle.verdicts.specs.Records.{SmallRecord, SmallRecords, IsNormal}
+use Rattle.normalisation.specs.Records.{IsNormal}
+use Rattle.verdicts.specs.Records.{SmallRecord, SmallRecords}
 use Rattle.verdicts.specs.OnePass.{aligned, ends, candidates, lower, lowestFrom, lowestCandidate}
 
 -- ---- normal lists
@@ -290,8 +291,8 @@ candidate-differs {l = r ∷ l} {m = s ∷ m} {c} L M k b = go (aligned r s) (al
 candidates-small : {l m : List Record} → SmallRecords l → SmallRecords m → AtMost (pos 0) (candidates l m)
 unfolding candidates
 candidates-small {l = []} {m = []} L M c k = absurd (List·Memᴰ·not-nil k)
-candidates-small {l = []} {m = s ∷ m} L M c k = rw (List·Memᴰ·eq-of-singleton k) (M s (List·Memᴰ·head refl) .first .low)
-candidates-small {l = r ∷ l} {m = []} L M c k = rw (List·Memᴰ·eq-of-singleton k) (L r (List·Memᴰ·head refl) .first .low)
+candidates-small {l = []} {m = s ∷ m} L M c k = rw (List·Memᴰ·eq-of-singleton k) (M s (List·Memᴰ·head refl) .low)
+candidates-small {l = r ∷ l} {m = []} L M c k = rw (List·Memᴰ·eq-of-singleton k) (L r (List·Memᴰ·head refl) .low)
 candidates-small {l = r ∷ l} {m = s ∷ m} L M c k =
     go (aligned r s) (candidates-small (λ z i. L z (List·Memᴰ·tail i)) (λ z i. M z (List·Memᴰ·tail i)) c) k
   where
@@ -302,13 +303,13 @@ candidates-small {l = r ∷ l} {m = s ∷ m} L M c k =
     Q = M s (List·Memᴰ·head refl)
 
     past : Ending r s c → pos 0 ≤ℤ c
-    past (inl p) = rw (p .1) (omega (arith, ints, P .last .low, sum (r .last) (pos 1)))
-    past (inr p) = rw (p .1) (omega (arith, ints, Q .last .low, sum (s .last) (pos 1)))
+    past (inl p) = rw (p .1) (omega (arith, ints, P .low, P .full, sum (r .last) (pos 1)))
+    past (inr p) = rw (p .1) (omega (arith, ints, Q .low, Q .full, sum (s .last) (pos 1)))
 
     go : (t : Bool) → (c ∈ candidates l m → pos 0 ≤ℤ c) → c ∈ cond t (ends r s ++ candidates l m) (r .first ∷ s .first ∷ []) → pos 0 ≤ℤ c
     go true rest k = ⊎-elim (λ i. past (ends-out r s i)) rest (List·Memᴰ·append-cases (ends r s) k)
     go false rest k =
-        ⊎-elim (λ e. omega (arith, ints, P .first .low)) (λ i. let e : c ≡ s .first = List·Memᴰ·eq-of-singleton i in omega (arith, ints, Q .first .low))
+        ⊎-elim (λ e. omega (arith, ints, P .low)) (λ i. let e : c ≡ s .first = List·Memᴰ·eq-of-singleton i in omega (arith, ints, Q .low))
         (List·Memᴰ·cases-cons k)
 
 -- c is one of two addresses and above neither

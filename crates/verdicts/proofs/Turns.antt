@@ -8,14 +8,14 @@ use lib.Dec.{ltb}
 use lib.ListN.{length}
 use lib.IntN.{ℤ}
 use Rattle.integers.proofs.Tests.{Test, passed, failed, ltb?, is-false, T-true}
-use Rattle.lists.specs.Lists.{any, all, isNil}
+use Rattle.lists.specs.Lists.{isNil}
 use Rattle.sorting.specs.Rows.{rowsOf}
 use Rattle.model.specs.Bitmapping.{Record}
-use Rattle.model.specs.Verdicts.{sameRecord, sameList, contained, verdict}
+use Rattle.model.specs.Verdicts.{sameRecord, sameList, allContained, verdict}
 use Rattle.model.proofs.Verdicts.{same-list}
-use Rattle.verdicts.specs.Records.{recordAt, recordsOf, recordsFrom, someContains, allContained}
+use Rattle.normalisation.specs.Records.{recordAt, recordsOf, recordsFrom}
 use Rattle.verdicts.specs.OnePass.{aligned, ends, candidates, headsAligned, starts, lower, lowestFrom}
-use Rattle.verdicts.proofs.Records.{recordsOf-length, recordsFrom-more, recordsFrom-none}
+use Rattle.normalisation.proofs.Records.{recordsOf-length, recordsFrom-more, recordsFrom-none}
 
 -- ---- the same lists
 
@@ -41,40 +41,6 @@ module _ (a b : List ℤ) (n i : ℕ) where
   pub same-none : n ≤ i → sameList (recordsFrom a i n) (recordsFrom b i n) ≡ true
   unfolding sameList
   same-none h = rw (recordsFrom-none a i n h, recordsFrom-none b i n h) refl
-
--- ---- containment
-
-module _ (t : List ℤ) (n i : ℕ) (r : Record) where
-  -- a record that does not contain r leaves it to the rest
-  pub contains-more : i < n → contained r (recordAt t i) ≡ false → someContains (recordsFrom t i n) r ≡ someContains (recordsFrom t (i + 1) n) r
-  unfolding someContains any
-  contains-more h e = rw (recordsFrom-more t i n h, e) refl
-
-  -- one that does decides
-  pub contains-one : i < n → contained r (recordAt t i) ≡ true → someContains (recordsFrom t i n) r ≡ true
-  unfolding someContains any
-  contains-one h e = rw (recordsFrom-more t i n h, e) refl
-
-  -- behind the last record none does
-  pub contains-none : n ≤ i → someContains (recordsFrom t i n) r ≡ false
-  unfolding someContains any
-  contains-none h = rw (recordsFrom-none t i n h) refl
-
-module _ (l : List Record) (t : List ℤ) (n i : ℕ) where
-  -- a record that is contained leaves it to the rest
-  pub all-more : i < n → someContains l (recordAt t i) ≡ true → allContained l (recordsFrom t i n) ≡ allContained l (recordsFrom t (i + 1) n)
-  unfolding allContained all
-  all-more h e = rw (recordsFrom-more t i n h, e) refl
-
-  -- one that is not decides
-  pub all-one : i < n → someContains l (recordAt t i) ≡ false → allContained l (recordsFrom t i n) ≡ false
-  unfolding allContained all
-  all-one h e = rw (recordsFrom-more t i n h, e) refl
-
-  -- behind the last record none is left
-  pub all-none : n ≤ i → allContained l (recordsFrom t i n) ≡ true
-  unfolding allContained all
-  all-none h = rw (recordsFrom-none t i n h) refl
 
 -- ---- the lowest candidate
 
@@ -138,12 +104,12 @@ module _ (l m : List Record) where
 
     -- partial where it is not, and each of its records is contained in one of the specification's
     pub verdict-within : isNil m ≡ false → allContained l m ≡ true → verdict l m ≡ 1
-    unfolding verdict allContained someContains
+    unfolding verdict
     verdict-within h k = rw (e, h, k) refl
 
     -- and different where some record is not
     pub verdict-beyond : isNil m ≡ false → allContained l m ≡ false → verdict l m ≡ 2
-    unfolding verdict allContained someContains
+    unfolding verdict
     verdict-beyond h k = rw (e, h, k) refl
 
 -- no records are an empty list

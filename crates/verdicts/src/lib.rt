@@ -3,11 +3,12 @@
 ghost use mathlib.Core.Path.{_≡_};
 ghost use Prim.Native.Nat.{_+_, _*_, _≤_};
 ghost use lib.ListN.{length};
-ghost use Rattle.model.specs.Verdicts.{sameRecord, sameList, contained, verdict, lowest};
+ghost use Rattle.model.specs.Verdicts.{sameRecord, sameList, verdict, lowest};
 ghost use Rattle.model.specs.Answers.{verdictNumber};
-ghost use Rattle.verdicts.specs.Records.{asRecord, recordAt, recordsOf, recordsFrom, SmallRecord, SmallList, NormalList};
-ghost use Rattle.verdicts.specs.Records.{spanWithin, rootBits, leafBits, someContains, allContained};
+ghost use Rattle.normalisation.specs.Records.{recordAt, recordsOf, recordsFrom, NormalList};
+ghost use Rattle.verdicts.specs.Records.{asRecord, SmallRecord, SmallList};
 ghost use Rattle.verdicts.specs.OnePass as pass;
+use containment::all_contained;
 use model::Verdict;
 
 // Root bits first .. last reach leaf bits that stand displacement below them.
@@ -15,12 +16,6 @@ pub struct Record {
     pub first: i64,
     pub last: i64,
     pub displacement: i64,
-}
-
-// The bits first .. last.
-pub struct Span {
-    pub first: i64,
-    pub last: i64,
 }
 
 // The lowest address found so far, -1 where there is none.
@@ -78,82 +73,16 @@ pub fn same_lists(a: &[i64], na: usize, b: &[i64], nb: usize) -> bool
     true
 }
 
-// Whether the bits of s lie among those of t.
-fn span_within(s: Span, t: Span) -> bool
-    ensures { λ b. ⌜ b ≡ spanWithin s t ⌝ }
-{
-    if t.first <= s.first {
-        return s.last <= t.last;
-    }
-    false
-}
-
-// The root bits of a record.
-fn root_bits(r: Record) -> Span
-    ensures { λ s. ⌜ s ≡ rootBits (asRecord r) ⌝ }
-{
-    Span {
-        first: r.first,
-        last: r.last,
-    }
-}
-
-// The leaf bits of a record.
-fn leaf_bits(r: Record) -> Span
-    requires { ⌜ SmallRecord (asRecord r) ⌝ }
-    ensures { λ s. ⌜ s ≡ leafBits (asRecord r) ⌝ }
-{
-    Span {
-        first: r.first - r.displacement,
-        last: r.last - r.displacement,
-    }
-}
-
-// Whether r is contained in record i of t: its root bits among the root bits there, and its leaf bits among the leaf bits there.
-pub fn contained_in(r: Record, t: &[i64], i: usize) -> bool
-    requires { ⌜ (3 * i + 3 ≤ length (now t)) × SmallRecord (asRecord r) × SmallRecord (recordAt (now t) i) ⌝ }
-    ensures { λ b. ⌜ b ≡ contained (asRecord r) (recordAt (now (t .entry)) i) ⌝ }
-{
-    if span_within(root_bits(r), root_bits(record_at(t, i))) {
-        return span_within(leaf_bits(r), leaf_bits(record_at(t, i)));
-    }
-    false
-}
-
-// Whether one of the first n records of t contains r.
-pub fn some_contains(t: &[i64], n: usize, r: Record) -> bool
-    requires { ⌜ SmallList (now t) n × SmallRecord (asRecord r) ⌝ }
-    ensures { λ b. ⌜ b ≡ someContains (recordsOf (now (t .entry)) n) (asRecord r) ⌝ }
-{
-    let mut i: usize = 0;
-    while i < n {
-        if contained_in(r, t, i) {
-            return true;
-        }
-        i += 1;
-    }
-    false
-}
-
-// Whether each of the ni records of imp is contained in one of the ns records of spec.
-pub fn all_contained(spec: &[i64], ns: usize, imp: &[i64], ni: usize) -> bool
-    requires { ⌜ SmallList (now spec) ns × SmallList (now imp) ni ⌝ }
-    ensures { λ b. ⌜ b ≡ allContained (recordsOf (now (spec .entry)) ns) (recordsOf (now (imp .entry)) ni) ⌝ }
-{
-    let mut i: usize = 0;
-    while i < ni {
-        if some_contains(spec, ns, record_at(imp, i)) {
-            i += 1;
-        } else {
-            return false;
-        }
-    }
-    true
-}
-
-// The verdict on the ns records of the specification and the ni records of the implementation.
-pub fn verdict_of(spec: &[i64], ns: usize, imp: &[i64], ni: usize) -> Verdict
-    requires { ⌜ SmallList (now spec) ns × SmallList (now imp) ni ⌝ }
+// The verdict on the ns records of the specification and the ni records of the implementation. Lists that are not the same are sorted by displacement:
+// what stands in the three slices afterwards is space that was worked in.
+pub fn verdict_of(
+    spec: &mut [i64],
+    ns: usize,
+    imp: &mut [i64],
+    ni: usize,
+    spare: &mut [i64],
+) -> Verdict
+    requires { ⌜ NormalList (now spec) ns × NormalList (now imp) ni × (3 * ns ≤ length (now spare)) × (3 * ni ≤ length (now spare)) ⌝ }
     ensures { λ v. ⌜ verdictNumber v ≡ verdict (recordsOf (now (spec .entry)) ns) (recordsOf (now (imp .entry)) ni) ⌝ }
 {
     if same_lists(spec, ns, imp, ni) {
@@ -162,7 +91,7 @@ pub fn verdict_of(spec: &[i64], ns: usize, imp: &[i64], ni: usize) -> Verdict
     if ni == 0 {
         return Verdict::Different;
     }
-    if all_contained(spec, ns, imp, ni) {
+    if all_contained(spec, ns, imp, ni, spare) {
         return Verdict::Partial;
     }
     Verdict::Different
@@ -224,7 +153,7 @@ fn alike_at(spec: &[i64], ns: usize, imp: &[i64], ni: usize, i: usize) -> bool
 // The lowest bit address at which the leaf bits by the two lists differ, -1 where they differ nowhere. In one pass: while records begin alike,
 // past the end of the shorter; then where either list goes on.
 pub fn lowest_of(spec: &[i64], ns: usize, imp: &[i64], ni: usize) -> i64
-    requires { ⌜ NormalList (now spec) ns × NormalList (now imp) ni ⌝ }
+    requires { ⌜ SmallList (now spec) ns × SmallList (now imp) ni ⌝ }
     ensures { λ b. ⌜ b ≡ lowest (recordsOf (now (spec .entry)) ns) (recordsOf (now (imp .entry)) ni) ⌝ }
 {
     let mut least = Least(-1);

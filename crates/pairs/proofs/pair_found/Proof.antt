@@ -6,7 +6,7 @@ use Rattle.model.specs.Compare.{Tables, specGraph, implGraph}
 use Rattle.pairing.specs.Pairs.{pairAt, tablesOf}
 use Rattle.pairs.specs.Inputs.{ListReady}
 use Rattle.pairs.proofs.Inputs.{row-roots, row-leaves}
-use Rattle.pairs.proofs.Lists.{listed-normal}
+use Rattle.pairs.proofs.Lists.{listed-small, listed-few}
 use Rattle.pairs.proofs.Pairs.{list-ready-at, spec-list-ready, impl-list-ready, pair-finding}
 use borrow.Author.Needs.{needs}
 use Rattle.pairs.proofs.pair_found.Statement.{statement}
@@ -78,10 +78,17 @@ list-swept-requires-2 c κs = impl-ready (c .before .before)
 
 judge-requires : tie.Need-judge-requires
 judge-requires c κs =
-    let m = c .before .before .before .before in
+    let m = c .before .before .before .before .before in
     let i = m .before .before .before in
     let l = first i in
-    (listed-normal (spec-ready (specNodes l)) (l .list-swept .ensures), listed-normal (impl-ready i) (m .list-swept2 .ensures))
+    let spec = spec-ready (specNodes l) in
+    let impl = impl-ready i in
+    let kept = m .list-swept2 .kept .1 .1 .1 .1 .1 .1 .1 .1 .1 .1 .1 .1 .0 in (
+      listed-small spec (l .list-swept .ensures),
+      listed-small impl (m .list-swept2 .ensures),
+      omega (arith, kept, impl .spareRoom, listed-few spec (l .list-swept .ensures)),
+      omega (arith, kept, impl .spareRoom, listed-few impl (m .list-swept2 .ensures)),
+    )
 
 same-length : tie.Need-same-length
 same-length c = search needs
@@ -94,13 +101,14 @@ same-length-3 c = search needs
 
 returns : tie.Need-returns
 returns c =
-    let m = c .before .before .before .before .before in
+    let j = c .before .before .before in
+    let m = j .before .before .before .before .before .before in
     let i = m .before .before .before in
     let l = first i in
     let n = specNodes l in
     let s = start (n .before .before) in
     pair-finding (tables s) (s .args .root-row) (s .args .leaf-row) (n .before .spec-node .ensures) (n .spec-node2 .ensures)
-    (i .before .impl-node .ensures) (i .impl-node2 .ensures) (l .list-swept .ensures) (m .list-swept2 .ensures) (c .judge .ensures)
+    (i .before .impl-node .ensures) (i .impl-node2 .ensures) (l .list-swept .ensures) (m .list-swept2 .ensures) (j .judge .ensures)
 
 pub pair-found-spec : {M : Type 1} → statement M
 pair-found-spec =

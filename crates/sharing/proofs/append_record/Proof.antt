@@ -11,7 +11,7 @@ use mir.Facts.{toZ-ofZ}
 use Rattle.sorting.specs.declared.Row.{Row}
 use Rattle.steps.specs.Steps.{runOf, living}
 use Rattle.windows.specs.Windows.{cut}
-use Rattle.verdicts.specs.Records.{recordAt}
+use Rattle.normalisation.specs.Records.{recordAt}
 use Rattle.listing.proofs.Appending.{append-none}
 use Rattle.listing.proofs.Runs.{crossed-left, crossed-nothing}
 use Rattle.sharing.specs.Sharing.{bitsOf, Displaceable}

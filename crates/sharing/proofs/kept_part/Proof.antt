@@ -7,7 +7,7 @@ use mir.Facts.{toZ-ofZ}
 use Rattle.sorting.specs.declared.Row.{Row}
 use Rattle.steps.specs.Steps.{runOf, living}
 use Rattle.windows.proofs.Spans.{spanNode, spanNode-first, spanNode-last, clip-cut}
-use Rattle.verdicts.specs.Records.{recordAt}
+use Rattle.normalisation.specs.Records.{recordAt}
 use Rattle.listing.proofs.Small.{small-clippable}
 use Rattle.sharing.specs.Sharing.{bitsOf}
 use Rattle.sharing.proofs.kept_part.Statement.{statement}

@@ -2,7 +2,7 @@
 use mathlib.Core.Path.{refl}
 use borrow.Author.Needs.{needs}
 use Rattle.verdicts.specs.OnePass.{headsAligned}
-use Rattle.verdicts.proofs.Records.{recordsFrom-more, recordsFrom-none}
+use Rattle.normalisation.proofs.Records.{recordsFrom-more, recordsFrom-none}
 use Rattle.verdicts.proofs.alike_at.Statement.{statement}
 use Rattle.verdicts.proofs.alike_at.Tie as tie
 

@@ -4,7 +4,8 @@ use mir.Syntax.{w64}
 use mir.Val.{ofZ}
 use borrow.Author.Needs.{needs}
 use Rattle.verdicts.specs.Records.{asRecord}
-use Rattle.verdicts.proofs.Tests.{bits-same, bits-equal, aligned-unlike, aligned-like}
+use Rattle.integers.proofs.Range.{bits-same, bits-test}
+use Rattle.verdicts.proofs.Tests.{aligned-unlike, aligned-like}
 use Rattle.verdicts.proofs.begin_alike.Statement.{statement}
 use Rattle.verdicts.proofs.begin_alike.Tie as tie
 
@@ -18,7 +19,7 @@ returns-2 c =
     let e = c .before .before .before .before in
     let s = e .before .before .before .before .before in
     let same : s .args .r .first ≡ s .args .s .first = bits-same (search needs) (search needs) (e .if1 .left) in
-    bits-equal (s .args .r .displacement) (s .args .s .displacement) (search needs) (search needs) ∙ sym (aligned-like (asRecord (s .args .r)) (asRecord (s .args .s)) same)
+    bits-test (s .args .r .displacement) (s .args .s .displacement) (search needs) (search needs) ∙ sym (aligned-like (asRecord (s .args .r)) (asRecord (s .args .s)) same)
 
 pub begin-alike-spec : {M : Type 1} → statement M
 begin-alike-spec = tie.close (tie.spec returns returns-2)

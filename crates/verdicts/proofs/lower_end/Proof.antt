@@ -16,7 +16,7 @@ use Rattle.verdicts.proofs.lower_end.Tie as tie
 
 -- one more than the last bit of a small record
 past : {r : Record} → SmallRecord r → SFits w64 (r .last +ℤ pos 1)
-past {r} h = fits64 (omega (arith, ints, h .last .low, h .last .high, sum (r .last) (pos 1)))
+past {r} h = fits64 (omega (arith, ints, h .low, h .full, h .high, sum (r .last) (pos 1)))
 
 add-lower : tie.Need-add-lower
 add-lower c =

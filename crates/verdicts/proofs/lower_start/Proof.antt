@@ -6,7 +6,7 @@ use mir.Facts.{toZ-ofZ}
 use borrow.Author.Needs.{needs}
 use Rattle.model.specs.Bitmapping.{Record}
 use Rattle.verdicts.specs.OnePass.{starts, lower, lowestFrom}
-use Rattle.verdicts.proofs.Records.{recordsFrom-more, recordsFrom-none}
+use Rattle.normalisation.proofs.Records.{recordsFrom-more, recordsFrom-none}
 use Rattle.verdicts.proofs.lower_start.Statement.{statement}
 use Rattle.verdicts.proofs.lower_start.Tie as tie
 

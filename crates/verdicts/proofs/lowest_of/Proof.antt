@@ -8,9 +8,10 @@ use lib.IntN.{ℤ}
 use mir.Syntax.{w64}
 use mir.Val.{SFits}
 use mir.Facts.{toZ-ofZ}
-use Rattle.verdicts.specs.Records.{recordsOf, recordsFrom}
+use Rattle.normalisation.specs.Records.{recordsOf, recordsFrom}
 use Rattle.verdicts.specs.OnePass.{ends, candidates, headsAligned, starts, lowestFrom, lowestCandidate}
-use Rattle.verdicts.proofs.Records.{recordsFrom-start, small-at}
+use Rattle.normalisation.proofs.Records.{recordsFrom-start}
+use Rattle.verdicts.proofs.Records.{small-at}
 use Rattle.verdicts.proofs.Turns.{heads-there, lowest-more, lowest-last}
 use Rattle.verdicts.proofs.OnePass.{lowest-one-pass}
 use Rattle.verdicts.proofs.lowest_of.Statement.{statement}
@@ -53,7 +54,7 @@ lower-end-requires c κs =
     let l = c .before .before .before .before in
     let s = l .before in
     let (p, q) = there (c .before .before) in
-    (rw (c .before .record-at .ensures) (small-at (s .pre .0 .list) (l .loop .i) p), rw (c .record-at2 .ensures) (small-at (s .pre .1 .list) (l .loop .i) q))
+    (rw (c .before .record-at .ensures) (small-at (s .pre .0) (l .loop .i) p), rw (c .record-at2 .ensures) (small-at (s .pre .1) (l .loop .i) q))
 
 add-i : tie.Need-add-i Inv-loop μ-loop
 add-i c = omega (arith, there (c .before .before .before))
@@ -87,7 +88,7 @@ returns c =
     let rest = starts (recordsFrom (s .args .imp .now) (l .loop .i) (s .args .ni)) in
     let last =
     lowest-last (s .args .spec .now) (s .args .imp .now) (s .args .ns) (s .args .ni) (l .loop .i) (l .loop .least .0) (sym (test (e .before)) ∙ e .if1 .left) in
-    rw (toZ-ofZ f, ← lowest-one-pass (s .pre .0 .normal) (s .pre .1 .normal) (s .pre .0 .list .small) (s .pre .1 .list .small))
+    rw (toZ-ofZ f, ← lowest-one-pass (s .pre .0 .list .normal) (s .pre .1 .list .normal) (s .pre .0 .small) (s .pre .1 .small))
     (c .before .lower-start2 .ensures ∙ ap (λ (z : ℤ). lowestFrom z rest) (c .before .before .lower-start .ensures)
     ∙ sym (l .loop .inv ∙ last))
 

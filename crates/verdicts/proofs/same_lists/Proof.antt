@@ -4,8 +4,8 @@ use Prim.Native.Nat.{_-_}
 use native.Mathlib.Omega.{arith}
 use borrow.Author.Needs.{needs}
 use Rattle.model.specs.Verdicts.{sameRecord, sameList}
-use Rattle.verdicts.specs.Records.{recordAt, recordsOf, recordsFrom}
-use Rattle.verdicts.proofs.Records.{recordsFrom-start}
+use Rattle.normalisation.specs.Records.{recordAt, recordsOf, recordsFrom}
+use Rattle.normalisation.proofs.Records.{recordsFrom-start}
 use Rattle.verdicts.proofs.Turns.{same-sizes, same-more, same-other, same-none}
 use Rattle.verdicts.proofs.same_lists.Statement.{statement}
 use Rattle.verdicts.proofs.same_lists.Tie as tie

@@ -2,7 +2,8 @@
 use mathlib.Core.Path.{sym, _∙_}
 use borrow.Author.Needs.{needs}
 use Rattle.verdicts.specs.Records.{asRecord}
-use Rattle.verdicts.proofs.Tests.{bits-equal, same-unlike, same-like}
+use Rattle.integers.proofs.Range.{bits-test}
+use Rattle.verdicts.proofs.Tests.{same-unlike, same-like}
 use Rattle.verdicts.proofs.same_records.Statement.{statement}
 use Rattle.verdicts.proofs.same_records.Tie as tie
 
@@ -13,7 +14,7 @@ returns : tie.Need-returns
 returns c =
     let t = c .before .before .before .before in
     let s = t .before .before in
-    bits-equal (s .args .r .last) (s .args .s .last) (search needs) (search needs)
+    bits-test (s .args .r .last) (s .args .s .last) (search needs) (search needs)
     ∙ sym (same-like (asRecord (s .args .r)) (asRecord (s .args .s)) (sym (t .before .begin-alike .ensures) ∙ t .if1 .taken))
 
 returns-2 : tie.Need-returns-2

@@ -17,6 +17,7 @@ use crate::records::same;
 use crate::rows;
 use crate::rows::place;
 use crate::tally;
+use crate::verdicts;
 use crate::walks;
 use model::Checked;
 use model::Compared;
@@ -306,22 +307,22 @@ fn try_side(
     root: usize,
     leaf: usize,
     reached: &mut [i64; walks::REACHED],
-    found: &mut [usize; records::RECORD_NUMBERS],
     map: usize,
     counts: &mut [usize; tally::COUNTS],
     seed: &mut usize,
 ) -> usize {
     walks::reach(nodes, edges, root, leaf, reached);
-    let count = records::collect(reached, found);
-    count_records(found, count, rows::bit_count(nodes, leaf), counts);
-    try_list(nodes, edges, root, leaf, found, count, map, counts);
+    let mut found = [0usize; records::RECORD_NUMBERS];
+    let count = records::collect(reached, &mut found);
+    count_records(&found, count, rows::bit_count(nodes, leaf), counts);
+    try_list(nodes, edges, root, leaf, &found, count, map, counts);
     try_walks(
         nodes,
         edges,
         root,
         leaf,
         reached,
-        found,
+        &found,
         count,
         map,
         counts,
@@ -365,7 +366,7 @@ fn add_place(
     leaf_row: usize,
     address: usize,
 ) {
-    if verdict == records::EQUAL {
+    if verdict == verdicts::EQUAL {
         return;
     }
     if at(expected, ROOT_ROW) != NONE {
@@ -387,17 +388,9 @@ fn paired(pairs: &[i64], row: usize, side: usize) -> usize {
     size(at(pairs, place(rows::PAIR_WIDTH, row, side)))
 }
 
-// The verdict on both sides of a pair, and the lowest address at which the leaf bits differ.
-fn judge(
-    spec_reached: &[i64; walks::REACHED],
-    spec_found: &[usize; records::RECORD_NUMBERS],
-    spec_count: usize,
-    impl_reached: &[i64; walks::REACHED],
-    impl_found: &[usize; records::RECORD_NUMBERS],
-    impl_count: usize,
-) -> Judged {
-    let alike = records::are_same(spec_found, impl_found);
-    let verdict = records::verdict(alike, spec_found, spec_count, impl_found, impl_count);
+// The verdict on the reached sets of a pair, and the lowest address at which they differ.
+fn judge(spec_reached: &[i64; walks::REACHED], impl_reached: &[i64; walks::REACHED]) -> Judged {
+    let verdict = verdicts::verdict(spec_reached, impl_reached);
     let address = first_difference(spec_reached, impl_reached) / walks::SLOTS;
     Judged {
         verdict: verdict,
@@ -405,45 +398,7 @@ fn judge(
     }
 }
 
-// The implementation's side of a pair, and the verdict.
-fn try_impl_side(
-    impl_nodes: &[i64],
-    impl_edges: &[i64],
-    root: usize,
-    leaf: usize,
-    spec_reached: &[i64; walks::REACHED],
-    spec_found: &[usize; records::RECORD_NUMBERS],
-    spec_count: usize,
-    map: usize,
-    counts: &mut [usize; tally::COUNTS],
-    seed: &mut usize,
-) -> Judged {
-    let mut reached = [walks::NO_BIT; walks::REACHED];
-    let mut found = [0usize; records::RECORD_NUMBERS];
-    let count = try_side(
-        impl_nodes,
-        impl_edges,
-        root,
-        leaf,
-        &mut reached,
-        &mut found,
-        map,
-        counts,
-        seed,
-    );
-    let judged = judge(
-        spec_reached,
-        spec_found,
-        spec_count,
-        &reached,
-        &found,
-        count,
-    );
-    count_pair(counts, judged.verdict, spec_count, count);
-    judged
-}
-
-// One pair: both lists, and the verdict on them.
+// One pair: both sides, and the verdict on them.
 fn try_pair(
     spec_nodes: &[i64],
     spec_edges: &[i64],
@@ -457,31 +412,31 @@ fn try_pair(
     counts: &mut [usize; tally::COUNTS],
     seed: &mut usize,
 ) -> Judged {
-    let mut reached = [walks::NO_BIT; walks::REACHED];
-    let mut found = [0usize; records::RECORD_NUMBERS];
-    let count = try_side(
+    let mut spec_reached = [walks::NO_BIT; walks::REACHED];
+    let spec_count = try_side(
         spec_nodes,
         spec_edges,
         paired(root_pairs, root_row, 0),
         paired(leaf_pairs, leaf_row, 0),
-        &mut reached,
-        &mut found,
+        &mut spec_reached,
         map,
         counts,
         seed,
     );
-    try_impl_side(
+    let mut impl_reached = [walks::NO_BIT; walks::REACHED];
+    let impl_count = try_side(
         impl_nodes,
         impl_edges,
         paired(root_pairs, root_row, 1),
         paired(leaf_pairs, leaf_row, 1),
-        &reached,
-        &found,
-        count,
+        &mut impl_reached,
         map,
         counts,
         seed,
-    )
+    );
+    let judged = judge(&spec_reached, &impl_reached);
+    count_pair(counts, judged.verdict, spec_count, impl_count);
+    judged
 }
 
 // One pair, and its verdict in the result that is expected.
@@ -554,18 +509,18 @@ fn try_pairs(
 
 fn verdict_number(verdict: Verdict) -> usize {
     match verdict {
-        Verdict::Equal => records::EQUAL,
-        Verdict::Partial => records::PARTIAL,
-        Verdict::Different => records::DIFFERENT,
+        Verdict::Equal => verdicts::EQUAL,
+        Verdict::Partial => verdicts::PARTIAL,
+        Verdict::Different => verdicts::DIFFERENT,
     }
 }
 
 // Writes a result as seven numbers.
 fn write_result(result: Comparison, out: &mut [i64]) {
     let verdict = result.verdict;
-    put(out, records::EQUAL, number(result.equal));
-    put(out, records::PARTIAL, number(result.partial));
-    put(out, records::DIFFERENT, number(result.different));
+    put(out, verdicts::EQUAL, number(result.equal));
+    put(out, verdicts::PARTIAL, number(result.partial));
+    put(out, verdicts::DIFFERENT, number(result.different));
     put(out, WHOLE, number(verdict_number(verdict)));
 }
 

@@ -8,6 +8,7 @@ mod orders;
 mod records;
 mod rows;
 mod tally;
+mod verdicts;
 mod walks;
 
 use maps::Shape;

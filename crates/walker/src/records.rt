@@ -1,4 +1,4 @@
-// The records of a reached set, bit by bit, and the verdict on two lists of them. A record row here is first, last and first leaf bit.
+// The records of a reached set, bit by bit. A record row here is first, last and first leaf bit.
 use crate::numbers::at;
 use crate::numbers::cell;
 use crate::numbers::difference;
@@ -29,13 +29,6 @@ pub(crate) const LEAF_FIRST: usize = 2;
 
 // What a list's buffer holds past the list.
 pub(crate) const UNTOUCHED: i64 = -7;
-
-// Verdicts by their numbers.
-pub(crate) const EQUAL: usize = 0;
-
-pub(crate) const PARTIAL: usize = 1;
-
-pub(crate) const DIFFERENT: usize = 2;
 
 pub(crate) fn record(records: &[usize], r: usize, column: usize) -> usize {
     cell(records, place(RECORD_WIDTH, r, column))
@@ -146,74 +139,4 @@ pub(crate) fn same(a: &[i64], b: &[i64]) -> bool {
         return false;
     }
     first_difference(a, b) == a.len()
-}
-
-// Whether two lists of records are the same.
-pub(crate) fn are_same(a: &[usize], b: &[usize]) -> bool {
-    for i in 0..RECORD_NUMBERS {
-        if cell(a, i) != cell(b, i) {
-            return false;
-        }
-    }
-    true
-}
-
-// Whether the root bits and the leaf bits of a record lie within those of one other.
-fn within(outer: &[usize], s: usize, inner: &[usize], r: usize) -> bool {
-    if record(inner, r, FIRST) < record(outer, s, FIRST) {
-        return false;
-    }
-    if record(inner, r, LAST) > record(outer, s, LAST) {
-        return false;
-    }
-    if record(inner, r, LEAF_FIRST) < record(outer, s, LEAF_FIRST) {
-        return false;
-    }
-    leaf_last(inner, r) <= leaf_last(outer, s)
-}
-
-// Whether a record lies within one of the specification's records.
-fn within_one(outer: &[usize], outer_count: usize, inner: &[usize], r: usize) -> bool {
-    for s in 0..MAX_RECORDS {
-        if s >= outer_count {
-            return false;
-        }
-        if within(outer, s, inner, r) {
-            return true;
-        }
-    }
-    false
-}
-
-// Whether each of the implementation's records lies within one of the specification's.
-fn each_within(outer: &[usize], outer_count: usize, inner: &[usize], inner_count: usize) -> bool {
-    for r in 0..MAX_RECORDS {
-        if r >= inner_count {
-            return true;
-        }
-        if !within_one(outer, outer_count, inner, r) {
-            return false;
-        }
-    }
-    true
-}
-
-// The verdict on the records of a pair.
-pub(crate) fn verdict(
-    alike: bool,
-    outer: &[usize],
-    outer_count: usize,
-    inner: &[usize],
-    inner_count: usize,
-) -> usize {
-    if alike {
-        return EQUAL;
-    }
-    if inner_count == 0 {
-        return DIFFERENT;
-    }
-    if each_within(outer, outer_count, inner, inner_count) {
-        return PARTIAL;
-    }
-    DIFFERENT
 }

@@ -1,23 +1,23 @@
--- `are_same` is safe and ends: its loop counts up to a limit. Assumes nothing.
+-- `has_bit` is safe and ends: its loop counts up to a limit. Assumes nothing.
 use Prim.Native.Nat.{_-_, _≤_}
 use borrow.Author.Needs.{needs}
-use Rattle.walker.proofs.records.are_same.Statement.{statement}
-use Rattle.walker.proofs.records.are_same.Tie as tie
+use Rattle.walker.proofs.verdicts.has_bit.Statement.{statement}
+use Rattle.walker.proofs.verdicts.has_bit.Tie as tie
 
 abbrev Inv-loop : tie.InvT-loop
-Inv-loop a b i₀ i = i ≤ 384
+Inv-loop reached first bit i₀ i = i ≤ 16
 
 abbrev μ-loop : tie.MeasureT-loop
-μ-loop a b i₀ i = 384 - i
+μ-loop reached first bit i₀ i = 16 - i
 
 loop-holds : tie.Need-loop-holds Inv-loop μ-loop
 loop-holds c = search needs
 
-cell-requires : tie.Need-cell-requires Inv-loop μ-loop
-cell-requires c κs = search needs
+sum-requires : tie.Need-sum-requires Inv-loop μ-loop
+sum-requires c κs = search needs
 
-cell-requires-2 : tie.Need-cell-requires-2 Inv-loop μ-loop
-cell-requires-2 c κs = search needs
+at-requires : tie.Need-at-requires Inv-loop μ-loop
+at-requires c κs = search needs
 
 returns : tie.Need-returns Inv-loop μ-loop
 returns c = search needs
@@ -34,15 +34,15 @@ loop-again c = search needs
 returns-2 : tie.Need-returns-2 Inv-loop μ-loop
 returns-2 c = search needs
 
-pub are-same-spec : {M : Type 1} → statement M
-are-same-spec =
+pub has-bit-spec : {M : Type 1} → statement M
+has-bit-spec =
     tie.close
     (tie.spec
     Inv-loop
     μ-loop
     loop-holds
-    cell-requires
-    cell-requires-2
+    sum-requires
+    at-requires
     returns
     add-i
     loop-less

@@ -1,0 +1,63 @@
+// The verdict on a pair, by what each side reaches: root bits with their leaf bits, and no records.
+use crate::numbers::at;
+use crate::numbers::sum;
+use crate::records::same;
+use crate::walks::NO_BIT;
+use crate::walks::REACHED;
+use crate::walks::SLOTS;
+use crate::walks::first_slot;
+
+// Verdicts by their numbers.
+pub(crate) const EQUAL: usize = 0;
+
+pub(crate) const PARTIAL: usize = 1;
+
+pub(crate) const DIFFERENT: usize = 2;
+
+// Whether a leaf bit is among those of the root bit whose slots begin at `first`.
+fn has_bit(reached: &[i64], first: usize, bit: i64) -> bool {
+    for i in 0..SLOTS {
+        if at(reached, sum(first, i)) == bit {
+            return true;
+        }
+    }
+    false
+}
+
+// Whether what slot t of the implementation holds, if anything, is in the specification's set.
+fn slot_within(spec_reached: &[i64], impl_reached: &[i64], t: usize) -> bool {
+    let bit = at(impl_reached, t);
+    if bit == NO_BIT {
+        return true;
+    }
+    has_bit(spec_reached, first_slot(t / SLOTS), bit)
+}
+
+// Whether everything in the implementation's set is in the specification's.
+fn all_within(spec_reached: &[i64], impl_reached: &[i64]) -> bool {
+    for t in 0..REACHED {
+        if !slot_within(spec_reached, impl_reached, t) {
+            return false;
+        }
+    }
+    true
+}
+
+fn is_empty(reached: &[i64]) -> bool {
+    let none = [NO_BIT; REACHED];
+    same(reached, &none)
+}
+
+// The verdict on the reached sets of a pair.
+pub(crate) fn verdict(spec_reached: &[i64], impl_reached: &[i64]) -> usize {
+    if same(spec_reached, impl_reached) {
+        return EQUAL;
+    }
+    if is_empty(impl_reached) {
+        return DIFFERENT;
+    }
+    if all_within(spec_reached, impl_reached) {
+        return PARTIAL;
+    }
+    DIFFERENT
+}

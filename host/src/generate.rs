@@ -436,13 +436,40 @@ fn displace(random: &mut Random, draft: &mut Draft) {
     }
 }
 
+/// Cuts a leaf at its end and moves edges into it up by no more than that: mostly within
+/// the root bits and the leaf bits of the specification, with another displacement.
+fn slip(random: &mut Random, draft: &mut Draft) {
+    let entered = |leaf: usize| draft.edges.iter().any(|edge| edge.to == leaf);
+    let mut leaves = draft.leaves.clone();
+    leaves.retain(|&leaf| draft.nodes[leaf].range > 1 && entered(leaf));
+    if leaves.is_empty() {
+        return;
+    }
+    let leaf = random.pick(&leaves);
+    let cut = random.between(1, (draft.nodes[leaf].range - 1).min(3));
+    draft.nodes[leaf].range -= cut;
+    for edge in draft.edges.iter_mut().filter(|edge| edge.to == leaf) {
+        if random.chance(75) {
+            edge.offset += random.between(1, cut);
+        }
+    }
+}
+
+/// A change that adds addresses: a window that ends one unit later.
+fn grow(random: &mut Random, draft: &mut Draft) {
+    let node = random.below(draft.nodes.len());
+    draft.nodes[node].range += 1;
+}
+
 fn implementation(random: &mut Random, spec: &Draft) -> Draft {
     let mut implementation = spec.clone();
     for _ in 0..random.below(4) {
         keep(random, &mut implementation);
     }
     match random.below(10) {
-        0..=1 => (),
+        0 => (),
+        1 if random.chance(30) => grow(random, &mut implementation),
+        1 => slip(random, &mut implementation),
         2..=7 => shrink(random, &mut implementation),
         8 => displace(random, &mut implementation),
         _ => implementation = draft(random),

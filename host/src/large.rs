@@ -200,6 +200,69 @@ fn touching_windows(name: &'static str) -> Map {
     whole(name, tables(&spec, &implementation))
 }
 
+/// Rows of the two nodes between the roots and the leaves of `hub_and_foot`.
+const HUB: usize = 0;
+const FOOT: usize = 1;
+
+/// That many roots above a hub, and as many leaves below a foot, all at one place. Each
+/// path from hub to foot is to be one record of each pair.
+fn hub_and_foot(count: usize, root_range: i64, leaf_range: i64) -> Draft {
+    let mut draft = Draft::default();
+    (0..2).for_each(|_| _ = draft.node(SEGMENT, 0, SPAN, 8));
+    for _ in 0..count {
+        let root = draft.root(0, root_range, 8);
+        draft.join(root, HUB, 0);
+        let leaf = draft.leaf(0, leaf_range, 8);
+        draft.join(FOOT, leaf, 0);
+    }
+    draft
+}
+
+/// An edge from hub to foot for each offset: a record from that unit on.
+fn with_edges(mut draft: Draft, offsets: impl Iterator<Item = i64>) -> Draft {
+    offsets.for_each(|offset| draft.join(HUB, FOOT, offset));
+    draft
+}
+
+/// Windows between hub and foot: record i has that many units from unit i on, and shows
+/// the leaf's from unit 2 * i on.
+fn with_windows(mut draft: Draft, records: i64, range: i64) -> Draft {
+    for base in 0..records {
+        let window = draft.node(SEGMENT, base, range, 8);
+        draft.join(HUB, window, 0);
+        draft.join(window, FOOT, -base);
+    }
+    draft
+}
+
+/// Every record of the implementation but the last, by displacement and then by first, is
+/// contained in one of the specification that has its displacement. The last is within
+/// the root bits and the leaf bits of the specification's last, and no record there has
+/// its displacement.
+fn last_displacement_unlike(name: &'static str, count: usize, records: i64) -> Map {
+    let nodes = |leaf_range| hub_and_foot(count, records + 3, leaf_range);
+    let spec = with_edges(nodes(4), 0..records);
+    let implementation = with_edges(nodes(3), (0..records - 1).chain([records]));
+    whole(name, tables(&spec, &implementation))
+}
+
+/// Every record of the implementation but the last is the specification's. The last ends
+/// one unit behind that of its displacement: the specification's roots are one unit
+/// shorter, which cuts its last record alone. Records begin and end where units do, which
+/// have 8 bits at least, so that no map has a record that is one bit longer.
+fn last_unit_longer(name: &'static str, count: usize, records: i64) -> Map {
+    let side = |root_range| with_edges(hub_and_foot(count, root_range, 4), 0..records);
+    whole(name, tables(&side(records + 2), &side(records + 3)))
+}
+
+/// Every record is contained. The order by displacement is the reverse of the order by
+/// first, so that a sort by displacement turns the whole list round.
+fn displacements_in_reverse(name: &'static str, count: usize, records: i64) -> Map {
+    let nodes = || hub_and_foot(count, records + 1, 2 * records);
+    let side = |range| with_windows(nodes(), records, range);
+    whole(name, tables(&side(2), &side(1)))
+}
+
 /// A system of usual form: each leaf behind a chain of bridges of mixed units that
 /// all roots share, some edges doubled, some dead ends; node rows of the
 /// implementation numbered against the direction of its edges.
@@ -292,8 +355,24 @@ pub fn narrow_maps() -> Vec<Map> {
         merging.map("3 x 3, 1,024 paths, 1 record"),
         records.map("3 x 3, 1,024 paths, no merging"),
         partial("3 x 3, 1,024 records, partial", records),
+        last_displacement_unlike("3 x 3, 1,024 records, last displacement unlike", 3, 1_024),
+        last_unit_longer("3 x 3, 1,024 records, last one unit longer", 3, 1_024),
+        // With 1,024 windows on either side there would be no text.
+        displacements_in_reverse("3 x 3, 800 records, displacements in reverse", 3, 800),
         chain.map("3 x 3, chain of 64, 1,024 paths"),
         partial("3 x 3, chain of 64, partial", chain),
+    ]
+}
+
+/// Maps of unequal lists, small enough for walks from each single bit address.
+pub fn small_versions() -> [Map; 5] {
+    let records = Funnel { roots: 0, narrow: 2, leaves: 2, stages: 3, step: 1, ..FUNNEL };
+    [
+        partial("2 x 2, 8 records, partial", records),
+        partial("2 x 2, chain of 7, partial", Funnel { chain: 2, ..records }),
+        last_displacement_unlike("2 x 2, 8 records, last displacement unlike", 2, 8),
+        last_unit_longer("2 x 2, 8 records, last one unit longer", 2, 8),
+        displacements_in_reverse("2 x 2, 8 records, displacements in reverse", 2, 8),
     ]
 }
 
@@ -319,7 +398,10 @@ pub fn maps() -> Vec<Map> {
         touching_windows("60 x 60, 1,024 touching windows"),
         records.map("60 x 60, 1,024 paths, no merging"),
         Funnel { roots: 30, leaves: 30, ..records }.map("30 x 30, 1,024 paths, no merging"),
-        Map { long: true, ..partial("60 x 60, 1,024 records, partial", records) },
+        partial("60 x 60, 1,024 records, partial", records),
+        last_displacement_unlike("60 x 60, 1,024 records, last displacement unlike", 60, 1_024),
+        last_unit_longer("60 x 60, 1,024 records, last one unit longer", 60, 1_024),
+        displacements_in_reverse("60 x 60, 1,024 records, displacements in reverse", 60, 1_024),
         chain.map("60 x 60, chain of 64, 1,024 paths"),
         Funnel { bridged: true, ..records }.map("60 x 60, bridges, 1,024 paths"),
         sections("2 x 900, 1 of 1,024 paths seen", 2, 900),

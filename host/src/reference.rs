@@ -305,9 +305,14 @@ pub fn walk(
 
 // Lists
 
+/// The order in which runs of one displacement stand together, ascending.
+fn by_displacement(run: &Record) -> (i64, i64) {
+    (run.displacement, run.first)
+}
+
 /// Sorts runs and joins those of one displacement that touch or overlap.
 pub fn merge(mut runs: Vec<Record>) -> Vec<Record> {
-    runs.sort_unstable_by_key(|run| (run.displacement, run.first));
+    runs.sort_unstable_by_key(by_displacement);
     let mut list: Vec<Record> = Vec::new();
     for run in runs {
         match list.last_mut() {
@@ -372,24 +377,29 @@ pub fn list(
 
 // Comparing
 
-/// The root bits, and the leaf bits, of `inner` are among those of `outer`.
-fn contained(inner: &Record, outer: &Record) -> bool {
-    let leaf_bits =
-        |record: &Record| (record.first - record.displacement, record.last - record.displacement);
-    let (inner_first, inner_last) = leaf_bits(inner);
-    let (outer_first, outer_last) = leaf_bits(outer);
-    outer.first <= inner.first
-        && inner.last <= outer.last
-        && outer_first <= inner_first
-        && inner_last <= outer_last
+/// An implementation record counts towards partial only if one specification record
+/// contains its root bits and its leaf bits and has its displacement. `sorted` has the
+/// specification's records by displacement. The only one that can contain `inner` is the
+/// last of its displacement that begins no later, since those of one displacement lie
+/// apart; and where it contains the root bits it contains the leaf bits.
+fn contained(inner: &Record, sorted: &[Record]) -> bool {
+    let end = sorted.partition_point(|outer| by_displacement(outer) <= by_displacement(inner));
+    let contains =
+        |outer: &Record| outer.displacement == inner.displacement && inner.last <= outer.last;
+    sorted[..end].last().is_some_and(contains)
 }
 
+/// 0 equal, 1 partial, 2 different.
 pub fn verdict(spec: &[Record], implementation: &[Record]) -> i64 {
     if spec == implementation {
         return 0;
     }
-    let covered = |inner: &Record| spec.iter().any(|outer| contained(inner, outer));
-    if !implementation.is_empty() && implementation.iter().all(covered) {
+    if implementation.is_empty() {
+        return 2;
+    }
+    let mut sorted = spec.to_vec();
+    sorted.sort_unstable_by_key(by_displacement);
+    if implementation.iter().all(|record| contained(record, &sorted)) {
         1
     } else {
         2

@@ -64,13 +64,13 @@ verdict equal partial different root leaf address
 }
 
 #[test]
-fn p3_is_partial() {
+fn p3_is_different() {
     let report = "\
 root leaf verdict spec impl
-0 0 1 1 1
+0 0 2 1 1
 
 verdict equal partial different root leaf address
-1 0 1 0 0 0 2048
+2 0 0 1 0 0 2048
 ";
     assert_eq!(prints(&p3()), report);
     assert_eq!(impl_list(&p3()), [record(2048, 2303, 1792)]);

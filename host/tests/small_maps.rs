@@ -29,9 +29,40 @@ fn check_single_calls(nodes: &[i64], edges: &[i64], root: i64, leaf: i64, random
     }
 }
 
+/// Lists that would be partial if displacements did not count: not all that is reached is
+/// specified, though the root bits and the leaf bits of each record of the implementation
+/// are among those of one specification record.
+fn differ_by_displacement(spec: &[Record], implementation: &[Record]) -> bool {
+    let root_bits = |record: &Record| (record.first, record.last);
+    let leaf_bits =
+        |record: &Record| (record.first - record.displacement, record.last - record.displacement);
+    let within = |inner: (i64, i64), outer: (i64, i64)| outer.0 <= inner.0 && inner.1 <= outer.1;
+    let bits_within = |inner: &Record, outer: &Record| {
+        within(root_bits(inner), root_bits(outer)) && within(leaf_bits(inner), leaf_bits(outer))
+    };
+    let contained = |inner| spec.iter().any(|outer| bits_within(inner, outer));
+    verdict(spec, implementation) == 2
+        && !implementation.is_empty()
+        && implementation.iter().all(contained)
+}
+
+/// How many pairs of a map differ by displacement alone.
+fn pairs_of_unlike_displacement(tables: &Tables) -> usize {
+    let rows = |table: usize| tables[table].chunks(2);
+    let pairs = rows(ROOT_PAIRS).flat_map(|root| rows(LEAF_PAIRS).map(move |leaf| (root, leaf)));
+    let lists = pairs.map(|(root, leaf)| {
+        [0, 1].map(|side| {
+            let (nodes, edges) = (&tables[2 * side], &tables[2 * side + 1]);
+            list(nodes, edges, root[side], leaf[side], usize::MAX).unwrap()
+        })
+    });
+    lists.filter(|[spec, implementation]| differ_by_displacement(spec, implementation)).count()
+}
+
 #[test]
 fn small_maps_come_out_alike() {
     let mut shares = [0; 3];
+    let (mut lines, mut unlike) = (0, 0);
     let (mut records, mut paths, mut without_line) = (0, 0, 0);
     for seed in 0..MAPS {
         let random = &mut Random::new(seed);
@@ -51,13 +82,17 @@ fn small_maps_come_out_alike() {
             paths = paths.max(bitwalk::paths(&tables[3], root[1] as usize, leaf[1] as usize));
         }
         shares[expected.outcome.whole as usize] += 1;
+        lines += expected.lines.len();
+        unlike += pairs_of_unlike_displacement(&tables);
         without_line += u64::from(expected.lines.is_empty());
         records =
             records.max(expected.lines.iter().map(|line| line.implementation).max().unwrap_or(0));
     }
     println!("equal, partial, different {shares:?}, {without_line} with nothing connected");
+    println!("{lines} pairs with a record, {unlike} that differ by displacement alone");
     println!("{records} records, {paths} paths at most");
     assert!(shares.iter().all(|&share| share > MAPS / 6), "{shares:?}");
+    assert!(unlike > lines / 50, "{unlike} of {lines}");
     assert!(without_line < MAPS / 6 && records >= 8 && paths >= 16);
 }
 
@@ -86,7 +121,7 @@ fn runs_merge_as_their_bits_do() {
 #[test]
 fn random_lists_judge_as_their_bits_do() {
     let random = &mut Random::new(2);
-    let mut shares = [0; 3];
+    let (mut shares, mut unlike) = ([0; 3], 0);
     let list = |random: &mut Random, most: i64| {
         let mut reached = bitwalk::Reached::new();
         for _ in 0..random.between(0, most) {
@@ -104,10 +139,11 @@ fn random_lists_judge_as_their_bits_do() {
         let verdict = verdict(&lists.0, &lists.1);
         assert_eq!(verdict, bitwalk::verdict(&spec, &implementation));
         shares[verdict as usize] += 1;
+        unlike += u64::from(differ_by_displacement(&lists.0, &lists.1));
         let lowest = spec.symmetric_difference(&implementation).map(|pair| pair.0).min();
         assert_eq!(lowest_difference(&lists.0, &lists.1), lowest);
     }
-    assert!(shares.iter().all(|&share| share > 200), "{shares:?}");
+    assert!(shares.iter().all(|&share| share > 200) && unlike > 100, "{shares:?}, {unlike}");
 }
 
 #[test]

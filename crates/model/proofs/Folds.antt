@@ -11,20 +11,52 @@ use lib.ListN.{length}
 use Rattle.integers.proofs.Tests.{Test, passed, failed, eq?}
 use Rattle.lists.specs.Lists.{_∈_}
 use Rattle.lists.proofs.Membership.{map-in, map-out}
-use Rattle.model.specs.Compare.{Finding, verdictOf, count, largest, firstUnequal, placeOf, nowhere}
+use Rattle.model.specs.Compare.{Finding, verdictOf, count, largest, firstUnequal, placeOf, nowhere, resultOf}
+use Rattle.model.proofs.Verdicts.{verdict-range}
 
--- the three counts together are as many as the verdicts
-pub counts-total : (vs : List ℕ) → ((v : ℕ) → v ∈ vs → v ≤ 2) → count 0 vs + count 1 vs + count 2 vs ≡ length vs
+-- four counts together are as many as the numbers, where none is above 3
+pub counts-four : (vs : List ℕ) → ((v : ℕ) → v ∈ vs → v ≤ 3) → count 0 vs + count 1 vs + count 2 vs + count 3 vs ≡ length vs
 unfolding count
-counts-total [] h = refl
-counts-total (v ∷ vs) h = go v (h v (List·Memᴰ·head refl)) (counts-total vs (λ w m. h w (List·Memᴰ·tail m)))
+counts-four [] h = refl
+counts-four (v ∷ vs) h = go v (h v (List·Memᴰ·head refl)) (counts-four vs (λ w m. h w (List·Memᴰ·tail m)))
   where
-    go : (v : ℕ) → v ≤ 2 → count 0 vs + count 1 vs + count 2 vs ≡ length vs
-        → count 0 (v ∷ vs) + count 1 (v ∷ vs) + count 2 (v ∷ vs) ≡ suc (length vs)
+    go : (v : ℕ) → v ≤ 3 → count 0 vs + count 1 vs + count 2 vs + count 3 vs ≡ length vs
+        → count 0 (v ∷ vs) + count 1 (v ∷ vs) + count 2 (v ∷ vs) + count 3 (v ∷ vs) ≡ suc (length vs)
     go zero le rec = omega arith
     go (suc zero) le rec = omega arith
     go (suc (suc zero)) le rec = omega arith
-    go (suc (suc (suc n))) le rec = absurd (omega arith)
+    go (suc (suc (suc zero))) le rec = omega arith
+    go (suc (suc (suc (suc n)))) le rec = absurd (omega arith)
+
+-- a number that is none of the list's does not stand in it
+count-absent : (k : ℕ) (vs : List ℕ) → ((v : ℕ) → v ∈ vs → v ≢ k) → count k vs ≡ 0
+unfolding count
+count-absent k [] h = refl
+count-absent k (v ∷ vs) h = go (eqb v k) (eq? v k) (count-absent k vs (λ w m. h w (List·Memᴰ·tail m)))
+  where
+    go : (b : Bool) → Test (v ≡ k) (v ≢ k) b → count k vs ≡ 0 → cond b (suc (count k vs)) (count k vs) ≡ 0
+    go true (passed e) later = absurd (h v (List·Memᴰ·head refl) e)
+    go false t later = later
+
+-- the three counts together are as many as the verdicts
+pub counts-total : (vs : List ℕ) → ((v : ℕ) → v ∈ vs → v ≤ 2) → count 0 vs + count 1 vs + count 2 vs ≡ length vs
+counts-total vs h =
+    omega (arith, counts-four vs (λ v m. omega (arith, h v m)), count-absent 3 vs (λ v m e. omega (arith, h v m, e)))
+
+-- no verdict is above 2
+pub verdict-low : (f : Finding) → verdictOf f ≤ 2
+unfolding verdictOf
+verdict-low f = verdict-range (f .spec) (f .impl)
+
+largest-low : (vs : List ℕ) → ((v : ℕ) → v ∈ vs → v ≤ 2) → largest vs ≤ 2
+unfolding largest
+largest-low [] h = omega arith
+largest-low (v ∷ vs) h = omega (arith, h v (List·Memᴰ·head refl), largest-low vs (λ w m. h w (List·Memᴰ·tail m)))
+
+-- nor is the whole verdict
+pub whole-low : (fs : List Finding) → resultOf fs .verdict ≤ 2
+unfolding resultOf
+whole-low fs = largest-low (map verdictOf fs) (λ v m. let w = map-out verdictOf fs m in rw (w .2) (verdict-low (w .0)))
 
 -- the largest verdict is 0 exactly where all are
 pub largest-zero : (vs : List ℕ) → (largest vs ≡ 0) ↔ ((v : ℕ) → v ∈ vs → v ≡ 0)

@@ -19,5 +19,5 @@ pub mod Visits
 pub mod Folds
 pub mod Pairing
 pub mod Demand
+pub mod Tally
 pub mod Marked
-pub mod Readings

@@ -1,4 +1,4 @@
--- The number and the values that document 01 gives for each case of an answer. Every contract uses these. Assumes nothing.
+-- The number and the values that documents 01 and 02 give for each case of an answer. Every contract uses these. Assumes nothing.
 use Prim.Native.Nat.{ℕ}
 use Rattle.model.specs.declared.Reason.{Reason}
 use Rattle.model.specs.declared.Reason.the-variants as reason
@@ -35,6 +35,7 @@ refusalOf reason.LongOutput = numbered 11 7 0
 refusalOf (reason.Characters l) = numbered 12 6 l
 refusalOf (reason.Names l) = numbered 13 6 l
 refusalOf (reason.Values l) = numbered 14 6 l
+refusalOf reason.NoCaller = numbered 15 7 0
 
 -- verdict 0 equal, 1 partial, 2 different
 abbrev pub verdictNumber : Verdict → ℕ

@@ -61,7 +61,7 @@ findings t = map (findingOf t) (visits (rootRows t) (leafRows t))
 unfoldable pub verdictOf : Finding → ℕ
 verdictOf f = verdict (f .spec) (f .impl)
 
--- how often a verdict was given
+-- how often a number stands in a list; of verdicts, how often one was given
 unfoldable pub count : ℕ → List ℕ → ℕ
 count v [] = 0
 count v (x ∷ t) = cond (eqb x v) (suc (count v t)) (count v t)

@@ -20,5 +20,5 @@ pub mod FileRules
 pub mod Reader
 pub mod Report
 pub mod TextCheck
+pub mod Tally
 pub mod Marked
-pub mod Readings

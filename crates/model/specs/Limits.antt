@@ -1,4 +1,4 @@
--- The limits of document 01, and the numbers of a row. Assumes nothing.
+-- The limits of documents 01 and 02, and the numbers of a row. Assumes nothing.
 use Prim.Native.Nat.{ℕ, _^_, _-_}
 use lib.IntN.{ℤ, pos}
 
@@ -49,6 +49,13 @@ reportRoom = 65536
 -- digits of a value at most
 abbrev pub maxDigits : ℕ
 maxDigits = 18
+
+-- callers of a tally, and counts of each
+abbrev pub callers : ℕ
+callers = 16
+
+abbrev pub countKinds : ℕ
+countKinds = 4
 
 -- a tally's count stays from here on
 abbrev pub countCeiling : ℕ

@@ -1,11 +1,9 @@
--- The text check, its answer in C, the tally, and what mapcheck prints. Assumes nothing.
-use mathlib.Core.Bool.{cond}
-use mathlib.Core.List.{List, [], _∷_}
-use Prim.Native.Nat.{ℕ, suc, _+_, _*_}
-use lib.Dec.{ltb}
+-- The text check, its answer in C, and what mapcheck prints. Assumes nothing.
+use mathlib.Core.List.{List}
+use Prim.Native.Nat.{ℕ, _+_, _*_}
 use lib.IntN.{ℤ, pos, negℤ}
-use lib.ListN.{length, getD, set}
-use Rattle.model.specs.Limits.{reportRoom, countCeiling}
+use lib.ListN.{length}
+use Rattle.model.specs.Limits.{reportRoom}
 use Rattle.model.specs.Bytes.{Bytes}
 use Rattle.model.specs.MapFile.{fileConditions}
 use Rattle.model.specs.Reader.{readMap}
@@ -61,25 +59,6 @@ textConditions room text t = fileConditions text next reportConditions room t
 unfoldable pub coded : Answer ℕ → ℤ
 coded (full n) = pos n
 coded (refused r) = negℤ (pos (r .number * 100000000 + r .table * 10000000 + r .row))
-
--- ---- tally: counts of equal, partial, different and refused
-
--- the count that an answer adds to: that of its whole verdict, or the last
-unfoldable pub countOf : Answer Reported → ℕ
-countOf (refused r) = 3
-countOf (full c) = c .verdict
-
--- one more at a place; a count at or above 2^63 − 1 stays
-unfoldable pub oneMore : ℕ → List ℕ → List ℕ
-oneMore i counts = cond (ltb (getD counts i 0) countCeiling) (set counts i (suc (getD counts i 0))) counts
-
--- the tally record after the check of a text into a report buffer; the answer is textGives, the buffer afterwards textAfter
-unfoldable pub tallyAfter : Bytes → Bytes → List ℕ → List ℕ
-tallyAfter text buffer counts = oneMore (countOf (textAnswer (length buffer) text)) counts
-
--- the fresh tally
-abbrev pub freshTally : List ℕ
-freshTally = 0 ∷ 0 ∷ 0 ∷ 0 ∷ []
 
 -- ---- mapcheck: what it prints for its input
 

@@ -30,6 +30,11 @@ pub const MAX_UNITS: i64 = 281474976710656;
 // What a root row counts for in the place of a pair in visiting order: its place is root row × ROOT_STRIDE + leaf row.
 pub const ROOT_STRIDE: usize = 1000;
 
+// Callers of a tally, and counts of each: equal, partial, different and refused.
+pub const CALLERS: usize = 16;
+
+pub const COUNT_KINDS: usize = 4;
+
 // Tables, by the numbers that refusals give.
 pub const SPEC_NODES: usize = 0;
 
@@ -130,6 +135,7 @@ pub enum Reason {
     Characters { line: usize },
     Names { line: usize },
     Values { line: usize },
+    NoCaller,
 }
 
 // The verdict on a pair, or on two graphs.

@@ -62,11 +62,15 @@ unfolding lengthAlone measuredOf lengthOf reportOf
 length-alone (refused r) = refl
 length-alone (full c) = refl
 
+-- the length alone of an outcome is that of its answer
+pub gives-length : {a : Answer Reported} {before after : Bytes} {o : Outcome} → Gives a before after o → lengthAlone (outcomeAnswer o) ≡ lengthOf (reportOf a)
+gives-length {a} g = ap lengthAlone (g .answers) ∙ length-alone a
+
 module _ (text : Bytes) {report after : Bytes} {o : Outcome} (g : Gives (textAnswer (length report) text) report after o) where
   -- what the text check returns
   pub given-length : lengthAlone (outcomeAnswer o) ≡ textGives text report
   unfolding textGives
-  given-length = ap lengthAlone (g .answers) ∙ length-alone (textAnswer (length report) text)
+  given-length = gives-length g
 
   -- and what its buffer holds afterwards
   pub given-buffer : after ≡ textAfter text report

@@ -5,7 +5,7 @@ use mathlib.Core.Bool.{Bool, true, false, cond, _&&_}
 use mathlib.Core.Logic.{_≢_}
 use mathlib.Core.Option.{none}
 use mathlib.Core.List.{List, [], _∷_, _++_, map, flatMap, List·Memᴰ·head, List·Memᴰ·tail}
-use Prim.Native.Nat.{ℕ, suc, _+_, _*_, _≤_, _<_, _^_, max}
+use Prim.Native.Nat.{ℕ, suc, _+_, _*_, _≤_, _<_, _^_}
 use native.Mathlib.Nat.{le-trans, lt-irrefl, lt-of-lt-of-le}
 use native.Mathlib.Omega.{arith}
 use lib.Dec.{eqb}
@@ -17,7 +17,7 @@ use Rattle.lists.specs.Lists.{_∈_, isNil}
 use Rattle.model.specs.Bytes.{Bytes, bytes, lineFeed, blank, dash, digits, shown, spaced}
 use Rattle.model.specs.Rows.{Pair}
 use Rattle.model.specs.Limits.{maxPairs}
-use Rattle.model.specs.Compare.{Tables, Visit, visits, Finding, findingOf, verdictOf, largest, Place, nowhere, Result, rootRows, leafRows, findings, resultOf}
+use Rattle.model.specs.Compare.{Tables, Visit, visits, Finding, findingOf, verdictOf, Place, nowhere, Result, rootRows, leafRows, findings, resultOf}
 use Rattle.model.specs.Checks.{checkTables}
 use Rattle.model.specs.Refusals.{NoneHolds, compareConditions, outputConditions}
 use Rattle.model.specs.Report.{lineOf, findingLine, resultLine, report}
@@ -25,9 +25,9 @@ use Rattle.model.specs.TextCheck.{reportConditions}
 use Rattle.model.specs.Demands.{Address, Demand3, FirstDifference}
 use Rattle.model.proofs.Settled.{none-next, settled-none}
 use Rattle.model.proofs.Pairing.{compare-settled}
-use Rattle.model.proofs.Verdicts.{verdict-range}
+use Rattle.model.proofs.Folds.{verdict-low, whole-low}
 use Rattle.model.proofs.Visits.{visits-in, visits-length}
-use Rattle.lists.proofs.Membership.{map-in, map-out}
+use Rattle.lists.proofs.Membership.{map-in}
 use Rattle.model.proofs.Demand.{compare-full, demand3}
 use Rattle.report.proofs.Digits.{digits-one, digits-within}
 use Rattle.reporting.specs.Lines.{SmallFinding, SmallResult}
@@ -64,10 +64,6 @@ line-size v (w ∷ vs) =
     )
 
 -- ---- pairs
-
-verdict-low : (f : Finding) → verdictOf f ≤ 2
-unfolding verdictOf
-verdict-low f = verdict-range (f .spec) (f .impl)
 
 module _ (f : Finding) (small : SmallFinding f) where
   -- what stands behind the root row
@@ -108,12 +104,6 @@ lines-longest (f ∷ fs) h =
     )
 
 -- ---- the result
-
--- no verdict is above 2, nor is the largest
-largest-low : (vs : List ℕ) → ((v : ℕ) → v ∈ vs → v ≤ 2) → largest vs ≤ 2
-unfolding largest
-largest-low [] h = omega arith
-largest-low (v ∷ vs) h = omega (arith, h v (List·Memᴰ·head refl), largest-low vs (λ w m. h w (List·Memᴰ·tail m)))
 
 -- a bit address up to 2^55 − 1 has at most 17 digits
 address-longest : (x : ℤ) → Address x → length (shown x) ≤ 17
@@ -195,10 +185,6 @@ report-size fs =
       length-append (names ++ lines) middle,
       length-append (names ++ lines ++ middle) (resultLine (resultOf fs)),
     )
-
-whole-low : (fs : List Finding) → resultOf fs .verdict ≤ 2
-unfolding resultOf
-whole-low fs = largest-low (map verdictOf fs) (λ v m. let w = map-out verdictOf fs m in rw (w .2) (verdict-low (w .0)))
 
 findings-count : (t : Tables) → length (findings t) ≡ length (rootRows t) * length (leafRows t)
 unfolding findings

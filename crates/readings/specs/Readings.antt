@@ -1,14 +1,15 @@
--- Readings of document 01's open places, and limits at both edges, as lists of cases. Assumes nothing.
+-- Readings of the open places of documents 01 and 02, and limits at both edges, as lists of cases. Assumes nothing.
 use mathlib.Core.Path.{_≡_}
-use mathlib.Core.List.{List, [], _∷_}
-use Prim.Native.Nat.{ℕ, _-_, _^_}
+use mathlib.Core.List.{List, [], _∷_, _++_}
+use Prim.Native.Nat.{ℕ, _*_, _-_, _^_}
 use Prim.Native.String.{String}
 use lib.IntN.{ℤ, pos, negsuc, negℤ}
 use Rattle.model.specs.Compare.{Tables, Result}
 use Rattle.model.specs.Calls.{Answer, full, checkAnswer, walkGives, walkAfter, listGives, listAfter, compareAnswer}
 use Rattle.model.specs.Bytes.{Bytes, bytes}
-use Rattle.model.specs.TextCheck.{printed, textGives, coded, tallyAfter, freshTally}
-use Rattle.model.specs.Marked.{refusal, times, text1}
+use Rattle.model.specs.TextCheck.{printed, textGives, coded}
+use Rattle.model.specs.Tally.{Check, tallyGives, tallyAfter, countsAfter, freshTally, countsAfterAll, ended}
+use Rattle.model.specs.Marked.{refusal, times, text1, report1, text2, text3}
 
 pub data Reading : Type 0 where
   -- a map file, and what mapcheck prints for it
@@ -23,8 +24,12 @@ pub data Reading : Type 0 where
   compares : Tables → Answer Result → Reading
   -- a text and a report buffer, and what the call through C linkage returns
   codes : Bytes → Bytes → ℤ → Reading
-  -- a text, a report buffer and a tally, and the tally afterwards
-  tallies : Bytes → Bytes → List ℕ → List ℕ → Reading
+  -- a check and a tally; what the call returns, the report buffer afterwards, and the tally afterwards
+  tallies : Check → List ℕ → Answer ℕ → Bytes → List ℕ → Reading
+  -- checks from a fresh tally, one after the other, and the tally afterwards
+  tallied : List Check → List ℕ → Reading
+  -- checks, a caller and an ending, and how many of the caller's ended so
+  numbers : List Check → ℕ → ℕ → ℕ → Reading
 
 -- what a reading says
 abbrev pub Says : Reading → Type 0
@@ -34,7 +39,9 @@ Says (walks ns es r l x b n after) = (walkGives ns es r l x b ≡ n) × (walkAft
 Says (listed ns es r l b n after) = (listGives ns es r l b ≡ n) × (listAfter ns es r l b ≡ after)
 Says (compares t a) = compareAnswer t ≡ a
 Says (codes text b n) = coded (textGives text b) ≡ n
-Says (tallies text b counts after) = tallyAfter text b counts ≡ after
+Says (tallies c counts n report counted) = (tallyGives c ≡ n) × (tallyAfter c ≡ report) × (countsAfter c counts ≡ counted)
+Says (tallied cs after) = countsAfterAll cs freshTally ≡ after
+Says (numbers cs k v n) = ended k v cs ≡ n
 
 -- every reading of the list holds
 abbrev pub AllSay : List Reading → Type 0
@@ -182,24 +189,66 @@ callReadings =
     compares (record { specNodes = (pos 0 ∷ pos 0 ∷ pos 16 ∷ pos 8 ∷ pos 2 ∷ pos 0 ∷ pos 16 ∷ pos 8 ∷ pos 2 ∷ pos 0 ∷ pos 16 ∷ pos 8 ∷ []); specEdges = (pos 0 ∷ pos 1 ∷ pos 0 ∷ pos 0 ∷ pos 2 ∷ pos 0 ∷ []); implNodes = (pos 0 ∷ pos 0 ∷ pos 16 ∷ pos 8 ∷ pos 2 ∷ pos 0 ∷ pos 8 ∷ pos 8 ∷ pos 2 ∷ pos 0 ∷ pos 16 ∷ pos 8 ∷ []); implEdges = (pos 0 ∷ pos 1 ∷ pos 0 ∷ []); rootPairs = (pos 0 ∷ pos 0 ∷ []); leafPairs = (pos 1 ∷ pos 1 ∷ pos 2 ∷ pos 2 ∷ []) }) (full (record { equal = 0; partial = 1; different = 1; verdict = 2; place = record { root = pos 0; leaf = pos 0; address = pos 64 } })) ∷
     []
 
--- the call through C linkage, and the tally
-abbrev pub answerReadings : List Reading
-answerReadings =
+-- the call through C linkage
+abbrev pub codeReadings : List Reading
+codeReadings =
     -- the coded refusal: 13, table 6, line 1
     codes (bytes "") [] (negℤ (pos 1360000001)) ∷
     -- the length of P1's report, into a buffer that holds it just
     codes (bytes text1) (times 106 (7 ∷ [])) (pos 106) ∷
     -- one byte less: 11
     codes (bytes text1) (times 105 (7 ∷ [])) (negℤ (pos 1170000000)) ∷
-    -- a partial map adds to the second count, a refused text to the last, 11 too
-    tallies (bytes text1) (times 106 (7 ∷ [])) freshTally (0 ∷ 1 ∷ 0 ∷ 0 ∷ []) ∷
-    tallies (bytes "") [] freshTally (0 ∷ 0 ∷ 0 ∷ 1 ∷ []) ∷
-    tallies (bytes text1) [] freshTally (0 ∷ 0 ∷ 0 ∷ 1 ∷ []) ∷
-    -- a count at or above 2^63 − 1 stays
-    tallies (bytes "") [] (1 ∷ 2 ∷ 3 ∷ (2 ^ 63 - 2) ∷ []) (1 ∷ 2 ∷ 3 ∷ (2 ^ 63 - 1) ∷ []) ∷
-    tallies (bytes "") [] (1 ∷ 2 ∷ 3 ∷ (2 ^ 63 - 1) ∷ []) (1 ∷ 2 ∷ 3 ∷ (2 ^ 63 - 1) ∷ []) ∷
-    tallies (bytes "") [] (1 ∷ 2 ∷ 3 ∷ (2 ^ 64 - 1) ∷ []) (1 ∷ 2 ∷ 3 ∷ (2 ^ 64 - 1) ∷ []) ∷
     -- a text of 65,536 bytes is taken as to its length; of 65,537 it is not
     codes (times 65536 (10 ∷ [])) [] (negℤ (pos 1360000001)) ∷
     codes (times 65537 (10 ∷ [])) [] (negℤ (pos 1260000000)) ∷
+    []
+
+-- a check
+abbrev pub check : ℤ → Bytes → Bytes → Check
+check caller text report = record { caller = caller; text = text; report = report }
+
+-- the tally in which caller k has these four counts, and every other count is 0
+abbrev pub onlyRow : ℕ → List ℕ → List ℕ
+onlyRow k row = times (4 * k) (0 ∷ []) ++ row ++ times (60 - 4 * k) (0 ∷ [])
+
+-- checks of callers 0 and 15, with an equal map, a partial one, a different one, a refused text and a report that does not fit; and of 16 and −1
+abbrev pub severalChecks : List Check
+severalChecks =
+    check (pos 0) (bytes text2) (times 106 (7 ∷ [])) ∷
+    check (pos 15) (bytes text1) (times 106 (7 ∷ [])) ∷
+    check (pos 0) (bytes text3) (times 106 (7 ∷ [])) ∷
+    check (pos 16) (bytes text2) (times 106 (7 ∷ [])) ∷
+    check (pos 15) (bytes "") [] ∷
+    check (pos 0) (bytes text2) (times 106 (7 ∷ [])) ∷
+    check (negsuc 0) (bytes "") [] ∷
+    check (pos 0) (bytes text1) [] ∷
+    []
+
+-- the tally
+abbrev pub tallyReadings : List Reading
+tallyReadings =
+    -- callers 0 and 15: a partial map adds to the second count of the caller's row, a refused text to the last, 11 too
+    tallies (check (pos 0) (bytes text1) (times 107 (7 ∷ []))) freshTally (full 106) (bytes report1 ++ 7 ∷ []) (onlyRow 0 (0 ∷ 1 ∷ 0 ∷ 0 ∷ [])) ∷
+    tallies (check (pos 15) (bytes "") (7 ∷ [])) freshTally (refusal 13 6 1) (7 ∷ []) (onlyRow 15 (0 ∷ 0 ∷ 0 ∷ 1 ∷ [])) ∷
+    tallies (check (pos 15) (bytes text1) (7 ∷ [])) freshTally (refusal 11 7 0) (7 ∷ []) (onlyRow 15 (0 ∷ 0 ∷ 0 ∷ 1 ∷ [])) ∷
+    -- callers 16, −1, −2^63, 2^32 and 2^63 − 1: 15, and neither buffer nor tally moves
+    tallies (check (pos 16) (bytes text1) (times 107 (7 ∷ []))) freshTally (refusal 15 7 0) (times 107 (7 ∷ [])) freshTally ∷
+    tallies (check (negsuc 0) (bytes text1) (times 107 (7 ∷ []))) freshTally (refusal 15 7 0) (times 107 (7 ∷ [])) freshTally ∷
+    tallies (check (negsuc 9223372036854775807) (bytes "") []) freshTally (refusal 15 7 0) [] freshTally ∷
+    tallies (check (pos 4294967296) (bytes "") []) freshTally (refusal 15 7 0) [] freshTally ∷
+    tallies (check (pos 9223372036854775807) (bytes "") []) freshTally (refusal 15 7 0) [] freshTally ∷
+    -- 15 comes before a text that is too long, which is refused with 12 to a caller
+    tallies (check (pos 16) (times 65537 (10 ∷ [])) []) freshTally (refusal 15 7 0) [] freshTally ∷
+    tallies (check (pos 1) (times 65537 (10 ∷ [])) []) freshTally (refusal 12 6 0) [] (onlyRow 1 (0 ∷ 0 ∷ 0 ∷ 1 ∷ [])) ∷
+    -- the other rows stay
+    tallies (check (pos 1) (bytes "") []) (times 64 (5 ∷ [])) (refusal 13 6 1) [] (times 7 (5 ∷ []) ++ 6 ∷ times 56 (5 ∷ [])) ∷
+    -- a count at or above 2^63 − 1 stays
+    tallies (check (pos 7) (bytes "") []) (onlyRow 7 (1 ∷ 2 ∷ 3 ∷ (2 ^ 63 - 2) ∷ [])) (refusal 13 6 1) [] (onlyRow 7 (1 ∷ 2 ∷ 3 ∷ (2 ^ 63 - 1) ∷ [])) ∷
+    tallies (check (pos 7) (bytes "") []) (onlyRow 7 (1 ∷ 2 ∷ 3 ∷ (2 ^ 63 - 1) ∷ [])) (refusal 13 6 1) [] (onlyRow 7 (1 ∷ 2 ∷ 3 ∷ (2 ^ 63 - 1) ∷ [])) ∷
+    tallies (check (pos 7) (bytes "") []) (onlyRow 7 (1 ∷ 2 ∷ 3 ∷ (2 ^ 64 - 1) ∷ [])) (refusal 13 6 1) [] (onlyRow 7 (1 ∷ 2 ∷ 3 ∷ (2 ^ 64 - 1) ∷ [])) ∷
+    -- several callers: the two checks of numbers outside 0..15 are counted nowhere
+    tallied severalChecks (2 ∷ 0 ∷ 1 ∷ 1 ∷ times 56 (0 ∷ []) ++ 0 ∷ 1 ∷ 0 ∷ 1 ∷ []) ∷
+    numbers severalChecks 0 0 2 ∷
+    numbers severalChecks 15 3 1 ∷
+    numbers severalChecks 0 1 0 ∷
     []

@@ -17,7 +17,8 @@ extern "C" {
  *   the report's length, which is at least 1: the report stands at the front of the buffer, and the bytes behind it are kept; or
  *   -(number * 100,000,000 + table * 10,000,000 + row) of the refusal: the buffer is untouched.
  *
- * Number, table and row are those of docs/REFUSALS.md: the number is 1 to 14, the table 0 to 7, the row below 10,000,000.
+ * Number, table and row are those of docs/REFUSALS.md: the number is 1 to 14, the table 0 to 7, the row below 10,000,000. That is proved
+ * (docs/CLAIMS.md). The number is never 15: that is about the number of a team in a tally, and this call takes no such number and keeps no tally.
  * A report that is longer than the buffer is refused with number 11.
  *
  * Every text is answered, of any length and any bytes, with any buffer. The caller sees to the following:

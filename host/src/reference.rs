@@ -1,5 +1,5 @@
 //! Address map graphs in the straightforward way: adjacency lists, a depth-first
-//! listing of the paths, sort and merge. All calls of the document are here; a
+//! listing of the paths, sort and merge. All calls of the documents are here; a
 //! call on tables takes flat slices of numbers, which may hold anything.
 
 use std::mem::take;
@@ -33,6 +33,15 @@ pub const WIDTHS: [usize; 6] = [4, 3, 4, 3, 2, 2];
 pub const NODE_NAMES: [&str; 5] = ["side", "kind", "base", "range", "unit"];
 pub const EDGE_NAMES: [&str; 4] = ["side", "from", "to", "offset"];
 pub const PAIR_NAMES: [&str; 3] = ["role", "spec", "impl"];
+
+pub const CALLERS: usize = 16;
+
+/// Ways in which a check ends: with one of three whole verdicts, or refused.
+pub const COUNT_KINDS: usize = 4;
+pub const ENDED_REFUSED: usize = 3;
+
+/// A tally: for each caller from 0 a row of counts (equal, partial, different, refused).
+pub type Counts = [u64; CALLERS * COUNT_KINDS];
 
 /// The six flat tables of a comparison, in the order of their numbers.
 pub type Tables = [Vec<i64>; 6];
@@ -675,14 +684,19 @@ pub fn printed(text: &[u8]) -> Vec<u8> {
     text_check(text, REPORT_ROOM).unwrap_or_else(|refusal| refusal_report(&refusal))
 }
 
-/// Text check beside a record of counts (equal, partial, different, refused).
+/// Text check beside a tally: adds to the caller's count of checks that ended so. A
+/// number outside the callers is refused before all else, and no count moves.
 pub fn tally(
-    text: &[u8], room: usize, mut counts: [u64; 4],
-) -> (Result<Vec<u8>, Refusal>, [u64; 4]) {
+    text: &[u8], room: usize, mut counts: Counts, caller: i64,
+) -> (Result<Vec<u8>, Refusal>, Counts) {
+    let Some(row) = usize::try_from(caller).ok().filter(|&row| row < CALLERS) else {
+        return (Err(refusal(15, OUTPUT, 0)), counts);
+    };
     let answer = judge_text(text, room, Listing::ByRoot);
-    let place = answer.as_ref().map_or(3, |(whole, _)| *whole as usize);
-    if counts[place] < MAX_TALLY {
-        counts[place] += 1;
+    let ending = answer.as_ref().map_or(ENDED_REFUSED, |(whole, _)| *whole as usize);
+    let count = &mut counts[COUNT_KINDS * row + ending];
+    if *count < MAX_TALLY {
+        *count += 1;
     }
     (answer.map(|(_, report)| report), counts)
 }

@@ -1,5 +1,6 @@
 //! The marked maps P1 to P8, with what they give typed in by hand.
 
+use host::generate::Random;
 use host::large::P1;
 use host::reference::*;
 
@@ -224,17 +225,106 @@ fn coded_answers() {
     assert_eq!(coded_refusal(&refusal(10, 3, 999_999)), -1_030_999_999);
 }
 
+/// A tally with one caller's counts, and 0 for all others.
+fn only(caller: usize, counts: [u64; 4]) -> Counts {
+    let mut tally = [0; 64];
+    tally[4 * caller..4 * caller + 4].copy_from_slice(&counts);
+    tally
+}
+
+/// A tally in which every count is another one: 1000 for the first, 1063 for the last.
+fn unlike() -> Counts {
+    std::array::from_fn(|place| 1_000 + place as u64)
+}
+
+/// Texts that end equal, partial, different and refused, in the order of the counts.
+fn ending_texts() -> [String; 4] {
+    [p2(), P1.to_string(), p3(), String::new()]
+}
+
 #[test]
 fn tallies() {
-    let room = P1_REPORT.len();
-    let fresh = [0; 4];
-    assert_eq!(tally(p2().as_bytes(), 200, fresh).1, [1, 0, 0, 0]);
-    assert_eq!(tally(P1.as_bytes(), room, fresh).1, [0, 1, 0, 0]);
-    assert_eq!(tally(P1.as_bytes(), room, fresh).0.unwrap(), P1_REPORT.as_bytes());
-    assert_eq!(tally(P1.as_bytes(), room - 1, fresh).1, [0, 0, 0, 1]);
-    assert_eq!(tally(b"", 200, fresh), (Err(refusal(13, 6, 1)), [0, 0, 0, 1]));
+    let fresh = [0; 64];
+    let tallied = |text: &str, caller| tally(text.as_bytes(), 200, fresh, caller).1;
+    assert_eq!(tallied(&p2(), 0), only(0, [1, 0, 0, 0]));
+    assert_eq!(tallied(P1, 0), only(0, [0, 1, 0, 0]));
+    assert_eq!(tallied(&p3(), 0), only(0, [0, 0, 1, 0]));
+    assert_eq!(tallied("", 0), only(0, [0, 0, 0, 1]));
+    assert_eq!(tallied(&p2(), 15), only(15, [1, 0, 0, 0]));
+    assert_eq!(tallied(P1, 15), only(15, [0, 1, 0, 0]));
+    assert_eq!(tallied(&p3(), 15), only(15, [0, 0, 1, 0]));
+    assert_eq!(tallied("", 15), only(15, [0, 0, 0, 1]));
+    // The answer is that of the text check, and each refusal counts.
+    let refused = only(0, [0, 0, 0, 1]);
+    assert_eq!(tally(P1.as_bytes(), 106, fresh, 0).0.unwrap(), P1_REPORT.as_bytes());
+    assert_eq!(tally(P1.as_bytes(), 106, fresh, 0).1, only(0, [0, 1, 0, 0]));
+    assert_eq!(tally(P1.as_bytes(), 105, fresh, 0), (Err(refusal(11, 7, 0)), refused));
+    assert_eq!(tally(b"", 200, fresh, 0), (Err(refusal(13, 6, 1)), refused));
+    assert_eq!(tally(&[b'\n'; 65_537], 200, fresh, 0), (Err(refusal(12, 6, 0)), refused));
+}
+
+#[test]
+fn a_tally_moves_one_count() {
+    for caller in 0..16 {
+        for (ending, text) in ending_texts().iter().enumerate() {
+            let mut expected = unlike();
+            expected[4 * caller + ending] = 1_001 + (4 * caller + ending) as u64;
+            assert_eq!(tally(text.as_bytes(), 200, unlike(), caller as i64).1, expected);
+        }
+    }
+}
+
+#[test]
+fn a_tally_stays_where_no_caller_is_named() {
     let top = (1 << 63) - 1;
-    assert_eq!(tally(P1.as_bytes(), 200, [7, top - 1, 8, 9]).1, [7, top, 8, 9]);
-    assert_eq!(tally(P1.as_bytes(), 200, [7, top, 8, 9]).1, [7, top, 8, 9]);
-    assert_eq!(tally(P1.as_bytes(), 200, [7, u64::MAX, 8, 9]).1, [7, u64::MAX, 8, 9]);
+    for caller in [16, -1, i64::MIN, i64::MAX, 1 << 32] {
+        for counts in [[0; 64], unlike(), [top - 1; 64], [top; 64], [u64::MAX; 64]] {
+            let expected = (Err(refusal(15, 7, 0)), counts);
+            for text in ending_texts() {
+                for room in [0, 105, 200] {
+                    assert_eq!(tally(text.as_bytes(), room, counts, caller), expected);
+                }
+            }
+            assert_eq!(tally(&[b'\n'; 65_537], 200, counts, caller), expected);
+        }
+    }
+}
+
+#[test]
+fn a_tally_ends_at_the_ceiling() {
+    let top = 9_223_372_036_854_775_807;
+    let after = |text: &str, counts| tally(text.as_bytes(), 200, only(3, counts), 3).1;
+    assert_eq!(after(P1, [7, top - 1, 8, 9]), only(3, [7, top, 8, 9]));
+    assert_eq!(after(P1, [7, top, 8, 9]), only(3, [7, top, 8, 9]));
+    assert_eq!(after(P1, [7, u64::MAX, 8, 9]), only(3, [7, u64::MAX, 8, 9]));
+    for text in ending_texts() {
+        assert_eq!(after(&text, [top; 4]), only(3, [top; 4]));
+        assert_eq!(after(&text, [top + 1; 4]), only(3, [top + 1; 4]));
+        assert_eq!(after(&text, [u64::MAX; 4]), only(3, [u64::MAX; 4]));
+    }
+    assert_eq!(after(&p2(), [top - 1; 4]), only(3, [top, top - 1, top - 1, top - 1]));
+    assert_eq!(after(&p3(), [top - 1; 4]), only(3, [top - 1, top - 1, top, top - 1]));
+    assert_eq!(after("", [top - 1; 4]), only(3, [top - 1, top - 1, top - 1, top]));
+}
+
+/// After every check of a list from a fresh tally, each count is how many checks so far
+/// had that caller and that ending.
+#[test]
+fn a_tally_counts_a_list_of_checks() {
+    let texts = ending_texts();
+    let mut random = Random::new(2);
+    let (mut checks, mut counts) = (Vec::new(), [0; 64]);
+    for _ in 0..800 {
+        let (caller, ending) = (random.between(-4, 19), random.below(4));
+        checks.push((caller, ending));
+        counts = tally(texts[ending].as_bytes(), 200, counts, caller).1;
+        for (place, &count) in counts.iter().enumerate() {
+            let counted = (place as i64 / 4, place % 4);
+            let expected = checks.iter().filter(|&&check| check == counted).count();
+            assert_eq!(count, expected as u64, "{counted:?} after {checks:?}");
+        }
+    }
+    // The list has every caller with every ending, and others on both sides.
+    let drawn = |check| checks.contains(&check);
+    assert!((-4..20).all(|caller| (0..4).all(|ending| drawn((caller, ending)))));
 }

@@ -81,6 +81,7 @@ fn refused_number(reason: Reason) -> i64
         Reason::Characters { line: _ } => -12,
         Reason::Names { line: _ } => -13,
         Reason::Values { line: _ } => -14,
+        Reason::NoCaller => -15,
     }
 }
 

@@ -4,7 +4,7 @@ use mathlib.Core.Bool.{Bool, true, false, not, _||_}
 use mathlib.Core.List.{List, [], _∷_, List·Memᴰ·head, List·Memᴰ·tail, List·Memᴰ·not-nil, List·Memᴰ·cases-cons}
 use mathlib.Core.Logic.{⊎-elim}
 use mathlib.Core.Option.{Option, none, some}
-use Prim.Native.Nat.{ℕ, suc, _+_, _*_, _%_, _≤_, _<_, _^_}
+use Prim.Native.Nat.{ℕ, suc, _+_, _*_, _%_, _≤_, _<_}
 use native.Mathlib.Omega.{arith}
 use lib.Dec.{eqb, ltb}
 use lib.IntN.{ℤ}
@@ -22,9 +22,9 @@ use Rattle.refusals.specs.Small.{SmallCheck}
 
 -- ---- one check after the other
 
-pub when-small : (b : Bool) {n t r : ℕ} → n < 2 ^ 32 → t < 2 ^ 32 → r < 2 ^ 32 → SmallCheck (when b n t r)
+pub when-small : (b : Bool) {n t r : ℕ} → (1 ≤ n) × (n ≤ 14) → t < 8 → r < 10000000 → SmallCheck (when b n t r)
 unfolding when
-when-small true h i j = record { number = h; table = i; row = j }
+when-small true h i j = record { least = h .0; number = h .1; table = i; row = j }
 when-small false h i j = tt
 
 pub then-small : (a b : Option Refusal) → SmallCheck a → (a ≡ none → SmallCheck b) → SmallCheck (a then b)
@@ -50,7 +50,7 @@ shape-few t width most xs e = go (not (eqb (length xs % width) 0)) (ltb (width *
     go false true h e = let z : _≡_ {A = ℕ} 0 1 = cc in absurd (omega arith)
     go a false (failed h) e = h
 
-shape-small : (t width most : ℕ) (xs : List ℤ) → t < 2 ^ 32 → SmallCheck (checkShape t width most xs)
+shape-small : (t width most : ℕ) (xs : List ℤ) → t < 8 → SmallCheck (checkShape t width most xs)
 unfolding checkShape
 shape-small t width most xs h = when-small (not (eqb (length xs % width) 0) || ltb (width * most) (length xs)) (omega arith) h (omega arith)
 
@@ -82,7 +82,7 @@ pair-below i (s ∷ k ∷ ps) {n} m =
 -- ---- one graph
 
 -- the refusals of a graph are small
-graph-small : (t : ℕ) (ns es : List ℤ) → t < 8 → SmallCheck (checkGraph t ns es)
+graph-small : (t : ℕ) (ns es : List ℤ) → t < 7 → SmallCheck (checkGraph t ns es)
 unfolding checkGraph checkNode checkEdge
 graph-small t ns es h =
     then-small (checkShape t nodeWidth maxNodes ns) _ (shape-small t nodeWidth maxNodes ns (omega arith)) (λ d.
@@ -92,7 +92,7 @@ graph-small t ns es h =
     when-small _ (omega arith) (omega arith) (omega (arith, node-below 0 ns m, shape-few t nodeWidth maxNodes ns d))))
     (λ _. then-small (firstOf (checkEdge (suc t) (graphOf ns es)) (edgeRows es)) _
     (first-small (checkEdge (suc t) (graphOf ns es)) (edgeRows es) (λ n m.
-    let row : n .row < 2 ^ 32 = omega (arith, edge-below 0 es m, shape-few (suc t) edgeWidth maxEdges es e) in
+    let row : n .row < 10000000 = omega (arith, edge-below 0 es m, shape-few (suc t) edgeWidth maxEdges es e) in
     then-small (when _ 3 (suc t) (n .row)) _ (when-small _ (omega arith) (omega arith) row) (λ _. when-small _ (omega arith) (omega arith) row)))
     (λ _. then-small (when (cyclic (graphOf ns es)) 5 t 0) _ (when-small (cyclic (graphOf ns es)) (omega arith) (omega arith) (omega arith))
     (λ _. when-small (deep (graphOf ns es)) (omega arith) (omega arith) (omega arith))))))
@@ -105,7 +105,7 @@ pairs-small : (t : ℕ) (spec impl : ℤ → Bool) (ps : List ℤ) → t < 8 →
 unfolding checkPair
 pairs-small t spec impl ps h few =
     first-small (checkPair t spec impl (pairRows ps)) (pairRows ps) (λ p m.
-    let row : p .row < 2 ^ 32 = omega (arith, pair-below 0 ps m) in
+    let row : p .row < 10000000 = omega (arith, pair-below 0 ps m) in
     then-small (when _ 7 t (p .row)) _ (when-small _ (omega arith) (omega arith) row) (λ _. when-small _ (omega arith) (omega arith) row))
 
 -- so are those of visits
@@ -115,7 +115,7 @@ unfolding checkVisit
 visits-refused s i ps qs h j =
     first-small (checkVisit s i) (visits (pairRows ps) (pairRows qs)) (λ v m.
     let w = visits-in (pairRows ps) (pairRows qs) .0 m in
-    let place : v .root .row * rootStride + v .leaf .row < 2 ^ 32 = omega (arith, pair-below 0 ps (w .0), pair-below 0 qs (w .1)) in
+    let place : v .root .row * rootStride + v .leaf .row < 10000000 = omega (arith, pair-below 0 ps (w .0), pair-below 0 qs (w .1)) in
     then-small (when _ 10 1 _) _ (when-small _ (omega arith) (omega arith) place) (λ _. when-small _ (omega arith) (omega arith) place))
 
 pairing-small : (t : Tables) → SmallCheck (checkPairing t)

@@ -3,7 +3,7 @@ use mathlib.Core.Path.{_≡_, refl, sym, subst}
 use mathlib.Core.Bool.{Bool, true, false, not, cond, _&&_}
 use mathlib.Core.List.{List, [], _∷_}
 use mathlib.Core.Option.{Option, none, some}
-use Prim.Native.Nat.{ℕ, suc, _+_, _≤_, _<_, _^_}
+use Prim.Native.Nat.{ℕ, suc, _+_, _≤_, _<_}
 use native.Mathlib.Omega.{arith}
 use lib.Dec.{eqb, ltb}
 use lib.IntN.{ℤ}
@@ -30,7 +30,7 @@ next-line : (n : ℕ) (b : Bool) → cond b (suc n) n ≤ suc n
 next-line n true = omega arith
 next-line n false = omega arith
 
-bytes-small : (n : ℕ) (text : Bytes) → n + length text < 2 ^ 32 → SmallCheck (checkBytes n text)
+bytes-small : (n : ℕ) (text : Bytes) → n + length text < 10000000 → SmallCheck (checkBytes n text)
 unfolding checkBytes
 bytes-small n [] h = tt
 bytes-small n (c ∷ text) h =
@@ -95,10 +95,10 @@ unfolding withRow
 row-reading last row (stopped r) s = s
 row-reading last row (rows rs ls n) s = s
 
-module _ (most : ℕ) (low : most < 2 ^ 31) where
-  stop-small : (number n : ℕ) → number < 2 ^ 32 → n ≤ most → SmallReading most (stop number n)
+module _ (most : ℕ) (low : most < 10000000) where
+  stop-small : (number n : ℕ) → (1 ≤ number) × (number ≤ 14) → n ≤ most → SmallReading most (stop number n)
   unfolding stop
-  stop-small number n h i = record { number = h; table = omega arith; row = omega arith }
+  stop-small number n h i = record { least = h .0; number = h .1; table = omega arith; row = omega arith }
 
   values-small : (last : Bool) (cs : List ℕ) (n : ℕ) (ls : List Bytes) → n + length ls ≤ most → SmallReading most (readValues last cs n ls)
   unfolding readValues

@@ -1,6 +1,7 @@
--- Refusals by their numbers, which are small enough to be printed and to be coded as one number. Assumes nothing.
+-- Refusals by their numbers, and the range of those that the text check gives: small enough to be printed and to be coded as one number. Assumes
+-- nothing.
 use mathlib.Core.Option.{Option, none, some}
-use Prim.Native.Nat.{_<_, _^_}
+use Prim.Native.Nat.{_≤_, _<_}
 use Rattle.model.specs.Refusals as model
 use Rattle.model.specs.Calls.{Answer, refused, full}
 use Rattle.refusals.specs.declared.Refusal.{Refusal}
@@ -9,11 +10,12 @@ use Rattle.refusals.specs.declared.Refusal.{Refusal}
 abbrev pub refusalNumbers : Refusal → model.Refusal
 refusalNumbers r = record { number = r .number; table = r .table; row = r .row }
 
--- number, table and row are below 2^32
+-- the number is one of 1 to 14, the table one of eight, and the row has at most seven digits
 pub record Small (r : model.Refusal) : Type 0 where
-  pub number : r .number < 2 ^ 32
-  pub table : r .table < 2 ^ 32
-  pub row : r .row < 2 ^ 32
+  pub least : 1 ≤ r .number
+  pub number : r .number ≤ 14
+  pub table : r .table < 8
+  pub row : r .row < 10000000
 
 -- the refusal of a check, if there is one, is small
 abbrev pub SmallCheck : Option model.Refusal → Type 0

@@ -1,4 +1,4 @@
-// Refusals by their numbers, as document 01 has them.
+// Refusals by their numbers, as documents 01 and 02 have them.
 ghost use mathlib.Core.Path.{_≡_};
 ghost use Rattle.model.specs.Answers as model;
 ghost use Rattle.model.specs.Answers.{refusalOf};
@@ -47,5 +47,6 @@ pub fn refusal_numbers(reason: Reason) -> Refusal
         Reason::Characters { line } => numbered(12, TEXT, line),
         Reason::Names { line } => numbered(13, TEXT, line),
         Reason::Values { line } => numbered(14, TEXT, line),
+        Reason::NoCaller => numbered(15, OUTPUT, 0),
     }
 }

@@ -12,7 +12,7 @@ ghost use Rattle.report.specs.Put.{Put, fieldAt, maxFields, refusalRoom}
 const MAX_DIGITS: usize = 20;
 
 // The distance of v from 0. That of -2^63 fits no i64, but -1 - v, which is one below it, does.
-fn magnitude(v: i64) -> u64
+pub fn magnitude(v: i64) -> u64
     ensures { λ r. ⌜ r ≡ natAbs v ⌝ }
 {
     if v < 0 {

@@ -1,63 +1,58 @@
-// The text check beside a tally of what the checks gave.
+// The tally record: sixteen rows of four counts, a row for each caller.
 ghost use mathlib.Core.Path.{_≡_};
 ghost use Prim.Native.Nat.{_<_};
-ghost use Rattle.model.specs.Answers.{writtenAnswer};
-ghost use Rattle.model.specs.TextCheck.{oneMore, tallyAfter, freshTally};
-ghost use Rattle.textcheck.specs.Promises.{asItIs, TextPromise};
-ghost use Rattle.tally.specs.Counts.{outcomeCount, countKinds};
-use model::Verdict;
-use model::Written;
-use tablecheck::Outcome;
+ghost use Rattle.model.specs.Limits.{callers, countKinds};
+ghost use Rattle.model.specs.Tally.{callerOf, countPlace, oneMore, oneMoreFor, freshTally};
+ghost use Rattle.tally.specs.Callers.{callerNamed, OneOfSixteen};
+use model::CALLERS;
+use model::COUNT_KINDS;
 
 // A count stays from here on.
 const COUNT_CEILING: u64 = 9223372036854775807;
 
-// The places of the counts of equal, partial, different and refused.
-const EQUAL: usize = 0;
+// Counts of a record.
+const COUNTS: usize = COUNT_KINDS * CALLERS;
 
-const PARTIAL: usize = 1;
-
-const DIFFERENT: usize = 2;
-
-const REFUSED: usize = 3;
-
-// Counts of equal, partial, different and refused.
+// The counts of each caller, from caller 0: equal, partial, different and refused.
 pub struct Tally {
-    pub counts: [u64; 4],
+    pub counts: [u64; COUNTS],
 }
 
-// The answer of a text check, and the tally with it.
-pub struct Tallied {
-    pub written: Written,
-    pub tally: Tally,
+// Who asks for a check: the caller that has the number, or none, since it lies outside 0..15.
+pub enum Who {
+    Caller(usize),
+    Outside,
+}
+
+// Who has this number.
+pub fn who_asks(number: i64) -> Who
+    ensures { λ r. ⌜ callerNamed r ≡ callerOf number ⌝ }
+{
+    if number < 0 {
+        return Who::Outside;
+    }
+    let caller = number as usize;
+    if caller < CALLERS {
+        return Who::Caller(caller);
+    }
+    Who::Outside
 }
 
 // A tally of no check.
 pub fn fresh_tally() -> Tally
     ensures { λ r. ⌜ r .counts ≡ freshTally ⌝ }
 {
-    Tally { counts: [0; 4] }
-}
-
-// The place of the count that an outcome adds to.
-fn count_of(outcome: Outcome) -> usize
-    ensures { λ r. ⌜ (r ≡ outcomeCount outcome) × (r < countKinds) ⌝ }
-{
-    match outcome {
-        Outcome::Reported { length: _, verdict } => match verdict {
-            Verdict::Equal => EQUAL,
-            Verdict::Partial => PARTIAL,
-            Verdict::Different => DIFFERENT,
-        },
-        Outcome::Refused(_) => REFUSED,
+    Tally {
+        counts: [0; COUNTS],
     }
 }
 
-// The tally with one more at a place, unless its count stays.
-fn one_more(tally: Tally, place: usize) -> Tally
-    requires { ⌜ place < countKinds ⌝ }
-    ensures { λ r. ⌜ r .counts ≡ oneMore place (tally .counts) ⌝ }
+// The tally with one more at a caller's count, unless that count stays.
+fn one_more(tally: Tally, caller: usize, ending: usize) -> Tally
+    requires { ⌜ (caller < callers) × (ending < countKinds) ⌝ }
+    ensures { λ r. ⌜ r .counts ≡ oneMore (countPlace caller ending) (tally .counts) ⌝ }
 {
+    let place = COUNT_KINDS * caller + ending;
     let mut next = tally;
     let count = next.counts[place];
     if count < COUNT_CEILING {
@@ -66,16 +61,13 @@ fn one_more(tally: Tally, place: usize) -> Tally
     next
 }
 
-// Checks a map file and writes the report, as the text check does, and hands back the tally with one more.
-pub fn tally_check(text: &[u8], report: &mut [u8], tally: Tally) -> Tallied
-    ensures checked { λ r. ⌜ TextPromise asItIs (now (text .entry)) (now (report .entry)) (now (report .exit)) (writtenAnswer (r .written)) ⌝ }
-    ensures counted { λ r. ⌜ r .tally .counts ≡ tallyAfter (now (text .entry)) (now (report .entry)) (tally .counts) ⌝ }
+// The tally after a check that ended so: one more for its caller. For a number outside 0..15 it is the tally as it was.
+pub fn counted(tally: Tally, who: Who, ending: usize) -> Tally
+    requires { ⌜ OneOfSixteen who × (ending < countKinds) ⌝ }
+    ensures { λ r. ⌜ r .counts ≡ oneMoreFor (callerNamed who) ending (tally .counts) ⌝ }
 {
-    let outcome = textcheck::check_map(text, report);
-    let place = count_of(outcome);
-    let next = one_more(tally, place);
-    Tallied {
-        written: textcheck::written_of(outcome),
-        tally: next,
+    match who {
+        Who::Caller(caller) => one_more(tally, caller, ending),
+        Who::Outside => tally,
     }
 }

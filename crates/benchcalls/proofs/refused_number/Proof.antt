@@ -52,6 +52,9 @@ enum-told-13 c = search needs
 enum-told-14 : tie.Need-enum-told-14
 enum-told-14 c = search needs
 
+enum-told-15 : tie.Need-enum-told-15
+enum-told-15 c = search needs
+
 returns : tie.Need-returns
 returns c = ap numberOf (sym (c .enum-told .given .1))
 
@@ -94,6 +97,9 @@ returns-13 c = ap numberOf (sym (c .enum-told13 .given .1))
 returns-14 : tie.Need-returns-14
 returns-14 c = ap numberOf (sym (c .enum-told14 .given .1))
 
+returns-15 : tie.Need-returns-15
+returns-15 c = ap numberOf (sym (c .enum-told15 .given .1))
+
 pub refused-number-spec : {M : Type 1} → statement M
 refused-number-spec =
     tie.close
@@ -112,6 +118,7 @@ refused-number-spec =
     enum-told-12
     enum-told-13
     enum-told-14
+    enum-told-15
     returns
     returns-2
     returns-3
@@ -125,4 +132,5 @@ refused-number-spec =
     returns-11
     returns-12
     returns-13
-    returns-14)
+    returns-14
+    returns-15)

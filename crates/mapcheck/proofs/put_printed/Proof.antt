@@ -41,7 +41,7 @@ put-refusal-requires : tie.Need-put-refusal-requires
 put-refusal-requires c κs = let r = c .before in
     let k = checked r in
     let s = small r in
-    (omega (arith, k .text-check .kept .1 .0, start k .pre), s .number, s .table, s .row)
+    (omega (arith, k .text-check .kept .1 .0, start k .pre), omega (arith, s .number), omega (arith, s .table), omega (arith, s .row))
 
 same-length : tie.Need-same-length
 same-length c = search needs

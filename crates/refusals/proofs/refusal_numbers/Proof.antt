@@ -94,6 +94,12 @@ enum-known-reason-13 c = search needs
 numbered-requires-14 : tie.Need-numbered-requires-14
 numbered-requires-14 c κs = search needs
 
+enum-told-2 : tie.Need-enum-told-2
+enum-told-2 c = search needs
+
+numbered-requires-15 : tie.Need-numbered-requires-15
+numbered-requires-15 c κs = search needs
+
 returns : tie.Need-returns
 returns c = by-case (c .numbered .ensures) (c .before .before .reason .given .1)
 
@@ -136,6 +142,9 @@ returns-13 c = by-case (c .numbered13 .ensures) (c .before .before .reason12 .gi
 returns-14 : tie.Need-returns-14
 returns-14 c = by-case (c .numbered14 .ensures) (c .before .before .reason13 .given .1)
 
+returns-15 : tie.Need-returns-15
+returns-15 c = by-case (c .numbered15 .ensures) (c .before .enum-told2 .given .1)
+
 pub refusal-numbers-spec : {M : Type 1} → statement M
 refusal-numbers-spec =
     tie.close
@@ -168,6 +177,8 @@ refusal-numbers-spec =
     numbered-requires-13
     enum-known-reason-13
     numbered-requires-14
+    enum-told-2
+    numbered-requires-15
     returns
     returns-2
     returns-3
@@ -181,4 +192,5 @@ refusal-numbers-spec =
     returns-11
     returns-12
     returns-13
-    returns-14)
+    returns-14
+    returns-15)

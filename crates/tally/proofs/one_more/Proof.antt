@@ -5,9 +5,15 @@ use borrow.Author.Needs.{needs}
 use borrow.Author.Tests.{lt-ltb, le-ltb}
 use lib.ListN.{getD, set}
 use Rattle.model.specs.Limits.{countCeiling}
-use Rattle.model.specs.TextCheck.{oneMore}
+use Rattle.model.specs.Tally.{countPlace, oneMore}
 use Rattle.tally.proofs.one_more.Statement.{statement}
 use Rattle.tally.proofs.one_more.Tie as tie
+
+mul-place : tie.Need-mul-place
+mul-place c = search needs
+
+add-place : tie.Need-add-place
+add-place c = search needs
 
 mul-count : tie.Need-mul-count
 mul-count c = search needs
@@ -28,18 +34,20 @@ returns : tie.Need-returns
 unfolding oneMore
 returns c = let s = c .before .before in
     let counts = s .args .tally .counts in
-    let count = getD counts (s .args .place) 0 in
-    rw (lt-ltb count countCeiling (c .if1 .taken)) (ap (set counts (s .args .place)) (add-one count))
+    let place = countPlace (s .args .caller) (s .args .ending) in
+    rw (lt-ltb (getD counts place 0) countCeiling (c .if1 .taken)) (ap (set counts place) (add-one (getD counts place 0)))
 
 returns-2 : tie.Need-returns-2
 unfolding oneMore
 returns-2 c = let s = c .before .before in
-    rw (le-ltb (getD (s .args .tally .counts) (s .args .place) 0) countCeiling (c .if1 .left)) refl
+    rw (le-ltb (getD (s .args .tally .counts) (countPlace (s .args .caller) (s .args .ending)) 0) countCeiling (c .if1 .left)) refl
 
 pub one-more-spec : {M : Type 1} → statement M
 one-more-spec =
     tie.close
     (tie.spec
+    mul-place
+    add-place
     mul-count
     element-copy-out-count
     add-next

@@ -21,14 +21,17 @@ const COUNTS: usize = COUNT_KINDS * CALLERS;
 
 const LINE: usize = 4 * COUNT_KINDS;
 
+// Prints bytes.
 fn say(text: &[u8]) {
     io::write_all(STDOUT_FILENO, text);
 }
 
+// Prints a number in decimal.
 fn say_number(n: u64) {
     io::print_decimal(STDOUT_FILENO, n);
 }
 
+// The same, with a minus before it if it is negative.
 fn say_signed(v: i64) {
     if v < 0 {
         say(b"-");
@@ -36,7 +39,7 @@ fn say_signed(v: i64) {
     say_number(report::magnitude(v));
 }
 
-// What stands behind the count at a place.
+// Prints what stands behind the count at a place: a line feed, two spaces behind a caller's last count, or one.
 fn say_gap(place: usize) {
     if place % LINE == LINE - 1 {
         say(b"\n");
@@ -48,6 +51,7 @@ fn say_gap(place: usize) {
     say(b" ");
 }
 
+// Prints all counts, four callers in a line.
 fn say_counts(tally: Tally) {
     let mut i: usize = 0;
     while i < COUNTS {
@@ -57,6 +61,7 @@ fn say_counts(tally: Tally) {
     }
 }
 
+// Prints the report's length, or the refusal.
 fn say_answer(written: Written) {
     match written {
         Written::Count(n) => {
@@ -196,6 +201,7 @@ fn at_the_ceiling() -> Tally {
     tally
 }
 
+// Checks of caller 3, and one of 16, with that tally.
 fn try_ceiling() {
     say(b"counts of caller 3 at the ceiling\n");
     let t = try_equal(at_the_ceiling(), 3);

@@ -120,6 +120,31 @@ pub record Exact {A : Type 0} (given : Answer A) (result : A) (cs : List Conditi
   pub refuses : (r : Refusal) → (given ≡ refused r) ↔ FirstHolds r cs
   pub gives : (given ≡ full result) ↔ NoneHolds cs
 
+-- ---- one condition in front of a call's
+
+module _ {A P : Type 0} (n t r : ℕ) where
+  -- where it holds, its refusal is the answer
+  pub exact-first : (x : A) (cs : List Condition) → P → Exact (refused (record { number = n; table = t; row = r })) x (refuse n t r P next cs)
+  exact-first x cs p = record {
+    refuses = λ s. (
+      λ e. inl (p, let q : s ≡ record { number = n; table = t; row = r } = cc in q),
+      λ first. elim first [ inl w ↦ ap refused (sym (w .1)) | inr w ↦ absurd (w .0 p) ],
+    );
+    gives = (λ e. absurd (let z : _≡_ {A = ℕ} 0 1 = cc in omega arith), λ unmet. absurd (unmet .0 p));
+  }
+
+  -- where it does not hold, the others decide
+  pub exact-after : {given : Answer A} {x : A} {cs : List Condition} → (P → ⊥) → Exact given x cs → Exact given x (refuse n t r P next cs)
+  exact-after q exact = record {
+    refuses = λ s. (
+      λ e. inr (q, exact .refuses s .0 e),
+      λ first. elim first [ inl w ↦ absurd (q (w .0)) | inr w ↦ exact .refuses s .1 (w .1) ],
+    );
+    gives = (λ e. (q, exact .gives .0 e), λ unmet. exact .gives .1 (unmet .1));
+  }
+
+-- ---- what a call answers
+
 module _ {A : Type 0} (a : A) where
   answer-some : (c : Option Refusal) {r : Refusal} → (answer c a ≡ refused r) ↔ (c ≡ some r)
   unfolding answer

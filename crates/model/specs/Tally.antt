@@ -74,7 +74,7 @@ countPlace k v = countKinds * k + v
 abbrev pub countAt : ℕ → ℕ → List ℕ → ℕ
 countAt k v counts = getD counts (countPlace k v) 0
 
--- one more at a place; a count at or above 2^63 − 1 stays
+-- one more at a place; a count at or above 2^63 − 1 stays (document 01)
 unfoldable pub oneMore : ℕ → List ℕ → List ℕ
 oneMore i counts = cond (ltb (getD counts i 0) countCeiling) (set counts i (suc (getD counts i 0))) counts
 

@@ -1,7 +1,7 @@
 -- What a check answers, and how it ended: 15 exactly for a number outside 0..15, and else as the text check answers.
-use mathlib.Core.Path.{_≡_, refl, sym, ap, _∙_}
+use mathlib.Core.Path.{_≡_, refl, ap, _∙_}
 use mathlib.Core.List.{List}
-use mathlib.Core.Logic.{inl, inr, _↔_}
+use mathlib.Core.Logic.{_↔_}
 use mathlib.Core.Option.{Option, none, some}
 use Prim.Native.Nat.{ℕ, _≤_, _<_}
 use native.Mathlib.Omega.{arith}
@@ -18,7 +18,7 @@ use Rattle.model.specs.TextCheck.{Reported, reportedOf, checkRead, textAnswer, 
 use Rattle.model.specs.Tally.{Check, Caller, tallyConditions, callerOf, answerTo, tallyAnswer, endingOf, ending}
 use Rattle.model.proofs.Folds.{whole-low}
 use Rattle.model.proofs.Tally.{caller-none, caller-within, caller-known}
-use Rattle.model.proofs.Settled.{Exact}
+use Rattle.model.proofs.Settled.{Exact, exact-first, exact-after}
 use Rattle.filerules.proofs.TextCheck.{text-exact, text-demand}
 
 -- ---- what a check answers
@@ -40,26 +40,10 @@ unfolding tallyConditions
 tally-exact c t tables = go (callerOf (c .caller)) refl
   where
     go : (o : Option ℕ) → callerOf (c .caller) ≡ o → Exact (tallyAnswer c) (reportedOf (findings t)) (tallyConditions c t)
-    go none e =
-        let outside = caller-none (c .caller) .0 e in
-        let is = answer-outside c e in
-        record {
-          refuses = λ r. (
-            λ given. inl (outside, let q : r ≡ record { number = 15; table = 7; row = 0 } = cc in q),
-            λ first. elim first [ inl p ↦ is ∙ ap refused (sym (p .1)) | inr p ↦ absurd (p .0 outside) ],
-          );
-          gives = (λ given. absurd (let z : _≡_ {A = ℕ} 0 1 = cc in omega arith), λ unmet. absurd (unmet .0 outside));
-        }
+    go none e = rw (answer-outside c e) (exact-first 15 7 0 (reportedOf (findings t)) _ (caller-none (c .caller) .0 e))
     go (some k) e =
-        let known : Caller (c .caller) = caller-within (c .caller) k e in
-        let exact = text-exact (length (c .report)) (c .text) t tables in
-        rw (answer-caller c e) (record {
-          refuses = λ r. (
-            λ given. inr ((λ n. n known), exact .refuses r .0 given),
-            λ first. elim first [ inl p ↦ absurd (p .0 known) | inr p ↦ exact .refuses r .1 (p .1) ],
-          );
-          gives = (λ given. ((λ n. n known), exact .gives .0 given), λ unmet. exact .gives .1 (unmet .1));
-        })
+        rw (answer-caller c e)
+        (exact-after 15 7 0 (λ outside. outside (caller-within (c .caller) k e)) (text-exact (length (c .report)) (c .text) t tables))
 
 -- ---- how it ended
 

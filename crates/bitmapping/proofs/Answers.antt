@@ -1,59 +1,29 @@
 -- The answer of a call that is asked for a root and a leaf: the checks one after the other, and then the length of its output.
 use mathlib.Core.Path.{_≡_, refl, sym, _∙_}
-use mathlib.Core.Bool.{Bool, true, false, not}
-use mathlib.Core.List.{List, map}
+use mathlib.Core.List.{List}
 use mathlib.Core.Option.{Option, none, some}
 use Prim.Native.Nat.{ℕ, _≤_, _<_}
 use native.Mathlib.Omega.{arith}
-use borrow.Author.Tests.{lt-ltb, le-ltb, ltb-false, not-false}
+use borrow.Author.Tests.{lt-ltb, le-ltb}
 use lib.IntN.{ℤ}
-use lib.ListN.{length, drop}
-use Rattle.integers.proofs.Tests.{T-true, test-of}
-use Rattle.model.specs.Limits.{maxNodes, maxPaths}
-use Rattle.model.specs.Rows.{Edge, edgeRows}
-use Rattle.model.specs.Graph.{Graph, graphOf}
+use lib.ListN.{length}
+use Rattle.model.specs.Limits.{maxPaths}
+use Rattle.model.specs.Graph.{graphOf}
 use Rattle.model.specs.Paths.{Root, Leaf}
 use Rattle.model.specs.Runs.{paths}
 use Rattle.model.specs.Refusals.{Refusal}
-use Rattle.model.specs.Checks.{when, _then_, isRoot, isLeaf, manyPaths, checkGraph, checkNamed, checkOutput, checkSingle}
+use Rattle.model.specs.Checks.{when, _then_, checkGraph, checkNamed, checkOutput, checkSingle}
 use Rattle.model.specs.Calls.{refused, full, answer}
 use Rattle.model.specs.Answers.{numbered, refusalOf}
 use Rattle.model.specs.declared.Reason.{Reason}
 use Rattle.model.specs.declared.Checked.{Checked}
 use Rattle.model.specs.declared.Checked.the-variants.{Refused}
 use Rattle.model.specs.Taken.{TakenTables}
-use Rattle.model.proofs.GraphChecks.{isRoot?, isLeaf?}
-use Rattle.tables.proofs.Rows.{nodes-length}
 use Rattle.tables.proofs.Checks.{checked, then-on, then-stops}
-use Rattle.depth.specs.Order.{edgeOrder}
-use Rattle.depth.specs.Passes.{orderOf}
-use Rattle.depth.specs.Check.{orderAfter}
-use Rattle.depth.proofs.GraphCheck.{checked-taken, checked-order}
-use Rattle.reach.proofs.Pass.{order-front}
-use Rattle.bitmapping.specs.Checking.{Nameable, Counted, checkAsked}
-
--- ---- a named root and leaf
-
-module _ (g : Graph) (r l : ℤ) where
-  -- what is no root is refused
-  pub named-rootless : isRoot g r ≡ false → refused (numbered 7 4 0) ≡ checked (checkNamed g r l)
-  unfolding answer when _then_ checkNamed
-  named-rootless e = rw e
-
-  -- what is no leaf is refused
-  pub named-leafless : isRoot g r ≡ true → isLeaf g l ≡ false → refused (numbered 7 5 0) ≡ checked (checkNamed g r l)
-  unfolding answer when _then_ checkNamed
-  named-leafless e f = rw (e, f)
-
-  -- more paths than the limit are refused
-  pub named-many : isRoot g r ≡ true → isLeaf g l ≡ true → maxPaths < length (paths g r l) → refused (numbered 10 1 0) ≡ checked (checkNamed g r l)
-  unfolding answer when _then_ checkNamed manyPaths
-  named-many e f h = rw (e, f, lt-ltb maxPaths (length (paths g r l)) h)
-
-  -- a root and a leaf with no more paths than the limit are taken
-  pub named-taken : isRoot g r ≡ true → isLeaf g l ≡ true → length (paths g r l) ≤ maxPaths → full tt ≡ checked (checkNamed g r l)
-  unfolding answer when _then_ checkNamed manyPaths
-  named-taken e f h = rw (e, f, le-ltb maxPaths (length (paths g r l)) h)
+use Rattle.depth.proofs.GraphCheck.{checked-taken}
+use Rattle.named.specs.Naming.{Counted}
+use Rattle.named.proofs.Answers.{then-both, named-root, named-leaf, named-few}
+use Rattle.bitmapping.specs.Checking.{checkAsked}
 
 -- ---- what a call is asked for
 
@@ -75,51 +45,11 @@ module _ (ns es : List ℤ) (r l : ℤ) (old new : List ℕ) where
   asked-named e c =
       record { answers = c .answers ∙ sym (then-on (checkGraph 0 ns es) (checkNamed (graphOf ns es) r l) e); counted = c .counted }
 
--- the root and the leaf of a graph that is taken can be checked
-pub graph-nameable : (ns es : List ℤ) (buffer order counts : List ℕ) → full tt ≡ checked (checkGraph 0 ns es) → order ≡ orderAfter 0 ns es buffer
-    → maxNodes ≤ length counts → Nameable ns es order counts
-unfolding orderOf
-graph-nameable ns es buffer order counts e o h =
-    let tables = checked-taken 0 ns es e in
-    let rows = length (map (λ (d : Edge). d .row) (edgeOrder (edgeRows es))) in
-    record {
-      tables = tables;
-      backward = order-front ns es order (drop rows buffer) tables (o ∙ checked-order 0 ns es e buffer);
-      room = omega (arith, tables .nodes .few, nodes-length ns);
-    }
-
--- ---- checks that give no refusal
-
--- a test whose refusal is not given fails
-when-none : (t : Bool) (n table row : ℕ) → full tt ≡ checked (when t n table row) → t ≡ false
-unfolding answer when
-when-none true n table row e = let z : _≡_ {A = ℕ} 0 1 = cc in absurd (omega arith)
-when-none false n table row e = refl
-
--- two checks that give no refusal together give none each
-then-both : (a b : Option Refusal) → full tt ≡ checked (a then b) → (full tt ≡ checked a) × (full tt ≡ checked b)
-unfolding answer _then_
-then-both none b e = (refl, e)
-then-both (some r) b e = let z : _≡_ {A = ℕ} 0 1 = cc in absurd (omega arith)
-
+-- what is asked for is taken
 module _ (ns es : List ℤ) (r l : ℤ) (taken : full tt ≡ checked (checkAsked ns es r l)) where
   pub asked-parts : (full tt ≡ checked (checkGraph 0 ns es)) × (full tt ≡ checked (checkNamed (graphOf ns es) r l))
   unfolding checkAsked
   asked-parts = then-both (checkGraph 0 ns es) (checkNamed (graphOf ns es) r l) taken
-
-  named-parts : (isRoot (graphOf ns es) r ≡ true) × (isLeaf (graphOf ns es) l ≡ true) × (manyPaths (graphOf ns es) r l ≡ false)
-  unfolding checkNamed
-  named-parts =
-      let g = graphOf ns es in
-      let root = when (not (isRoot g r)) 7 4 0 in
-      let leaf = when (not (isLeaf g l)) 7 5 0 in
-      let many = when (manyPaths g r l) 10 1 0 in
-      let a = then-both root (leaf then many) (asked-parts .1) in
-      let b = then-both leaf many (a .1) in (
-        not-false (isRoot g r) (when-none (not (isRoot g r)) 7 4 0 (a .0)),
-        not-false (isLeaf g l) (when-none (not (isLeaf g l)) 7 5 0 (b .0)),
-        when-none (manyPaths g r l) 10 1 0 (b .1),
-      )
 
   -- the tables of the graph are taken
   pub asked-tables : TakenTables ns es
@@ -127,16 +57,15 @@ module _ (ns es : List ℤ) (r l : ℤ) (taken : full tt ≡ checked (checkAsked
 
   -- the named root is one
   pub asked-root : Root (graphOf ns es) r
-  asked-root = test-of (isRoot? (graphOf ns es) r) (T-true (isRoot (graphOf ns es) r) (named-parts .0))
+  asked-root = named-root (graphOf ns es) r l (asked-parts .1)
 
   -- the named leaf is one
   pub asked-leaf : Leaf (graphOf ns es) l
-  asked-leaf = test-of (isLeaf? (graphOf ns es) l) (T-true (isLeaf (graphOf ns es) l) (named-parts .1))
+  asked-leaf = named-leaf (graphOf ns es) r l (asked-parts .1)
 
   -- there are no more paths than the limit
   pub asked-few : length (paths (graphOf ns es) r l) ≤ maxPaths
-  unfolding manyPaths
-  asked-few = ltb-false maxPaths (length (paths (graphOf ns es) r l)) (named-parts .2)
+  asked-few = named-few (graphOf ns es) r l (asked-parts .1)
 
 -- ---- the answer of the call
 

@@ -1,4 +1,3 @@
-pub mod Roots
 pub mod Copying
 pub mod Answers
 pub mod Counts

@@ -1,41 +1,21 @@
--- What the checks of a named root and leaf ask and leave, and what is copied into a lent buffer. Assumes nothing.
+-- What listing a checked root and leaf starts from, the refusals of list and walk, and what is copied into a lent buffer. Assumes nothing.
 use mathlib.Core.Path.{_≡_}
 use mathlib.Core.Bool.{cond}
 use mathlib.Core.List.{List, _++_, map}
 use mathlib.Core.Option.{Option}
 use Prim.Native.Nat.{ℕ, _*_, _≤_}
 use lib.Dec.{ltb}
-use lib.IntN.{ℤ, pos, negsuc}
+use lib.IntN.{ℤ, pos}
 use lib.ListN.{length, getD, take, drop}
 use Rattle.model.specs.Limits.{maxPaths}
 use Rattle.model.specs.Rows.{nodeRows, edgeRows}
-use Rattle.model.specs.Graph.{Graph, graphOf, NodeRow, node}
+use Rattle.model.specs.Graph.{graphOf, NodeRow}
 use Rattle.model.specs.Paths.{Leaf}
 use Rattle.model.specs.Refusals.{Refusal}
-use Rattle.model.specs.Checks.{isRow, _then_, checkGraph, checkNamed}
-use Rattle.model.specs.Calls.{answer}
-use Rattle.model.specs.Answers.{checkedAnswer}
+use Rattle.model.specs.Checks.{_then_, checkGraph, checkNamed}
 use Rattle.model.specs.Taken.{TakenTables}
-use Rattle.model.specs.declared.Checked.{Checked}
-use Rattle.model.specs.declared.Checked.the-variants.{Taken}
 use Rattle.depth.specs.Order.{edgeOrder}
-use Rattle.reach.specs.Counting.{countsOf, countsOver}
-
--- the kind of node v, or −1 where v is no node row
-unfoldable pub kindOf : Graph → ℤ → ℤ
-kindOf g v = cond (isRow g v) (node g v .kind) (negsuc 0)
-
--- what the checks of a named root and leaf start from: tables whose graph is taken, their edge rows in backward order in front of `order`, and
--- room for a count for each node
-pub record Nameable (ns es : List ℤ) (order counts : List ℕ) : Type 0 where
-  pub tables : TakenTables ns es
-  pub backward : take (length (edgeRows es)) order ≡ map (λ e. e .row) (edgeOrder (edgeRows es))
-  pub room : length (nodeRows ns) ≤ length counts
-
--- what a check of the graph with a leaf leaves: its answer and, where it takes them, the counts of the paths to the leaf
-pub record Counted (check : Option Refusal) (ns es : List ℤ) (leaf : ℤ) (old : List ℕ) (given : Checked) (new : List ℕ) : Type 0 where
-  pub answers : checkedAnswer given ≡ answer check tt
-  pub counted : given ≡ Taken → new ≡ countsOver (graphOf ns es) leaf old
+use Rattle.reach.specs.Counting.{countsOf}
 
 -- what listing a checked root and leaf starts from: tables whose graph is taken, their edge rows in backward order in front of `order`, the counts
 -- of the paths to the leaf in front of `counts`, at most 1,024 of them at the root, and room for a row a path

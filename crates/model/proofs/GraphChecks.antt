@@ -1,9 +1,9 @@
 -- The check of one graph settles its conditions: each test on a table, a node row and an edge row decides its condition, and so do the
 -- tests for a root and for a leaf.
-use mathlib.Core.Path.{_≡_}
+use mathlib.Core.Path.{_≡_, sym, subst}
 use mathlib.Core.Bool.{Bool, true, false, not, _||_}
 use mathlib.Core.Logic.{_⊎_, _≢_, inl, inr, ⊎-elim}
-use mathlib.Core.List.{List, flatMap}
+use mathlib.Core.List.{List, flatMap, append-assoc}
 use Prim.Native.Nat.{ℕ, suc, _*_, _%_, _<_}
 use native.Mathlib.Omega.{arith}
 use lib.Dec.{eqb, ltb}
@@ -18,7 +18,7 @@ use Rattle.model.specs.Limits.{nodeWidth, edgeWidth, maxNodes, maxEdges,
 use Rattle.model.specs.Rows.{Node, Edge, nodeRows, edgeRows}
 use Rattle.model.specs.Graph.{Graph, graphOf, NodeRow, node, space, segment, block}
 use Rattle.model.specs.Paths.{Root, Leaf, Cycle, LongChain}
-use Rattle.model.specs.Refusals.{NoneHolds, refuse, _next_, BadShape, broken, tooMany, Kind, AddressUnit, BadNode, unknownKind, unknownUnit, lowBase, lowRange, highEnd, BadEdge, noFrom, noTo, lowOffset, highOffset, shapeConditions, nodeConditions, edgeConditions, graphConditions, checkConditions}
+use Rattle.model.specs.Refusals.{Condition, NoneHolds, refuse, _next_, BadShape, broken, tooMany, Kind, AddressUnit, BadNode, unknownKind, unknownUnit, lowBase, lowRange, highEnd, BadEdge, noFrom, noTo, lowOffset, highOffset, shapeConditions, nodeConditions, edgeConditions, rowConditions, graphConditions, checkConditions}
 use Rattle.model.specs.Checks.{when, _then_, firstOf, checkShape, isKind, isUnit, goodNode, checkNode, isRow, goodEdge, checkEdge, cyclic, deep, checkGraph, isRoot, isLeaf}
 use Rattle.model.specs.Calls.{checkAnswer}
 use Rattle.lists.proofs.Decisions.{Decides, test-map, not?, and?, or?, decides-as, decides-and, decides-le, any?, test-stable, decides-not, decides-or, or-regroup, decides-lt}
@@ -168,9 +168,9 @@ chains-settled t g h =
     (λ p. settled-when 6 t 0 (deep? g))
 
 -- the check of one graph settles its conditions, shown from the last part to the first. The test for a cycle counts on edges whose ends are
--- node rows: it stands after the conditions that say so
+-- node rows: it stands after the conditions that say so. The conditions of shape and rows stand together, and are regrouped at the end
 pub graph-settled : (t : ℕ) (ns es : List ℤ) → Settled (checkGraph t ns es) (graphConditions t ns es)
-unfolding checkGraph graphConditions graphOf
+unfolding checkGraph shapeConditions rowConditions graphConditions graphOf
 graph-settled t ns es =
     let g = graphOf ns es in
     let chains = when (cyclic g) 5 t 0 then when (deep g) 6 t 0 in
@@ -187,8 +187,10 @@ graph-settled t ns es =
     let Shape = shapeConditions (suc t) edgeWidth maxEdges es in
     let edgeShape = shape-settled (suc t) edgeWidth maxEdges es in
     let fromShape = settled-next shape (nodes then edges then chains) Shape (Nodes next Edges next Chains) edgeShape (λ h. fromNodes) in
-    settled-next (checkShape t nodeWidth maxNodes ns) (shape then nodes then edges then chains) (shapeConditions t nodeWidth maxNodes ns)
-    (Shape next Nodes next Edges next Chains) (shape-settled t nodeWidth maxNodes ns) (λ h. fromShape)
+    let First = shapeConditions t nodeWidth maxNodes ns in
+    subst (λ (rows : List Condition). Settled (checkGraph t ns es) (First next Shape next rows)) (sym (append-assoc Nodes Edges Chains))
+    (settled-next (checkShape t nodeWidth maxNodes ns) (shape then nodes then edges then chains) First
+    (Shape next Nodes next Edges next Chains) (shape-settled t nodeWidth maxNodes ns) (λ h. fromShape))
 
 -- ---- the call that checks one graph
 

@@ -18,7 +18,7 @@ use Rattle.model.specs.Rows.{Node, Edge, nodeRows, edgeRows}
 use Rattle.model.specs.Graph.{Graph, graphOf, NodeRow, noNode, node, block, firstBit, lastBit, bitOffset}
 use Rattle.model.specs.Walk.{StandsOn}
 use Rattle.model.specs.Paths.{Leaf, Cycle, LongChain}
-use Rattle.model.specs.Refusals.{NoneHolds, refuse, _next_, Kind, AddressUnit, BadNode, unknownKind, unknownUnit, lowBase, lowRange, highEnd, lowOffset, highOffset, BadShape, broken, tooMany, shapeConditions, nodeConditions, edgeConditions, graphConditions}
+use Rattle.model.specs.Refusals.{NoneHolds, refuse, _next_, Kind, AddressUnit, BadNode, unknownKind, unknownUnit, lowBase, lowRange, highEnd, lowOffset, highOffset, BadShape, broken, tooMany, shapeConditions, nodeConditions, edgeConditions, rowConditions, graphConditions}
 use Rattle.model.specs.Taken.{Taken, GoodShape, TakenTables}
 use Rattle.model.proofs.Settled.{none-next, none-flatMap}
 use Rattle.model.proofs.Paths.{Fit, edges-distinct}
@@ -57,20 +57,21 @@ module _ (t : ℕ) (g : Graph) (h : NoneHolds (flatMap (edgeConditions t g) (g .
 
 -- a graph that meets no condition is taken
 pub graph-taken : (t : ℕ) (ns es : List ℤ) → NoneHolds (graphConditions t ns es) → Taken (graphOf ns es)
-unfolding graphConditions graphOf shapeConditions
+unfolding rowConditions graphConditions graphOf shapeConditions
 graph-taken t ns es h =
     let g = graphOf ns es in
     let Chains = refuse 5 t 0 (Cycle g) next refuse 6 t 0 (LongChain g) in
+    let Nodes = flatMap (nodeConditions t) (nodeRows ns) in
     let Edges = flatMap (edgeConditions (suc t) g) (edgeRows es) in
-    let rows = none-next (flatMap (nodeConditions t) (nodeRows ns)) (Edges next Chains) .0 (h .1 .1) in
-    let edges = none-next Edges Chains .0 (rows .1) in
+    let all = none-next (Nodes next Edges) Chains .0 (h .1 .1) in
+    let rows = none-next Nodes Edges .0 (all .0) in
     record {
-      acyclic = edges .1 .0;
-      short = edges .1 .1 .0;
+      acyclic = all .1 .0;
+      short = all .1 .1 .0;
       good = nodes-good t g (rows .0);
-      ends = edges-end (suc t) g (edges .0);
-      offsets = edges-offset (suc t) g (edges .0);
-      fromNoBlock = edges-from (suc t) g (edges .0);
+      ends = edges-end (suc t) g (rows .1);
+      offsets = edges-offset (suc t) g (rows .1);
+      fromNoBlock = edges-from (suc t) g (rows .1);
       distinct = edges-distinct es;
     }
 
@@ -84,7 +85,7 @@ shape-good width most xs n =
 
 -- the tables of a graph that meets no condition are taken
 pub tables-taken : (t : ℕ) (ns es : List ℤ) → NoneHolds (graphConditions t ns es) → TakenTables ns es
-unfolding graphConditions shapeConditions
+unfolding rowConditions graphConditions shapeConditions
 tables-taken t ns es h =
     record { graph = graph-taken t ns es h; nodes = shape-good nodeWidth maxNodes ns (h .0); edges = shape-good edgeWidth maxEdges es (h .1 .0) }
 

@@ -84,12 +84,18 @@ edgeConditions t g e = refuse 3 t (e .row) (BadEdge g e) next refuse 4 t (e .row
 -- ---- one graph: node shape, edge shape, node rows, edge rows (3 before 4), 5 a cycle, 6 some chain of more than 64 edges.
 -- Its node table is t and its edge table t + 1
 
-unfoldable pub graphConditions : ℕ → List ℤ → List ℤ → List Condition
-graphConditions t ns es =
+-- the conditions on the shape and the rows of the two tables of a graph: refusals 1 to 4
+unfoldable pub rowConditions : ℕ → List ℤ → List ℤ → List Condition
+rowConditions t ns es =
     shapeConditions t nodeWidth maxNodes ns
     next shapeConditions (suc t) edgeWidth maxEdges es
     next flatMap (nodeConditions t) (nodeRows ns)
     next flatMap (edgeConditions (suc t) (graphOf ns es)) (edgeRows es)
+
+-- the conditions on a graph: those on its shape and rows, then a cycle, then a long chain
+unfoldable pub graphConditions : ℕ → List ℤ → List ℤ → List Condition
+graphConditions t ns es =
+    rowConditions t ns es
     next refuse 5 t 0 (Cycle (graphOf ns es))
     next refuse 6 t 0 (LongChain (graphOf ns es))
 

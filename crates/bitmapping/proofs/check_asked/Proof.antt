@@ -6,7 +6,8 @@ use Rattle.model.specs.Checks.{checkGraph}
 use Rattle.model.specs.Calls.{full}
 use Rattle.model.specs.Answers.{checkedAnswer}
 use Rattle.tables.proofs.Checks.{checked}
-use Rattle.bitmapping.proofs.Answers.{asked-refused, asked-named, graph-nameable}
+use Rattle.named.proofs.Answers.{graph-nameable}
+use Rattle.bitmapping.proofs.Answers.{asked-refused, asked-named}
 use Rattle.bitmapping.proofs.check_asked.Statement.{statement}
 use Rattle.bitmapping.proofs.check_asked.Tie as tie
 

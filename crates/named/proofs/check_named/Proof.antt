@@ -18,10 +18,10 @@ use Rattle.model.specs.Checks.{isRoot, isLeaf}
 use Rattle.model.proofs.GraphChecks.{isRoot?, isLeaf?}
 use Rattle.tables.proofs.Cells.{index-fits, index-same}
 use Rattle.reach.specs.Counting.{stopped, countsOver}
-use Rattle.bitmapping.proofs.Answers.{named-rootless, named-leafless, named-many, named-taken}
-use Rattle.bitmapping.proofs.Counts.{root-below, root-count}
-use Rattle.bitmapping.proofs.check_named.Statement.{statement}
-use Rattle.bitmapping.proofs.check_named.Tie as tie
+use Rattle.named.proofs.Answers.{named-rootless, named-leafless, named-many, named-taken}
+use Rattle.named.proofs.Counts.{root-below, root-count}
+use Rattle.named.proofs.check_named.Statement.{statement}
+use Rattle.named.proofs.check_named.Tie as tie
 
 root-told : (c : tie.After-is-root) → let a = c .before .before .before .args in
     c .is-root .result ≡ isRoot (graphOf (a .nodes .now) (a .edges .now)) (a .root)

@@ -17,10 +17,10 @@ use Rattle.model.specs.Checks.{isRow}
 use Rattle.model.proofs.GraphChecks.{isRow?}
 use Rattle.tables.proofs.Cells.{index-fits, index-same}
 use Rattle.tables.proofs.Rows.{graph-nodes-length}
-use Rattle.bitmapping.specs.Checking.{kindOf}
-use Rattle.bitmapping.proofs.Roots.{kind-none, row-there, row-kind}
-use Rattle.bitmapping.proofs.kind_at.Statement.{statement}
-use Rattle.bitmapping.proofs.kind_at.Tie as tie
+use Rattle.named.specs.Naming.{kindOf}
+use Rattle.named.proofs.Roots.{kind-none, row-there, row-kind}
+use Rattle.named.proofs.kind_at.Statement.{statement}
+use Rattle.named.proofs.kind_at.Tie as tie
 
 row-told : (c : tie.After-is-row) (es : List ℤ) → c .is-row .result ≡ isRow (graphOf (c .before .args .nodes .now) es) (c .before .args .v)
 row-told c es =

@@ -18,7 +18,7 @@ use Rattle.model.specs.Graph.{Graph, graphOf, NodeRow, node, space, segment, bl
 use Rattle.model.specs.Checks.{isRow, isRoot, isLeaf}
 use Rattle.model.proofs.GraphChecks.{isRow?}
 use Rattle.tables.proofs.Rows.{graph-nodes-length, node-at}
-use Rattle.bitmapping.specs.Checking.{kindOf}
+use Rattle.named.specs.Naming.{kindOf}
 
 -- ---- numbers by their bits
 

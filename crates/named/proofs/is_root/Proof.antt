@@ -13,9 +13,9 @@ use Rattle.model.specs.Rows.{Edge}
 use Rattle.model.specs.Graph.{graphOf, space, segment}
 use Rattle.model.specs.Checks.{isRoot}
 use Rattle.tables.proofs.Cells.{bits-same, bits-other}
-use Rattle.bitmapping.proofs.Roots.{root-kind}
-use Rattle.bitmapping.proofs.is_root.Statement.{statement}
-use Rattle.bitmapping.proofs.is_root.Tie as tie
+use Rattle.named.proofs.Roots.{root-kind}
+use Rattle.named.proofs.is_root.Statement.{statement}
+use Rattle.named.proofs.is_root.Tie as tie
 
 kind-fits : (c : tie.After-kind-at) → SFits w64 (c .kind-at .result)
 kind-fits c = sfits-of {w = w64} (c .kind-at .ok)

@@ -8,9 +8,9 @@ use mir.Facts.{toZ-ofZ}
 use Rattle.integers.specs.Integers.{eqZ}
 use Rattle.model.specs.Graph.{graphOf, block}
 use Rattle.tables.proofs.Cells.{bits-test}
-use Rattle.bitmapping.proofs.Roots.{leaf-kind}
-use Rattle.bitmapping.proofs.is_leaf.Statement.{statement}
-use Rattle.bitmapping.proofs.is_leaf.Tie as tie
+use Rattle.named.proofs.Roots.{leaf-kind}
+use Rattle.named.proofs.is_leaf.Statement.{statement}
+use Rattle.named.proofs.is_leaf.Tie as tie
 
 kind-fits : (c : tie.After-kind-at) → SFits w64 (c .kind-at .result)
 kind-fits c = sfits-of {w = w64} (c .kind-at .ok)

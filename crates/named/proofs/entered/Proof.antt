@@ -13,9 +13,9 @@ use Rattle.lists.specs.Lists.{any}
 use Rattle.model.specs.Rows.{Edge, edgesFrom, edgeRows}
 use Rattle.tables.specs.Tables.{edgeAt}
 use Rattle.tables.proofs.Rows.{edges-rest, edges-end}
-use Rattle.bitmapping.proofs.Roots.{bits-equal, bits-unequal, any-none, any-here, any-past}
-use Rattle.bitmapping.proofs.entered.Statement.{statement}
-use Rattle.bitmapping.proofs.entered.Tie as tie
+use Rattle.named.proofs.Roots.{bits-equal, bits-unequal, any-none, any-here, any-past}
+use Rattle.named.proofs.entered.Statement.{statement}
+use Rattle.named.proofs.entered.Tie as tie
 
 abbrev Inv-loop : tie.InvT-loop
 Inv-loop edges v e₀ e =

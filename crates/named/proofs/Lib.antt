@@ -1,0 +1,3 @@
+pub mod Roots
+pub mod Answers
+pub mod Counts

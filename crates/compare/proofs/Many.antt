@@ -28,7 +28,7 @@ use Rattle.visiting.proofs.Turns.{by-leaf-none, lowest-nil, lowest-cons, lowest
 use Rattle.visiting.proofs.Refusal.{lowest-stays}
 use Rattle.pairs.specs.Inputs.{Inputs, InOrder}
 use Rattle.pairs.proofs.Inputs.{nodes-few, row-leaves}
-use Rattle.pairs.specs.Entering.{isEntered}
+use Rattle.pairs.specs.Entering.{EntersNodes, isEntered}
 use Rattle.pairs.proofs.Entering.{unentered-paths}
 use Rattle.compare.specs.Keys.{keyBy, countKey, rowKeys, lowestMany}
 use Rattle.pairs.proofs.Rows.{rowsLeft, rows-next, rows-none}
@@ -55,6 +55,16 @@ counts-many g l (pos i) old r = ap (ltb maxPaths) (count-at g l old i (omega (ar
 counts-many g l (negsuc i) old r = absurd (omega (arith, ints, r .low))
 
 -- ---- the leaves one after the other
+
+-- the edges of both graphs enter nodes
+module _ {t : Tables} (k : Inputs t) where
+  pub spec-enters : EntersNodes (t .specEdges)
+  unfolding graphOf
+  spec-enters e m = k .spec .graph .ends e m .1 .low
+
+  pub impl-enters : EntersNodes (t .implEdges)
+  unfolding graphOf
+  impl-enters e m = k .impl .graph .ends e m .1 .low
 
 -- what a count of the paths to a leaf starts from
 pub leaf-countable : {ns es : List ℤ} {order : List ℕ} (counts : List ℕ) {l : ℤ} (leaf : ℕ) → TakenTables ns es → InOrder es order

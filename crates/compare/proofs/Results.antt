@@ -1,7 +1,7 @@
 -- From totals and keys to the answer of a comparison, and from the answer to its promise.
 use mathlib.Core.Path.{_≡_, refl, sym, ap, subst, _∙_}
 use mathlib.Core.List.{List, map}
-use mathlib.Core.Option.{none, some}
+use mathlib.Core.Option.{Option, none, some}
 use Prim.Native.Nat.{ℕ, _*_, _/_, _≤_}
 use native.Mathlib.Omega.{arith}
 use lib.IntN.{ℤ}
@@ -19,7 +19,7 @@ use Rattle.model.specs.declared.Checked.the-variants as variants
 use Rattle.model.specs.declared.Compared.{Compared}
 use Rattle.model.proofs.Demand.{compare-full, demand3}
 use Rattle.visiting.specs.Visiting.{byLeaf, noKey, totalsOf, resultFrom, manyKey, refusalFrom}
-use Rattle.visiting.proofs.Result.{result-by-leaf}
+use Rattle.visiting.proofs.Result.{result-by-visits}
 use Rattle.visiting.proofs.Refusal.{refusal-by-leaf}
 use Rattle.totals.specs.declared.Kept.{Kept}
 use Rattle.totals.specs.Kept.{asTotals}
@@ -43,9 +43,10 @@ rowCount t = length (t .rootPairs) / pairWidth
 module _ {t : Tables} {kept : Kept} {lines : List ℤ} (p : SurveyPromise t 0 (rowCount t) kept lines) where
   -- the totals of a survey of all root rows give the full result
   pub survey-result : {res : Result} → Inputs t → res ≡ resultFrom (asTotals (kept .totals)) → res ≡ resultOf (findings t)
+  unfolding findings findingsBetween
   survey-result k e =
-      e ∙ ap resultFrom (p .found) ∙ ap (λ (l : List Pair). resultFrom (totalsOf (map (findingOf t) (byLeaf l (leafRows t))))) (between-all (t .rootPairs))
-      ∙ result-by-leaf t (rows-few (k .rootShape)) (rows-few (k .leafShape))
+      e ∙ ap resultFrom (p .found) ∙ ap (λ (l : List Pair). resultFrom (totalsOf (map (findingOf t) (visits l (leafRows t))))) (between-all (t .rootPairs))
+      ∙ result-by-visits t (rows-few (k .rootShape)) (rows-few (k .leafShape))
 
   -- and its rows are those of all findings
   pub survey-lines : LinesHeld (findings t) lines (kept .count)
@@ -122,6 +123,16 @@ pub none-tables : (t : Tables) → checkTables t ≡ none → Inputs t × AllFew
 none-tables t e =
     let parts = then-none (checkInputs t) (checkPaths t) (sym (tables-checked t) ∙ e) in
     (none-inputs t (parts .0), paths-few t (parts .1))
+
+-- the checks of the inputs take them
+pub none-taken : (t : Tables) {given : Checked} {so mo : List ℕ} → checkTables t ≡ none → InputsChecked t given so mo → given ≡ variants.Taken
+unfolding answer
+none-taken t {given} e k =
+    taken given (k .answers ∙ ap (λ (a : Option Refusal). answer a tt) (then-none (checkInputs t) (checkPaths t) (sym (tables-checked t) ∙ e) .0))
+  where
+    taken : (given : Checked) → checkedAnswer given ≡ full tt → given ≡ variants.Taken
+    taken variants.Taken q = refl
+    taken (variants.Refused r) q = absurd (let z : _≡_ {A = ℕ} 0 1 = cc in omega arith)
 
 -- where the answer is a full result, so it is
 pub full-inputs : (t : Tables) {res : Result} → compareAnswer t ≡ full res → Inputs t × AllFew t

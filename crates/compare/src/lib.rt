@@ -24,7 +24,6 @@ ghost use Rattle.compare.specs.Keys.{keyBy, countKey, Keyed, rowKeys, lo
 ghost use Rattle.compare.specs.Promises.{ComparePromise};
 ghost use Rattle.compare.specs.UpTo.{PairsUpTo, PathsUpTo, LinedUpTo};
 use depth::check_graph_with;
-use depth::order_edges;
 use model::Checked;
 use model::Compared;
 use model::Comparison;
@@ -290,6 +289,42 @@ fn lowest_many(
     )
 }
 
+// The lowest key of all pairs, in work space that is given back before any list is made.
+fn lowest_key(
+    spec_nodes: &[i64],
+    spec_edges: &[i64],
+    impl_nodes: &[i64],
+    impl_edges: &[i64],
+    root_pairs: &[i64],
+    leaf_pairs: &[i64],
+    spec_order: &[usize],
+    impl_order: &[usize],
+) -> usize
+    requires { ⌜
+        Ordered (tablesOf (now «spec_nodes») (now «spec_edges») (now «impl_nodes») (now «impl_edges») (now «root_pairs») (now «leaf_pairs»))
+        (now «spec_order») (now «impl_order») ⌝ }
+    ensures { λ r. ⌜
+        r
+        ≡ lowestMany
+        (tablesOf (now («spec_nodes» .entry)) (now («spec_edges» .entry)) (now («impl_nodes» .entry)) (now («impl_edges» .entry))
+        (now («root_pairs» .entry)) (now («leaf_pairs» .entry))) ⌝ }
+{
+    let mut spec_counts = [0usize; MAX_NODES];
+    let mut impl_counts = [0usize; MAX_NODES];
+    lowest_many(
+        spec_nodes,
+        spec_edges,
+        impl_nodes,
+        impl_edges,
+        root_pairs,
+        leaf_pairs,
+        spec_order,
+        impl_order,
+        &mut spec_counts,
+        &mut impl_counts,
+    )
+}
+
 // The refusal for the lowest key.
 fn many_paths(key: usize) -> Reason
     requires { ⌜ key < 2 * noKey ⌝ }
@@ -384,13 +419,11 @@ fn compare_pairs(
     impl_order: &[usize],
     most: usize,
     lines: &mut [i64],
-    spare: &mut [i64],
 ) -> Lined
     requires { ⌜
         Ordered (tablesOf (now «spec_nodes») (now «spec_edges») (now «impl_nodes») (now «impl_edges») (now «root_pairs») (now «leaf_pairs»))
         (now «spec_order») (now «impl_order»)
-        × AllFew (tablesOf (now «spec_nodes») (now «spec_edges») (now «impl_nodes») (now «impl_edges») (now «root_pairs») (now «leaf_pairs»))
-        × (length (now lines) ≤ length (now spare)) ⌝ }
+        × AllFew (tablesOf (now «spec_nodes») (now «spec_edges») (now «impl_nodes») (now «impl_edges») (now «root_pairs») (now «leaf_pairs»)) ⌝ }
     ensures { λ r. ⌜
         PairsUpTo
         (tablesOf (now («spec_nodes» .entry)) (now («spec_edges» .entry)) (now («impl_nodes» .entry)) (now («impl_edges» .entry))
@@ -411,7 +444,6 @@ fn compare_pairs(
         count,
         most,
         lines,
-        spare,
     );
     if most < kept.count {
         return too_long(kept.count);
@@ -436,21 +468,17 @@ fn compare_checked(
     impl_order: &[usize],
     most: usize,
     lines: &mut [i64],
-    spare: &mut [i64],
 ) -> Lined
     requires { ⌜
         Ordered (tablesOf (now «spec_nodes») (now «spec_edges») (now «impl_nodes») (now «impl_edges») (now «root_pairs») (now «leaf_pairs»))
-        (now «spec_order») (now «impl_order»)
-        × (length (now lines) ≤ length (now spare)) ⌝ }
+        (now «spec_order») (now «impl_order») ⌝ }
     ensures { λ r. ⌜
         PathsUpTo
         (tablesOf (now («spec_nodes» .entry)) (now («spec_edges» .entry)) (now («impl_nodes» .entry)) (now («impl_edges» .entry))
         (now («root_pairs» .entry)) (now («leaf_pairs» .entry)))
         most r (now (lines .exit)) ⌝ }
 {
-    let mut spec_counts = [0usize; MAX_NODES];
-    let mut impl_counts = [0usize; MAX_NODES];
-    let key = lowest_many(
+    let key = lowest_key(
         spec_nodes,
         spec_edges,
         impl_nodes,
@@ -459,8 +487,6 @@ fn compare_checked(
         leaf_pairs,
         spec_order,
         impl_order,
-        &mut spec_counts,
-        &mut impl_counts,
     );
     if key < 2 * NO_KEY {
         return refusal(many_paths(key));
@@ -476,7 +502,6 @@ fn compare_checked(
         impl_order,
         most,
         lines,
-        spare,
     )
 }
 
@@ -519,8 +544,8 @@ fn check_inputs(
 // Compares a specification graph with an implementation graph for the roots and leaves that belong together: the counts of equal, partial and
 // different pairs, the whole verdict, and the first unequal pair in visiting order with its lowest differing bit address; or the refusal. The rows
 // of the pairs with a record on either side are counted, and stand in front of `lines` in visiting order where there is room for all of them. What
-// stands in `lines` behind the rows, or where there is no room for all of them or the answer is a refusal, and in `spare`, is space that was worked
-// in. Where the tables are not refused and there are more than `most` rows, the answer is refusal 11, and one row more than `most` is counted.
+// stands in `lines` behind the rows, or where there is no room for all of them or the answer is a refusal, is space that was worked in. Where the
+// tables are not refused and there are more than `most` rows, the answer is refusal 11, and one row more than `most` is counted.
 pub fn compare_lines(
     spec_nodes: &[i64],
     spec_edges: &[i64],
@@ -530,9 +555,7 @@ pub fn compare_lines(
     leaf_pairs: &[i64],
     most: usize,
     lines: &mut [i64],
-    spare: &mut [i64],
 ) -> Lined
-    requires { ⌜ length (now lines) ≤ length (now spare) ⌝ }
     ensures { λ r. ⌜
         LinedUpTo
         (tablesOf (now («spec_nodes» .entry)) (now («spec_edges» .entry)) (now («impl_nodes» .entry)) (now («impl_edges» .entry))
@@ -565,7 +588,6 @@ pub fn compare_lines(
         &impl_order,
         most,
         lines,
-        spare,
     )
 }
 
@@ -585,7 +607,6 @@ pub fn compare(
         r ⌝ }
 {
     let mut lines = [0i64; 1];
-    let mut spare = [0i64; 1];
     let lined = compare_lines(
         spec_nodes,
         spec_edges,
@@ -595,14 +616,13 @@ pub fn compare(
         leaf_pairs,
         MAX_VISITS,
         &mut lines,
-        &mut spare,
     );
     lined.compared
 }
 
 // The rows of the pairs with a record on either side and a root row from `from` on and below `to`, in visiting order, in front of `lines` where
 // there is room for all of them, for tables that are not refused. Returns how many there are. What stands in `lines` behind the rows, or where there
-// is no room for all of them, and in `spare`, is space that was worked in.
+// is no room for all of them, is space that was worked in.
 pub fn lines_between(
     spec_nodes: &[i64],
     spec_edges: &[i64],
@@ -613,11 +633,10 @@ pub fn lines_between(
     from: usize,
     to: usize,
     lines: &mut [i64],
-    spare: &mut [i64],
 ) -> usize
     requires { ⌜
         (checkTables (tablesOf (now «spec_nodes») (now «spec_edges») (now «impl_nodes») (now «impl_edges») (now «root_pairs») (now «leaf_pairs»)) ≡ none)
-        × (from ≤ to) × (to ≤ length (now «root_pairs») / 2) × (length (now lines) ≤ length (now spare)) ⌝ }
+        × (from ≤ to) × (to ≤ length (now «root_pairs») / 2) ⌝ }
     ensures { λ r. ⌜
         LinesHeld (findingsBetween
         (tablesOf (now («spec_nodes» .entry)) (now («spec_edges» .entry)) (now («impl_nodes» .entry)) (now («impl_edges» .entry))
@@ -626,8 +645,16 @@ pub fn lines_between(
 {
     let mut spec_order = [0usize; MAX_EDGES];
     let mut impl_order = [0usize; MAX_EDGES];
-    order_edges(spec_edges, &mut spec_order);
-    order_edges(impl_edges, &mut impl_order);
+    check_inputs(
+        spec_nodes,
+        spec_edges,
+        impl_nodes,
+        impl_edges,
+        root_pairs,
+        leaf_pairs,
+        &mut spec_order,
+        &mut impl_order,
+    );
     let kept = survey(
         spec_nodes,
         spec_edges,
@@ -641,7 +668,6 @@ pub fn lines_between(
         to,
         MAX_VISITS,
         lines,
-        spare,
     );
     kept.count
 }

@@ -43,7 +43,7 @@ fn contained_in(r: Row, t: &[i64], i: usize) -> bool
 }
 
 // Whether each of the ni rows of imp is contained in one of the ns rows of spec, in one pass. Both are rows by displacement, sorted.
-fn covered(spec: &[i64], ns: usize, imp: &[i64], ni: usize) -> bool
+pub fn covered(spec: &[i64], ns: usize, imp: &[i64], ni: usize) -> bool
     requires { ⌜ (3 * ns ≤ length (now spec)) × (3 * ni ≤ length (now imp)) ⌝ }
     ensures { λ b. ⌜ b ≡ coveredBy (displacedOf (now (spec .entry)) ns) (displacedOf (now (imp .entry)) ni) ⌝ }
 {

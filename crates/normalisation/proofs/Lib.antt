@@ -4,3 +4,4 @@ pub mod Merging
 pub mod Touching
 pub mod Turns
 pub mod Normalising
+pub mod Displaced

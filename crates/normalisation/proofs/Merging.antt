@@ -1,10 +1,11 @@
 -- One pass over records sorted by displacement merges all that touch: it keeps what the records have, and no two that it leaves touch.
--- So sorting, merging and sorting again is normalisation.
-use mathlib.Core.Path.{_≡_, refl, sym, _∙_, subst}
+-- So sorting, merging and sorting again is normalisation, and without the last sort it gives the list sorted by displacement.
+use mathlib.Core.Path.{_≡_, refl, sym, ap, _∙_, subst}
 use mathlib.Core.Bool.{Bool, true, false, cond}
-use mathlib.Core.List.{List, [], _∷_, List·Memᴰ·head, List·Memᴰ·tail, List·Memᴰ·not-nil}
+use mathlib.Core.List.{List, [], _∷_, map, List·Memᴰ·head, List·Memᴰ·tail, List·Memᴰ·not-nil}
 use mathlib.Core.Logic.{_⊎_, inl, inr, ⊎-elim, _↔_}
 use native.Mathlib.Omega.{arith}
+use lib.Dec.{T}
 use lib.IntN.{ℤ, pos, _+ℤ_, _-ℤ_}
 use lib.Signed.{leZ, _≤ℤ_, _<ℤ_}
 use Rattle.integers.specs.Integers.{minZ}
@@ -12,13 +13,17 @@ use Rattle.integers.proofs.Linear.{ints, sum}
 use Rattle.integers.proofs.Tests.{Test, passed, failed, le?, min-is}
 use Rattle.lists.specs.Lists.{_∈_, Distinct}
 use Rattle.lists.specs.Lists as lists
+use Rattle.lists.proofs.Membership.{map-out}
+use Rattle.sorting.specs.Rows.{leRow, Ascending}
+use Rattle.sorting.specs.Rows as rows
+use Rattle.sorting.proofs.Order.{leRow-holds}
 use Rattle.model.specs.Bitmapping.{Record, Has, IsListOf}
 use Rattle.model.specs.Runs.{touch, hull, normal}
 use Rattle.model.proofs.Records.{Within, within-refl, within-trans, within-has, Touch, touch?, touch-sym, Near, touch-near, touch-aligned, hull-left, hull-right, Meets, hull-meets}
 use Rattle.model.proofs.Uniqueness.{near-maximal}
 use Rattle.model.proofs.Normalisation.{Held, normal-unique}
-use Rattle.normalisation.specs.Merging.{mergeInto, merged, sortedByDisplacement, sortedByFirst, fastNormal}
-use Rattle.normalisation.proofs.Sorted.{Pairwise, none, more, Follows, by-displacement-members, by-displacement-follows, by-first-members, by-first-ordered}
+use Rattle.normalisation.specs.Merging.{byDisplacement, mergeInto, merged, sortedByDisplacement, sortedByFirst, fastNormal}
+use Rattle.normalisation.proofs.Sorted.{Pairwise, none, more, Follows, by-displacement-members, by-displacement-fixed, by-displacement-unique, by-displacement-follows, by-first-members, by-first-distinct, by-first-ordered}
 
 -- no record of the list is empty
 abbrev pub Full : List Record → Type 0
@@ -258,3 +263,32 @@ fast-normal l n =
 
     found : (x y : ℤ) → Held l x y → Held (merged (sortedByDisplacement l)) x y
     found x y (s, m, k) = merged-complete (sortedByDisplacement l) (s, by-displacement-members l .1 m, k)
+
+-- ---- the list, sorted by displacement
+
+-- records each of which is clear of those behind it are ascending as rows by displacement
+clear-ascending : {l : List Record} → Full l → Pairwise Clear l → Ascending (map byDisplacement l)
+clear-ascending n none = rows.none
+clear-ascending n (more {x} {l} h p) =
+    rows.more {x = byDisplacement x} (λ y m. let (s, q, e) = map-out byDisplacement l m in rw e (below s (h s q)))
+    (clear-ascending (λ s m. n s (List·Memᴰ·tail m)) p)
+  where
+    below : (s : Record) → Clear x s → T (leRow (byDisplacement x) (byDisplacement s))
+    below s c =
+        let full = n x (List·Memᴰ·head refl) in
+        leRow-holds (byDisplacement x) (byDisplacement s) (record {
+          first = c .displacement;
+          second = λ e. omega (arith, ints, full, c .gap e, sum (x .last) (pos 1));
+          third = λ e d. absurd (omega (arith, ints, full, c .gap e, sum (x .last) (pos 1)));
+        })
+
+-- What the pass leaves is the list, sorted by displacement: its records are those of the list, which are the same sorted by first, none stands twice, and
+-- each is clear of those behind it, so that they are in ascending order.
+pub merged-normal : (l : List Record) → ((s : Record) → s ∈ l → s .first ≤ℤ s .last) → merged (sortedByDisplacement l) ≡ sortedByDisplacement (normal l)
+unfolding fastNormal
+merged-normal l n =
+    let (full, clear) = merged-clear (λ s m. n s (by-displacement-members l .0 m)) (by-displacement-follows l) in
+    let pass = merged (sortedByDisplacement l) in
+    let once : Distinct pass = clear-distinct full clear in
+    sym (by-displacement-fixed (clear-ascending full clear)) ∙ by-displacement-unique once (by-first-distinct once) (λ s. (by-first-members pass .1, by-first-members pass .0))
+    ∙ ap sortedByDisplacement (fast-normal l n)

@@ -7,7 +7,6 @@ use lib.ListN.{length, take, drop, length-map}
 use lib.Seq.{take-at}
 use lib.IntN.{ℤ}
 use Rattle.lists.specs.Lists.{_∈_}
-use Rattle.sorting.specs.declared.Row.{Row}
 use Rattle.sorting.specs.Rows.{rowsOf, numbersOf, sorted}
 use Rattle.sorting.proofs.Sorting.{sorted-length}
 use Rattle.sorting.proofs.Tables.{rowsOf-length, rowsOf-written}
@@ -15,8 +14,8 @@ use Rattle.model.specs.Bitmapping.{Record}
 use Rattle.model.specs.Runs.{hull, normal}
 use Rattle.model.specs.Calls as calls
 use Rattle.normalisation.specs.Merging.{byDisplacement, ofDisplacement, byFirst, ofFirst, recordsOf, AllSmall, mergeInto, merged, sortedByDisplacement, sortedByFirst, fastNormal}
-use Rattle.normalisation.proofs.Sorted.{by-displacement-members}
-use Rattle.normalisation.proofs.Merging.{mergeInto-cases, fast-normal}
+use Rattle.normalisation.proofs.Sorted.{rows-back, records-back, by-displacement-members, by-displacement-length}
+use Rattle.normalisation.proofs.Merging.{mergeInto-cases, fast-normal, merged-normal}
 
 -- ---- lengths
 
@@ -48,11 +47,6 @@ numbers-length [] = refl
 numbers-length (r ∷ l) = let h = numbers-length l in omega arith
 
 -- ---- rows sorted
-
--- rows as records and back
-rows-back : (l : List Row) → map byDisplacement (map ofDisplacement l) ≡ l
-rows-back [] = refl
-rows-back (r ∷ l) = ap {B = List Row} (λ k. r ∷ k) (rows-back l)
 
 -- sorting rows by displacement sorts their records
 records-sorted : (t : List ℤ) (n : ℕ) → recordsOf (numbersOf (sorted (rowsOf t n)) ++ drop (3 * n) t) n ≡ sortedByDisplacement (recordsOf t n)
@@ -119,3 +113,28 @@ module _ {t : List ℤ} {n k : ℕ} {out : List ℤ} (s : Steps t n k out) where
       rw (s .writes, written)
       (take-at (calls.numbersOf (normal (recordsOf t n))) (s .behindOut) (3 * k)
       (numbers-length (normal (recordsOf t n)) ∙ ap (λ (j : ℕ). 3 * j) (sym normalised-count)))
+
+-- ---- without the sort by first
+
+-- n rows of t, sorted by displacement, stand in `ordered`
+module _ (t : List ℤ) (n : ℕ) (all : AllSmall (recordsOf t n)) (ordered : List ℤ) (sorts : ordered ≡ numbersOf (sorted (rowsOf t n)) ++ drop (3 * n) t) where
+  -- merged, they are the rows of the list
+  merged-rows-normal : merged (recordsOf ordered n) ≡ sortedByDisplacement (normal (recordsOf t n))
+  merged-rows-normal = rw (sorts, records-sorted t n) (merged-normal (recordsOf t n) (λ s m. all s m .full))
+
+  -- as many as the list has
+  pub displaced-count : (k : ℕ) → k ≡ length (merged (recordsOf ordered n)) → k ≡ length (normal (recordsOf t n))
+  displaced-count k count = count ∙ ap length merged-rows-normal ∙ by-displacement-length (normal (recordsOf t n))
+
+  -- and they are read where they are written
+  pub displaced-records : (k : ℕ) (out behind : List ℤ) → k ≡ length (merged (recordsOf ordered n))
+      → out ≡ numbersOf (map byDisplacement (merged (recordsOf ordered n))) ++ behind → recordsOf out k ≡ sortedByDisplacement (normal (recordsOf t n))
+  displaced-records k out behind count writes =
+      let pass = merged (recordsOf ordered n) in
+      rw (writes, rowsOf-written (map byDisplacement pass) behind k (length-map pass byDisplacement ∙ sym count), records-back pass) merged-rows-normal
+
+-- no rows are those of the empty list
+pub displaced-none : (t : List ℤ) (n : ℕ) → n ≡ 0
+    → (0 ≡ length (normal (recordsOf t n))) × (recordsOf t 0 ≡ sortedByDisplacement (normal (recordsOf t n)))
+unfolding rowsOf normal sortedByDisplacement sorted
+displaced-none t n e = rw e (refl, refl)

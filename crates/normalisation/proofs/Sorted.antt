@@ -1,11 +1,12 @@
--- Records sorted as rows: the same records, in the order of their rows, and none twice where none stood twice.
-use mathlib.Core.Path.{_≡_, refl, sym, ap, _∙_}
+-- Records sorted as rows: the same records, in the order of their rows, and none twice where none stood twice. There is one such list.
+use mathlib.Core.Path.{_≡_, refl, sym, ap, ap₂, _∙_}
 use mathlib.Core.Bool.{Bool, true, false}
-use mathlib.Core.List.{List, [], _∷_, map, List·Memᴰ·head, List·Memᴰ·tail, List·Memᴰ·not-nil, Memᴰ·cast}
-use mathlib.Core.Logic.{_↔_}
+use mathlib.Core.List.{List, [], _∷_, map, List·Memᴰ·head, List·Memᴰ·tail, List·Memᴰ·not-nil, List·Memᴰ·cases-cons, Memᴰ·cast}
+use mathlib.Core.Logic.{_⊎_, inl, inr, _↔_}
 use native.Mathlib.Omega.{arith}
 use lib.Signed.{ltZ, _≤ℤ_, _<ℤ_}
 use lib.Dec.{T}
+use lib.ListN.{length, length-map}
 use Rattle.integers.proofs.Linear.{ints}
 use Rattle.integers.proofs.Tests.{Test, passed, failed, lt?}
 use Rattle.lists.specs.Lists.{_∈_, Distinct}
@@ -15,8 +16,8 @@ use Rattle.lists.proofs.Distinct.{map-distinct}
 use Rattle.sorting.specs.declared.Row.{Row}
 use Rattle.sorting.specs.Rows.{leRow, Ascending, insert, sorted}
 use Rattle.sorting.specs.Rows as rows
-use Rattle.sorting.proofs.Order.{leRow-says}
-use Rattle.sorting.proofs.Sorting.{insert-none, insert-cases, insert-out, sorted-members, sorted-ascending}
+use Rattle.sorting.proofs.Order.{leRow-says, leRow-refl, leRow-antisym}
+use Rattle.sorting.proofs.Sorting.{insert-none, insert-cases, insert-out, first-of, sorted-members, sorted-length, sorted-ascending, sorted-fixed}
 use Rattle.model.specs.Bitmapping.{Record, Before, Ordered}
 use Rattle.model.specs.Bitmapping as bits
 use Rattle.model.proofs.Records.{Aligned}
@@ -40,7 +41,42 @@ unfolding sorted
 sorted-distinct lists.none = lists.none
 sorted-distinct (lists.more {x} {l} new d) = insert-distinct (λ m. new (sorted-members l .0 m)) (sorted-distinct d)
 
+-- ---- one ascending list
+
+-- the heads of ascending lists with the same rows are the same
+ascending-head : {x y : Row} {l m : List Row} → ((z : Row) → z ∈ l → T (leRow x z)) → ((z : Row) → z ∈ m → T (leRow y z))
+    → x ∈ (y ∷ m) → y ∈ (x ∷ l) → x ≡ y
+ascending-head {x} {y} {l} {m} h k p q = leRow-antisym x y (first-of x x l (leRow-refl x) h y q) (first-of y y m (leRow-refl y) k x p)
+
+-- and where none stands twice, their tails have the same rows
+ascending-tail : {x y : Row} {l m : List Row} → x ≡ y → (x ∈ l → ⊥) → ((z : Row) → z ∈ (x ∷ l) → z ∈ (y ∷ m)) → (z : Row) → z ∈ l → z ∈ m
+ascending-tail {x} {y} {l} {m} e new h z p = go (List·Memᴰ·cases-cons (h z (List·Memᴰ·tail p)))
+  where
+    go : (z ≡ y) ⊎ (z ∈ m) → z ∈ m
+    go (inl d) = absurd (new (Memᴰ·cast (e ∙ sym d) p))
+    go (inr q) = q
+
+-- ascending lists with the same rows, none twice, are the same
+ascending-unique : {l m : List Row} → Ascending l → Distinct l → Ascending m → Distinct m → ((z : Row) → z ∈ l ↔ z ∈ m) → l ≡ m
+ascending-unique rows.none c rows.none d same = refl
+ascending-unique rows.none c (rows.more {x = y} k b) d same = absurd (List·Memᴰ·not-nil (same y .1 (List·Memᴰ·head refl)))
+ascending-unique (rows.more {x} h a) c rows.none d same = absurd (List·Memᴰ·not-nil (same x .0 (List·Memᴰ·head refl)))
+ascending-unique (rows.more {x} h a) (lists.more new c) (rows.more {x = y} k b) (lists.more other d) same =
+    let e : x ≡ y = ascending-head h k (same x .0 (List·Memᴰ·head refl)) (same y .1 (List·Memᴰ·head refl)) in
+    ap₂ (λ (r : Row) (q : List Row). r ∷ q) e
+    (ascending-unique a c b d (λ z. (ascending-tail e new (λ w. same w .0) z, ascending-tail (sym e) other (λ w. same w .1) z)))
+
 -- ---- records as rows and back
+
+-- rows by displacement, as records and back
+pub rows-back : (l : List Row) → map byDisplacement (map ofDisplacement l) ≡ l
+rows-back [] = refl
+rows-back (r ∷ l) = ap {B = List Row} (λ k. r ∷ k) (rows-back l)
+
+-- records, as rows by displacement and back
+pub records-back : (l : List Record) → map ofDisplacement (map byDisplacement l) ≡ l
+records-back [] = refl
+records-back (r ∷ l) = ap {B = List Record} (λ k. r ∷ k) (records-back l)
 
 module _ (f : Record → Row) (g : Row → Record) (back : (s : Record) → g (f s) ≡ s) (l : List Record) where
   -- sorted as rows and read back, the records are the same
@@ -67,6 +103,33 @@ unfolding sortedByFirst
 by-first-members l = rows-members byFirst ofFirst (λ s. refl) l
 
 -- ---- the order by displacement
+
+-- sorting by displacement keeps how many records are there
+pub by-displacement-length : (l : List Record) → length (sortedByDisplacement l) ≡ length l
+unfolding sortedByDisplacement
+by-displacement-length l = length-map (sorted (map byDisplacement l)) ofDisplacement ∙ sorted-length (map byDisplacement l) ∙ length-map l byDisplacement
+
+-- records whose rows are ascending are sorted already
+pub by-displacement-fixed : {l : List Record} → Ascending (map byDisplacement l) → sortedByDisplacement l ≡ l
+unfolding sortedByDisplacement
+by-displacement-fixed {l} a = ap (map ofDisplacement) (sorted-fixed a) ∙ records-back l
+
+-- lists with the same records, none twice, are the same once sorted
+pub by-displacement-unique : {l m : List Record} → Distinct l → Distinct m → ((s : Record) → s ∈ l ↔ s ∈ m)
+    → sortedByDisplacement l ≡ sortedByDisplacement m
+unfolding sortedByDisplacement
+by-displacement-unique {l} {m} c d same =
+    ap (map ofDisplacement)
+    (ascending-unique (sorted-ascending (map byDisplacement l)) (once c) (sorted-ascending (map byDisplacement m)) (once d)
+    (λ z. (over l m (λ s. same s .0), over m l (λ s. same s .1))))
+  where
+    once : {k : List Record} → Distinct k → Distinct (sorted (map byDisplacement k))
+    once d = sorted-distinct (map-distinct byDisplacement (λ x y e. ap ofDisplacement e) d)
+
+    over : {z : Row} (k n : List Record) → ((s : Record) → s ∈ k → s ∈ n) → z ∈ sorted (map byDisplacement k) → z ∈ sorted (map byDisplacement n)
+    over k n f p =
+        let (s, q, e) = map-out byDisplacement k (sorted-members (map byDisplacement k) .0 p) in
+        sorted-members (map byDisplacement n) .1 (Memᴰ·cast e (map-in byDisplacement (f s q)))
 
 -- each element of a list stands in the relation to all that follow it
 pub data Pairwise {A : Type 0} (R : A → A → Type 0) : List A → Type 0 where
@@ -115,6 +178,12 @@ ascending-ordered (rows.more {x} {l} h a) (lists.more new d) u =
     before y m =
         let o = leRow-says x y (h y m) in
         record { first = o .first; then = λ e. lower y m (sym e) (o .second (sym e)) (ltZ (x .second) (y .second)) (lt? (x .second) (y .second)) }
+
+-- sorting by first repeats no record
+pub by-first-distinct : {l : List Record} → Distinct l → Distinct (sortedByFirst l)
+unfolding sortedByFirst
+by-first-distinct d =
+    map-distinct ofFirst (λ x y e. ap byFirst e) (sorted-distinct (map-distinct byFirst (λ x y e. ap ofFirst e) d))
 
 -- records sorted by first are in order, where none stands twice and no two begin alike
 pub by-first-ordered : {l : List Record} → Distinct l → ((r s : Record) → r ∈ l → s ∈ l → Aligned r s → r ≡ s) → Ordered (sortedByFirst l)

@@ -1,12 +1,12 @@
--- The states between two turns of the loops: of the one that merges n rows by displacement of t into rows by first, and of the one that writes
--- n rows by first of t as records. Both write to the front of a list that was `old`.
+-- The states between two turns of the loops: of those that merge n rows by displacement of t, into rows by first or where they stand, and of the
+-- one that writes n rows by first of t as records. They write to the front of a list that was `old`.
 use mathlib.Core.Path.{_≡_, refl, sym, ap, _∙_}
 use mathlib.Core.Bool.{true, false}
 use mathlib.Core.List.{List, [], _∷_, _++_, map, map-append, append-assoc, List·Memᴰ·head, Memᴰ·append-right}
 use mathlib.Core.Logic.{_⊎_, inl, inr}
 use Prim.Native.Nat.{ℕ, _+_, _-_, _*_, _^_, _≤_, _<_}
 use native.Mathlib.Omega.{arith}
-use lib.ListN.{length, take, drop, length-append, length-map}
+use lib.ListN.{length, take, drop, length-append, length-map, take-append-drop}
 use lib.IntN.{ℤ, pos}
 use lib.Signed.{_<ℤ_}
 use Rattle.integers.specs.Integers.{maxZ}
@@ -16,12 +16,13 @@ use Rattle.lists.specs.Lists.{_∈_}
 use Rattle.lists.proofs.Membership.{map-in}
 use Rattle.sorting.specs.declared.Row.{Row}
 use Rattle.sorting.specs.Rows.{rowAt, rowsOf, rowsFrom, numbersOf}
-use Rattle.sorting.proofs.Tables.{rowsOf-length, rowsOf-add, rowAt-drop, rowsFrom-more, rowsFrom-none, rowsFrom-start, front-length, front-more}
+use Rattle.sorting.proofs.Tables.{rowsOf-length, rowsOf-add, numbersOf-rowsOf, rowAt-drop, rowsFrom-more, rowsFrom-none, rowsFrom-start, front-length, front-behind, front-more}
 use Rattle.model.specs.Bitmapping.{Record}
 use Rattle.model.specs.Runs.{touch, hull}
 use Rattle.model.specs.Calls as calls
 use Rattle.model.proofs.Records.{hull-left}
-use Rattle.normalisation.specs.Merging.{byDisplacement, ofDisplacement, byFirst, ofFirst, asListed, recordsOf, Small, AllSmall, mergeInto, merged}
+use Rattle.normalisation.specs.Merging.{byDisplacement, ofDisplacement, ofFirst, asListed, recordsOf, Small, AllSmall, mergeInto, merged, Apart}
+use Rattle.normalisation.proofs.Sorted.{rows-back}
 
 -- ---- merging
 
@@ -34,6 +35,11 @@ hull-small {r} {s} p q =
     go : (maxZ (r .last) (s .last) ≡ r .last) ⊎ (maxZ (r .last) (s .last) ≡ s .last) → maxZ (r .last) (s .last) <ℤ pos (2 ^ 62)
     go (inl e) = rw e (p .high)
     go (inr e) = rw e (q .high)
+
+-- the first i + 1 rows are the first i and row i
+rowsOf-next : (t : List ℤ) (i : ℕ) → rowsOf t (i + 1) ≡ rowsOf t i ++ (rowAt t i ∷ [])
+unfolding rowsOf
+rowsOf-next t i = rowsOf-add t i 1 ∙ rw (rowAt-drop t i) refl
 
 -- the n rows are those before row i, row i, and those behind it
 rowsOf-split : (t : List ℤ) (n i : ℕ) → i < n → rowsOf t n ≡ rowsOf t i ++ (rowAt t i ∷ rowsFrom t (i + 1) n)
@@ -73,19 +79,20 @@ module _ (t : List ℤ) (n : ℕ) where
   unfolding mergeInto
   left-last current i h = rw (rowsFrom-none t i n h) refl
 
-module _ (t : List ℤ) (n : ℕ) (old : List ℤ) where
+-- f says as which rows the records are written
+module _ (f : Record → Row) (t : List ℤ) (n : ℕ) (old : List ℤ) where
   -- i rows are read and k records written; the current record is what the rest is merged into
   pub record Pass (out : List ℤ) (current : Row) (i k : ℕ) : Type 0 where
     pub read : i ≤ n
     pub fewer : k < i
     pub written : List Record
     pub size : length written ≡ k
-    pub front : out ≡ numbersOf (map byFirst written) ++ drop (3 * k) old
+    pub front : out ≡ numbersOf (map f written) ++ drop (3 * k) old
     pub rest : merged (recordsOf t n) ≡ written ++ left t n (ofDisplacement current) i
     pub small : Small (ofDisplacement current)
 
   -- no row gives no record
-  pub pass-none : n ≡ 0 → (0 ≡ length (merged (recordsOf t n))) × (old ≡ numbersOf (map byFirst (merged (recordsOf t n))) ++ old)
+  pub pass-none : n ≡ 0 → (0 ≡ length (merged (recordsOf t n))) × (old ≡ numbersOf (map f (merged (recordsOf t n))) ++ old)
   unfolding rowsOf numbersOf merged
   pass-none e = rw e (refl, refl)
 
@@ -103,25 +110,25 @@ module _ (t : List ℤ) (n : ℕ) (old : List ℤ) where
         small = row-small t n 0 h all;
       }
 
-module _ {t : List ℤ} {n : ℕ} {old out : List ℤ} {current : Row} {i k : ℕ} (m : Pass t n old out current i k) where
+module _ {f : Record → Row} {t : List ℤ} {n : ℕ} {old out : List ℤ} {current : Row} {i k : ℕ} (m : Pass f t n old out current i k) where
   -- how many rows the written records are
-  written-rows : length (map byFirst (m .written)) ≡ k
-  written-rows = length-map (m .written) byFirst ∙ m .size
+  written-rows : length (map f (m .written)) ≡ k
+  written-rows = length-map (m .written) f ∙ m .size
 
   -- the list keeps its length
   pub pass-length : 3 * n ≤ length old → length out ≡ length old
-  pass-length h = ap length (m .front) ∙ front-length (map byFirst (m .written)) old k written-rows (omega (arith, m .read, m .fewer))
+  pass-length h = ap length (m .front) ∙ front-length (map f (m .written)) old k written-rows (omega (arith, m .read, m .fewer))
 
   -- the current record is written
-  pass-stored : stored out k (byFirst (ofDisplacement current))
-      ≡ numbersOf (map byFirst (m .written ++ (ofDisplacement current ∷ []))) ++ drop (3 * (k + 1)) old
+  pass-stored : stored out k (f (ofDisplacement current))
+      ≡ numbersOf (map f (m .written ++ (ofDisplacement current ∷ []))) ++ drop (3 * (k + 1)) old
   pass-stored =
-      rw (m .front, map-append byFirst (m .written) (ofDisplacement current ∷ []))
-      (front-more (map byFirst (m .written)) old k (byFirst (ofDisplacement current)) written-rows)
+      rw (m .front, map-append f (m .written) (ofDisplacement current ∷ []))
+      (front-more (map f (m .written)) old k (f (ofDisplacement current)) written-rows)
 
   -- the next record touches the current one and is joined with it
   pub pass-joined : i < n → AllSmall (recordsOf t n) → touch (ofDisplacement current) (ofDisplacement (rowAt t i)) ≡ true
-      → Pass t n old out (byDisplacement (hull (ofDisplacement current) (ofDisplacement (rowAt t i)))) (i + 1) k
+      → Pass f t n old out (byDisplacement (hull (ofDisplacement current) (ofDisplacement (rowAt t i)))) (i + 1) k
   pass-joined h all e =
       record {
         read = omega arith;
@@ -135,7 +142,7 @@ module _ {t : List ℤ} {n : ℕ} {old out : List ℤ} {current : Row} {i k : �
 
   -- the next record does not touch the current one, which is written
   pub pass-apart : i < n → AllSmall (recordsOf t n) → touch (ofDisplacement current) (ofDisplacement (rowAt t i)) ≡ false
-      → Pass t n old (stored out k (byFirst (ofDisplacement current))) (rowAt t i) (i + 1) (k + 1)
+      → Pass f t n old (stored out k (f (ofDisplacement current))) (rowAt t i) (i + 1) (k + 1)
   pass-apart h all e =
       record {
         read = omega arith;
@@ -158,8 +165,50 @@ module _ {t : List ℤ} {n : ℕ} {old out : List ℤ} {current : Row} {i k : �
   pass-count h = rw (pass-all h) (sym (length-append (m .written) (ofDisplacement current ∷ []) ∙ omega (arith, m .size)))
 
   -- and once it is written, all are
-  pub pass-end : n ≤ i → stored out k (byFirst (ofDisplacement current)) ≡ numbersOf (map byFirst (merged (recordsOf t n))) ++ drop (3 * (k + 1)) old
+  pub pass-end : n ≤ i → stored out k (f (ofDisplacement current)) ≡ numbersOf (map f (merged (recordsOf t n))) ++ drop (3 * (k + 1)) old
   pass-end h = rw (pass-all h) pass-stored
+
+  -- the next row is as it was
+  pub pass-next : rowAt out i ≡ rowAt old i
+  pass-next =
+      sym (rowAt-drop out i)
+      ∙ ap (λ (l : List ℤ). rowAt l 0) (ap (drop (3 * i)) (m .front) ∙ front-behind (map f (m .written)) old k i written-rows (omega (arith, m .fewer)))
+      ∙ rowAt-drop old i
+
+-- ---- rows that do not touch the next
+
+-- no row stands in front of the first
+pub apart-start : (t : List ℤ) (n : ℕ) → 0 < n → Apart t n 0
+unfolding rowsOf merged
+apart-start t n h = record { inside = h; rest = rw (← rowsFrom-start t n, rowsFrom-more t 0 n h) refl }
+
+module _ {t : List ℤ} {n k : ℕ} (a : Apart t n k) where
+  -- one row more does not touch the next
+  pub apart-more : k + 1 < n → touch (ofDisplacement (rowAt t k)) (ofDisplacement (rowAt t (k + 1))) ≡ false → Apart t n (k + 1)
+  apart-more h e =
+      let last = ofDisplacement (rowAt t k) in
+      let rest = left t n (ofDisplacement (rowAt t (k + 1))) (k + 1 + 1) in
+      let more : recordsOf t (k + 1) ≡ recordsOf t k ++ (last ∷ []) =
+      ap (map ofDisplacement) (rowsOf-next t k) ∙ map-append ofDisplacement (rowsOf t k) (rowAt t k ∷ []) in
+      record {
+        inside = h;
+        rest =
+            a .rest ∙ ap (λ (l : List Record). recordsOf t k ++ l) (left-apart t n last (k + 1) h e) ∙ sym (append-assoc (recordsOf t k) (last ∷ []) rest)
+            ∙ ap (λ (l : List Record). l ++ rest) (sym more);
+      }
+
+  -- the rows in front of row k are written where they stand
+  pub apart-pass : 3 * n ≤ length t → AllSmall (recordsOf t n) → Pass byDisplacement t n t t (rowAt t k) (k + 1) k
+  apart-pass fits all =
+      record {
+        read = omega (arith, a .inside);
+        fewer = omega arith;
+        written = recordsOf t k;
+        size = length-map (rowsOf t k) ofDisplacement ∙ rowsOf-length t k;
+        front = sym (rw (rows-back (rowsOf t k), numbersOf-rowsOf t k (omega (arith, a .inside))) (take-append-drop (3 * k) t));
+        rest = a .rest;
+        small = row-small t n k (a .inside) all;
+      }
 
 -- ---- writing
 
@@ -189,13 +238,11 @@ module _ {t : List ℤ} {n : ℕ} {old out : List ℤ} {i : ℕ} (m : Listed t n
 
   -- one row more
   pub listed-more : i < n → Listed t n old (stored out i (listedRow (rowAt t i))) (i + 1)
-  unfolding rowsOf
   listed-more h =
-      let more : rowsOf t (i + 1) ≡ rowsOf t i ++ (rowAt t i ∷ []) = rowsOf-add t i 1 ∙ rw (rowAt-drop t i) refl in
       record {
         read = omega arith;
         front =
-            rw (m .front, more, map-append listedRow (rowsOf t i) (rowAt t i ∷ []))
+            rw (m .front, rowsOf-next t i, map-append listedRow (rowsOf t i) (rowAt t i ∷ []))
             (front-more (map listedRow (rowsOf t i)) old i (listedRow (rowAt t i)) listed-rows);
       }
 

@@ -1,12 +1,13 @@
 -- Normalisation in n log n: the records sorted by displacement, merged in one pass, and sorted by first. Assumes nothing.
+use mathlib.Core.Path.{_≡_}
 use mathlib.Core.Bool.{cond}
-use mathlib.Core.List.{List, [], _∷_, map}
-use Prim.Native.Nat.{ℕ, _^_}
+use mathlib.Core.List.{List, [], _∷_, _++_, map}
+use Prim.Native.Nat.{ℕ, _+_, _<_, _^_}
 use lib.IntN.{ℤ, pos}
 use lib.Signed.{_≤ℤ_, _<ℤ_}
 use Rattle.lists.specs.Lists.{_∈_}
 use Rattle.sorting.specs.declared.Row.{Row}
-use Rattle.sorting.specs.Rows.{rowsOf, sorted}
+use Rattle.sorting.specs.Rows.{rowAt, rowsOf, rowsFrom, sorted}
 use Rattle.model.specs.Bitmapping.{Record}
 use Rattle.model.specs.Runs.{touch, hull}
 
@@ -59,6 +60,11 @@ mergeInto current (s ∷ t) =
 unfoldable pub merged : List Record → List Record
 merged [] = []
 merged (s ∷ t) = mergeInto s t
+
+-- of n rows by displacement of t none in front of row k touches the next: merging leaves them as they are, and goes on with row k
+pub record Apart (t : List ℤ) (n k : ℕ) : Type 0 where
+  pub inside : k < n
+  pub rest : merged (recordsOf t n) ≡ recordsOf t k ++ mergeInto (ofDisplacement (rowAt t k)) (map ofDisplacement (rowsFrom t (k + 1) n))
 
 -- ---- normalisation
 

@@ -1,7 +1,8 @@
-// Normalisation in n log n: records are sorted by displacement, those that touch are merged in one pass, and the rest is sorted by first.
+// Normalisation in n log n: records are sorted by displacement, those that touch are merged in one pass, and the rest is sorted by first,
+// or left in the order by displacement.
 ghost use mathlib.Core.Path.{_≡_};
 ghost use mathlib.Core.List.{_++_, map};
-ghost use Prim.Native.Nat.{_+_, _*_, _≤_, _^_};
+ghost use Prim.Native.Nat.{_+_, _*_, _≤_, _<_, _^_};
 ghost use lib.IntN.{pos, _+ℤ_};
 ghost use lib.Signed.{leZ, _<ℤ_};
 ghost use lib.ListN.{length, take, drop};
@@ -10,7 +11,7 @@ ghost use Rattle.sorting.specs.Rows.{rowsOf};
 ghost use Rattle.sorting.specs.Rows as rows;
 ghost use Rattle.model.specs.Runs.{touch, hull, normal};
 ghost use Rattle.model.specs.Calls.{numbersOf};
-ghost use Rattle.normalisation.specs.Merging.{byDisplacement, ofDisplacement, byFirst, ofFirst, asListed, recordsOf, Small, AllSmall, merged};
+ghost use Rattle.normalisation.specs.Merging.{byDisplacement, ofDisplacement, byFirst, ofFirst, asListed, recordsOf, Small, AllSmall, merged, sortedByDisplacement, Apart};
 use sorting::Row;
 
 // The lower of two.
@@ -135,4 +136,64 @@ pub fn normalise(work: &mut [i64], n: usize, spare: &mut [i64]) -> usize
     sorting::sort_rows(spare, k, work);
     write_records(spare, k, work);
     k
+}
+
+// How many of the n records, rows by displacement, stand in front of the first that touches the next, in one pass: n - 1 where none does.
+fn rows_apart(t: &[i64], n: usize) -> usize
+    requires { ⌜ (0 < n) × (3 * n ≤ length (now t)) × AllSmall (recordsOf (now t) n) ⌝ }
+    ensures { λ k. ⌜ Apart (now (t .entry)) n k ⌝ }
+{
+    let mut current = sorting::row_at(t, 0);
+    let mut i: usize = 0;
+    while i + 1 < n {
+        let next = sorting::row_at(t, i + 1);
+        if touches(current, next) {
+            return i;
+        }
+        current = next;
+        i += 1;
+    }
+    i
+}
+
+// Merges n records, rows by displacement, where they stand: from row `from` on each is joined with those that follow it while they touch. Returns how
+// many rows they are then, the first of t.
+fn join_touching(t: &mut [i64], n: usize, from: usize) -> usize
+    requires { ⌜ (3 * n ≤ length (now t)) × Apart (now t) n from × AllSmall (recordsOf (now t) n) ⌝ }
+    ensures { λ r. ⌜ r ≡ length (merged (recordsOf (now (t .entry)) n)) ⌝ }
+    ensures { λ r. ⌜ now (t .exit) ≡ rows.numbersOf (map byDisplacement (merged (recordsOf (now (t .entry)) n))) ++ drop (3 * r) (now (t .entry)) ⌝ }
+{
+    let mut current = sorting::row_at(t, from);
+    let mut i = from + 1;
+    let mut done = from;
+    while i < n {
+        let next = sorting::row_at(t, i);
+        i += 1;
+        if touches(current, next) {
+            current = hull_of(current, next);
+        } else {
+            sorting::put_row(t, done, current);
+            done += 1;
+            current = next;
+        }
+    }
+    sorting::put_row(t, done, current);
+    done + 1
+}
+
+// Normalises n records, rows by displacement in the front of work, in n log n steps, in one pass for the order and one for the joining where they are in
+// order: the rows of their list, sorted by displacement, stand there afterwards. Returns how many they are. What else stands in work behind them and in
+// spare afterwards is space that was worked in.
+pub fn merge_rows(work: &mut [i64], n: usize, spare: &mut [i64]) -> usize
+    requires { ⌜ (3 * n ≤ length (now work)) × (3 * n ≤ length (now spare)) × AllSmall (recordsOf (now work) n) ⌝ }
+    ensures { λ r. ⌜ r ≡ length (normal (recordsOf (now (work .entry)) n)) ⌝ }
+    ensures { λ r. ⌜ recordsOf (now (work .exit)) r ≡ sortedByDisplacement (normal (recordsOf (now (work .entry)) n)) ⌝ }
+    ensures { λ _. ⌜ (length (now (work .exit)) ≡ length (now (work .entry))) × (length (now (spare .exit)) ≡ length (now (spare .entry))) ⌝ }
+{
+    if n == 0 {
+        return 0;
+    }
+    sorting::sort_rows(work, n, spare);
+    let from = rows_apart(work, n);
+    join_touching(work, n, from)
 }

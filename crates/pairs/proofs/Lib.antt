@@ -2,5 +2,6 @@ pub mod Rows
 pub mod Inputs
 pub mod Lists
 pub mod Entering
-pub mod Sweeps
+pub mod Asking
+pub mod Behind
 pub mod Pairs

@@ -1,5 +1,4 @@
-// One pair of a comparison: both graphs are swept for the leaves of its leaf row, the two lists are made along the links and from the kept list of a
-// shared node, and they are judged.
+// One pair of a comparison: the lists of its leaf row are asked of two graphs that are swept from its roots, and are judged.
 ghost use mathlib.Core.Path.{_≡_};
 ghost use mathlib.Core.Bool.{_||_};
 ghost use Prim.Native.Nat.{_+_, _*_, _/_, _≤_, _<_};
@@ -7,35 +6,30 @@ ghost use lib.IntN.{pos};
 ghost use lib.Signed.{_≤ℤ_};
 ghost use lib.ListN.{length};
 ghost use Rattle.model.specs.Limits.{rootStride, maxPairs};
-ghost use Rattle.model.specs.Graph.{graphOf};
-ghost use Rattle.model.specs.Runs.{listOf};
-ghost use Rattle.reach.specs.Counting.{countsOver};
-ghost use Rattle.reach.specs.Links.{Linked};
-ghost use Rattle.windows.specs.Tables.{windowsOver};
+ghost use Rattle.model.specs.Verdicts.{verdict, lowest};
+ghost use Rattle.model.specs.Answers.{verdictNumber};
 ghost use Rattle.pairing.specs.Pairs.{pairAt, tablesOf};
-ghost use Rattle.normalisation.specs.Records.{recordsOf};
-ghost use Rattle.verdicts.specs.Records.{SmallList};
-ghost use Rattle.pairs.specs.Inputs.{findingAt, Sweepable, ListReady, LeafReady};
+ghost use Rattle.pairs.specs.Inputs.{PairReady};
 ghost use Rattle.pairs.specs.Entering.{EntersNodes, isEntered};
-ghost use Rattle.pairs.specs.Found.{Listed, IsFound, IsFinding};
+ghost use Rattle.pairs.specs.Found.{PairFound, RowsBehind, OfRows, Sortable, FrontKept};
+use arrivals::list_at;
+use arrivals::used_row;
+use judging::lowest_of_rows;
+use judging::verdict_of_rows;
 use model::EDGE_WIDTH;
 use model::PAIR_WIDTH;
 use model::ROOT_STRIDE;
 use model::Verdict;
-use reach::link_edges;
-use sharing::Shared;
-use sharing::list_shared;
 use tables::edge_to;
-use verdicts::lowest_of;
-use verdicts::verdict_of;
-use windows::sweep_back;
 
-// What is found of a pair: its verdict, the lengths of its lists, and the lowest bit address at which they differ, -1 where they do not.
+// Numbers of a row.
+const ROW_WIDTH: usize = 3;
+
+// What is found of a pair: its verdict, and the lengths of its lists.
 pub struct Found {
     pub verdict: Verdict,
     pub spec: usize,
     pub implementation: usize,
-    pub address: i64,
 }
 
 // The specification node of a pair row, as an index.
@@ -94,97 +88,30 @@ pub fn either_entered(
     entered(impl_edges, impl_leaf)
 }
 
-// Sweeps a graph for a leaf: counts the paths to it from each node, finds the windows of the nodes, and links the edges that can still reach it.
-pub fn sweep(
-    nodes: &[i64],
-    edges: &[i64],
-    order: &[usize],
-    leaf: usize,
-    extents: &[i64],
-    offsets: &[i64],
-    counts: &mut [usize],
-    head: &mut [usize],
-    next: &mut [usize],
-    windows: &mut [i64],
-)
-    requires { ⌜
-        Sweepable (now nodes) (now edges) (now order) (pos leaf) (now extents) (now offsets) (now counts) (now head) (now next) (now windows) ⌝ }
-    ensures { λ _. ⌜ now (counts .exit) ≡ countsOver (graphOf (now (nodes .entry)) (now (edges .entry))) (pos leaf) (now (counts .entry)) ⌝ }
-    ensures { λ _. ⌜
-        Linked (now (counts .exit)) (graphOf (now (nodes .entry)) (now (edges .entry)))
-        (now (head .entry)) (now (next .entry)) (now (head .exit)) (now (next .exit)) ⌝ }
-    ensures { λ _. ⌜ now (windows .exit) ≡ windowsOver (graphOf (now (nodes .entry)) (now (edges .entry))) (pos leaf) (now (windows .entry)) ⌝ }
+// The verdict on the rows that stand behind the used parts of two arenas.
+fn verdict_behind(
+    spec_state: &[i64],
+    spec: usize,
+    impl_state: &[i64],
+    implementation: usize,
+) -> Verdict
+    requires { ⌜ RowsBehind (now «spec_state») spec × RowsBehind (now «impl_state») implementation ⌝ }
+    ensures { λ v. ⌜
+        OfRows (now («spec_state» .entry)) spec (now («impl_state» .entry)) implementation (λ l m. verdictNumber v ≡ verdict l m) ⌝ }
 {
-    sweep_back(nodes, edges, order, leaf, extents, offsets, counts, windows);
-    link_edges(nodes, edges, counts, head, next);
-}
-
-// Lists the bitmapping list of a root and the leaf that the graph is swept for, in front of `work`. Returns how many records it has. Where no
-// path leads to the leaf there is none.
-fn list_swept(
-    nodes: &[i64],
-    edges: &[i64],
-    root: usize,
-    leaf: usize,
-    counts: &[usize],
-    head: &[usize],
-    next: &[usize],
-    offsets: &[i64],
-    windows: &[i64],
-    shared: Shared,
-    kept: &[i64],
-    work: &mut [i64],
-    spare: &mut [i64],
-) -> usize
-    requires { ⌜
-        ListReady (now nodes) (now edges) (pos root) (pos leaf) (now counts) (now head) (now next) (now offsets) (now windows)
-        shared (now kept) (now work) (now spare) ⌝ }
-    ensures { λ r. ⌜ Listed (listOf (graphOf (now (nodes .entry)) (now (edges .entry))) (pos root) (pos leaf)) (now (work .exit)) r ⌝ }
-{
-    if counts[root] == 0 {
-        return 0;
-    }
-    list_shared(
-        nodes,
-        edges,
-        root,
-        leaf,
-        head,
-        next,
-        offsets,
-        windows,
-        shared,
-        kept,
-        work,
-        spare,
+    let spec_at = ROW_WIDTH * used_row(spec_state);
+    let impl_at = ROW_WIDTH * used_row(impl_state);
+    verdict_of_rows(
+        &spec_state[spec_at..],
+        spec,
+        &impl_state[impl_at..],
+        implementation,
     )
 }
 
-// What is found of the list of the specification and that of the implementation. The address is found first: the verdict takes the lists in another
-// order, and what stands in the three slices afterwards is space that was worked in.
-fn judge(
-    spec: &mut [i64],
-    spec_count: usize,
-    imp: &mut [i64],
-    impl_count: usize,
-    spare: &mut [i64],
-) -> Found
-    requires { ⌜
-        SmallList (now spec) «spec_count» × SmallList (now imp) «impl_count»
-        × (3 * «spec_count» ≤ length (now spare)) × (3 * «impl_count» ≤ length (now spare)) ⌝ }
-    ensures { λ r. ⌜ IsFound (recordsOf (now (spec .entry)) «spec_count») (recordsOf (now (imp .entry)) «impl_count») r ⌝ }
-{
-    let address = lowest_of(spec, spec_count, imp, impl_count);
-    let verdict = verdict_of(spec, spec_count, imp, impl_count, spare);
-    Found {
-        verdict: verdict,
-        spec: spec_count,
-        implementation: impl_count,
-        address: address,
-    }
-}
-
-// What is found of one pair, once both graphs are swept for its leaf row. What stands in the work areas is space that was worked in.
+// What is found of one pair, once both graphs are swept from its roots: the list of each leaf is asked, and the two are judged. The lists stand behind the
+// used parts of the arenas afterwards; what stands in `spare` is space that was worked in. The states have their roots: `root_pairs` and `root_row` only
+// say which they are.
 pub fn pair_found(
     spec_nodes: &[i64],
     spec_edges: &[i64],
@@ -192,72 +119,71 @@ pub fn pair_found(
     impl_edges: &[i64],
     root_pairs: &[i64],
     leaf_pairs: &[i64],
+    spec_plan: &[usize],
+    impl_plan: &[usize],
+    spec_state: &mut [i64],
+    impl_state: &mut [i64],
+    spare: &mut [i64],
     root_row: usize,
     leaf_row: usize,
-    spec_counts: &[usize],
-    spec_head: &[usize],
-    spec_next: &[usize],
-    spec_offsets: &[i64],
-    spec_windows: &[i64],
-    spec_shared: Shared,
-    spec_kept: &[i64],
-    impl_counts: &[usize],
-    impl_head: &[usize],
-    impl_next: &[usize],
-    impl_offsets: &[i64],
-    impl_windows: &[i64],
-    impl_shared: Shared,
-    impl_kept: &[i64],
-    spec_work: &mut [i64],
-    impl_work: &mut [i64],
-    spare: &mut [i64],
 ) -> Found
     requires { ⌜
-        LeafReady (tablesOf (now «spec_nodes») (now «spec_edges») (now «impl_nodes») (now «impl_edges») (now «root_pairs») (now «leaf_pairs»)) «leaf_row»
-        (now «spec_counts») (now «spec_head») (now «spec_next») (now «spec_offsets») (now «spec_windows») «spec_shared» (now «spec_kept»)
-        (now «impl_counts») (now «impl_head») (now «impl_next») (now «impl_offsets») (now «impl_windows») «impl_shared» (now «impl_kept»)
-        (now «spec_work») (now «impl_work») (now spare)
-        × («root_row» < length (now «root_pairs») / 2) ⌝ }
+        PairReady (tablesOf (now «spec_nodes») (now «spec_edges») (now «impl_nodes») (now «impl_edges») (now «root_pairs») (now «leaf_pairs»)) «root_row»
+        (now «spec_plan») (now «spec_state») (now «impl_plan») (now «impl_state») (now spare)
+        × («leaf_row» < length (now «leaf_pairs») / 2) ⌝ }
     ensures { λ r. ⌜
-        IsFinding
-        (findingAt
+        PairFound
         (tablesOf (now («spec_nodes» .entry)) (now («spec_edges» .entry)) (now («impl_nodes» .entry)) (now («impl_edges» .entry))
-        (now («root_pairs» .entry)) (now («leaf_pairs» .entry))) «root_row» «leaf_row»)
-        r ⌝ }
+        (now («root_pairs» .entry)) (now («leaf_pairs» .entry))) «root_row» «leaf_row»
+        (now («spec_plan» .entry)) (now («spec_state» .exit)) (now («impl_plan» .entry)) (now («impl_state» .exit)) (now (spare .exit)) r ⌝ }
 {
-    let spec_root = spec_node(root_pairs, root_row);
     let spec_leaf = spec_node(leaf_pairs, leaf_row);
-    let spec_count = list_swept(
+    let spec = list_at(
         spec_nodes,
         spec_edges,
-        spec_root,
+        spec_plan,
         spec_leaf,
-        spec_counts,
-        spec_head,
-        spec_next,
-        spec_offsets,
-        spec_windows,
-        spec_shared,
-        spec_kept,
-        spec_work,
+        spec_state,
         spare,
     );
-    let impl_root = impl_node(root_pairs, root_row);
     let impl_leaf = impl_node(leaf_pairs, leaf_row);
-    let impl_count = list_swept(
+    let implementation = list_at(
         impl_nodes,
         impl_edges,
-        impl_root,
+        impl_plan,
         impl_leaf,
-        impl_counts,
-        impl_head,
-        impl_next,
-        impl_offsets,
-        impl_windows,
-        impl_shared,
-        impl_kept,
-        impl_work,
+        impl_state,
         spare,
     );
-    judge(spec_work, spec_count, impl_work, impl_count, spare)
+    Found {
+        verdict: verdict_behind(spec_state, spec, impl_state, implementation),
+        spec: spec,
+        implementation: implementation,
+    }
+}
+
+// The lowest bit address at which the lists that were found differ, -1 where they do not. The rows behind the used parts of the arenas are space that was
+// worked in afterwards, as `spare` is; what stands before them is kept.
+pub fn lowest_found(
+    spec_state: &mut [i64],
+    impl_state: &mut [i64],
+    spare: &mut [i64],
+    found: Found,
+) -> i64
+    requires { ⌜ Sortable (now «spec_state») (now «impl_state») (now spare) found ⌝ }
+    ensures { λ b. ⌜
+        OfRows (now («spec_state» .entry)) (found .spec) (now («impl_state» .entry)) (found .implementation) (λ l m. b ≡ lowest l m) ⌝ }
+    ensures { λ _. ⌜
+        FrontKept (now («spec_state» .entry)) (now («spec_state» .exit)) × FrontKept (now («impl_state» .entry)) (now («impl_state» .exit))
+        × (length (now (spare .exit)) ≡ length (now (spare .entry))) ⌝ }
+{
+    let spec_at = ROW_WIDTH * used_row(spec_state);
+    let impl_at = ROW_WIDTH * used_row(impl_state);
+    lowest_of_rows(
+        &mut spec_state[spec_at..],
+        found.spec,
+        &mut impl_state[impl_at..],
+        found.implementation,
+        spare,
+    )
 }

@@ -1,16 +1,14 @@
--- Root rows from one row up to another: the first of them and those behind it, all of them, and that they ascend.
+-- Root rows from one row up to another: the first of them and those behind it, and all of them.
 use mathlib.Core.Path.{_≡_, refl, sym, ap, _∙_}
-use mathlib.Core.List.{List, [], _∷_, List·Memᴰ·head, List·Memᴰ·tail, List·Memᴰ·not-nil}
+use mathlib.Core.List.{List, [], _∷_}
 use Prim.Native.Nat.{ℕ, zero, suc, _+_, _-_, _/_, _≤_, _<_}
 use native.Mathlib.Numerals.{add-one}
 use native.Mathlib.Omega.{arith}
 use lib.IntN.{ℤ}
-use lib.ListN.{length, take, drop, length-drop}
-use lib.Seq.{take-all, drop-drop, length-take-le}
-use Rattle.lists.specs.Lists.{_∈_}
+use lib.ListN.{length, take, drop}
+use lib.Seq.{take-all, drop-drop}
 use Rattle.model.specs.Limits.{pairWidth}
 use Rattle.model.specs.Rows.{pairsFrom, pairRows}
-use Rattle.model.proofs.Visits.{Ascends, none, more}
 use Rattle.pairing.specs.Pairs.{pairAt}
 use Rattle.pairs.proofs.Rows.{rowsLeft, rows-next}
 
@@ -43,46 +41,9 @@ rows-from-count i [] = refl
 rows-from-count i (s ∷ []) = refl
 rows-from-count i (s ∷ m ∷ ps) = omega (arith, rows-from-count (suc i) ps)
 
+pub rows-count : (ps : List ℤ) → length (pairRows ps) ≡ length ps / pairWidth
+rows-count ps = rows-from-count 0 ps
+
 -- from the first row up to the last they are all there
 pub between-all : (ps : List ℤ) → take (length ps / pairWidth - 0) (drop 0 (pairRows ps)) ≡ pairRows ps
 between-all ps = take-all (length ps / pairWidth - 0) (pairRows ps) (omega (arith, rows-from-count 0 ps))
-
--- how many there are
-pub between-length : (ps : List ℤ) (from to : ℕ) → to ≤ length ps / pairWidth → length (take (to - from) (drop from (pairRows ps))) ≡ to - from
-between-length ps from to h =
-    length-take-le (to - from) (drop from (pairRows ps)) (omega (arith, length-drop from (pairRows ps), rows-from-count 0 ps))
-
--- ---- parts of lists
-
-module _ {A : Type 0} where
-  -- what is in the front of a list is in the list
-  take-out : {x : A} (n : ℕ) (l : List A) → x ∈ take n l → x ∈ l
-  take-out zero l m = absurd (List·Memᴰ·not-nil m)
-  take-out (suc n) [] m = m
-  take-out (suc n) (y ∷ l) (List·Memᴰ·head e) = List·Memᴰ·head e
-  take-out (suc n) (y ∷ l) (List·Memᴰ·tail m) = List·Memᴰ·tail (take-out n l m)
-
-  -- and so is what is behind its front
-  drop-out : {x : A} (n : ℕ) (l : List A) → x ∈ drop n l → x ∈ l
-  drop-out zero l m = m
-  drop-out (suc n) [] m = m
-  drop-out (suc n) (y ∷ l) m = List·Memᴰ·tail (drop-out n l m)
-
-  -- and so is what is between
-  pub between-out : {x : A} (n m : ℕ) (l : List A) → x ∈ take n (drop m l) → x ∈ l
-  between-out n m l k = drop-out m l (take-out n (drop m l) k)
-
-  module _ {Before : A → A → Type 0} where
-    ascends-take : (n : ℕ) {l : List A} → Ascends Before l → Ascends Before (take n l)
-    ascends-take zero a = none
-    ascends-take (suc n) none = none
-    ascends-take (suc n) (more {x} {l} h a) = more (λ y m. h y (take-out n l m)) (ascends-take n a)
-
-    ascends-drop : (n : ℕ) {l : List A} → Ascends Before l → Ascends Before (drop n l)
-    ascends-drop zero a = a
-    ascends-drop (suc n) none = none
-    ascends-drop (suc n) (more h a) = ascends-drop n a
-
-    -- a part of a list in order is in order
-    pub between-ascends : (n m : ℕ) {l : List A} → Ascends Before l → Ascends Before (take n (drop m l))
-    between-ascends n m a = ascends-take n (ascends-drop m a)

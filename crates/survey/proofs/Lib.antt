@@ -1,9 +1,7 @@
 pub mod Between
-pub mod Ordering
 pub mod Lines
 pub mod Passing
-pub mod Surveys
 pub mod Stopping
-pub mod Unentered
 pub mod Sizes
 pub mod Ready
+pub mod Unplanned

@@ -1,166 +1,146 @@
--- Leaf rows one after the other: each graph can be swept for the leaf row, and then its pairs can be found. Counts, heads and nexts are sc, sh and
--- sx for the specification, mc, mh and mx for the implementation; extents, bit offsets and windows are st, sf and sv, mt, mf and mv; shared nodes and
--- their kept lists are sd and sk, md and mk; work areas are sw, mw and e.
-use mathlib.Core.Path.{_≡_, subst}
+-- Both graphs can be planned; root rows one after the other, each graph can be swept from the root of the row, and then its pairs can be found. Plans and states are sp and ss for the
+-- specification, mp and ms for the implementation; the spare area is e.
+use mathlib.Core.Path.{_≡_, sym, subst}
 use mathlib.Core.List.{List}
 use Prim.Native.Nat.{ℕ, _*_, _/_, _≤_, _<_}
 use native.Mathlib.Omega.{arith}
 use lib.IntN.{ℤ, pos, natAbs}
 use lib.ListN.{length}
+use Rattle.lists.specs.Lists.{_∈_}
+use Rattle.lists.proofs.Membership.{map-out}
 use Rattle.model.specs.Limits.{pairWidth, maxPaths}
+use Rattle.model.specs.Rows.{Edge}
 use Rattle.model.specs.Graph.{graphOf}
-use Rattle.model.specs.Compare.{Tables, specGraph, implGraph}
+use Rattle.model.specs.Paths.{Root}
+use Rattle.model.specs.Bitmapping.{Record}
+use Rattle.model.specs.Taken.{TakenTables}
+use Rattle.model.specs.Compare.{Tables, specGraph, implGraph, rootRows, leafRows}
+use Rattle.model.proofs.Visits.{visits-in}
 use Rattle.pairing.specs.Pairs.{pairAt}
-use Rattle.windows.specs.Tables.{extentsOver, offsetsOver}
-use Rattle.windows.proofs.Bits.{extents-in, offsets-in, edge-shiftable}
-use Rattle.listing.proofs.Windowed.{row-cuttable}
-use Rattle.sharing.specs.declared.Shared.{Shared}
-use Rattle.sharing.specs.Sharing.{Keeps, Keepable}
-use Rattle.pairs.specs.Entering.{EntersNodes}
-use Rattle.pairs.specs.Inputs.{Inputs, Sweepable, Swept, BothSwept, LeafReady}
-use Rattle.survey.specs.Inputs.{Measured, AllReady, Enterable}
-use Rattle.survey.proofs.Sizes.{SweepSizes, WorkSizes}
-use Rattle.pairs.proofs.Inputs.{row-leaves}
+use Rattle.reach.specs.Counting.{pathCount}
+use Rattle.entering.proofs.Counts.{count-way}
+use Rattle.forward.specs.Forward.{passedOf, planRoom, Planned, LeadingTo, nodesIn, Plannable}
+use Rattle.arrivals.specs.State.{stateRoom}
+use Rattle.arrivals.specs.Sweep.{Sweepable, Swept}
+use Rattle.pairs.specs.declared.Found.{Found}
+use Rattle.pairs.specs.Inputs.{Ordered, findingAt, FewPaths, PairReady}
+use Rattle.pairs.specs.Found.{PairFound, OfRows}
+use Rattle.pairs.proofs.Rows.{row-member}
+use Rattle.pairs.proofs.Inputs.{row-roots}
+use Rattle.pairs.proofs.Pairs.{lists-normal}
+use Rattle.survey.specs.Inputs.{RowsReady}
+use Rattle.survey.proofs.Sizes.{WorkSizes}
 
--- the edges of both graphs enter nodes
-module _ {t : Tables} (k : Inputs t) where
-  pub spec-enters : EntersNodes (t .specEdges)
-  unfolding graphOf
-  spec-enters e m = k .spec .graph .ends e m .1 .low
+-- ---- one graph
 
-  pub impl-enters : EntersNodes (t .implEdges)
-  unfolding graphOf
-  impl-enters e m = k .impl .graph .ends e m .1 .low
+-- few paths lead from a root to a node that the plan's edges enter, since no fewer lead on from it to one of the leaves
+pub plan-few : {ns es ls : List ℤ} {plan : List ℕ} {r : ℤ} → TakenTables ns es → Root (graphOf ns es) r → LeadingTo ns es ls plan
+    → ((l : ℤ) → l ∈ ls → FewPaths (graphOf ns es) r l) → (e : Edge) → e ∈ passedOf es plan → pathCount (graphOf ns es) r (e .to) ≤ maxPaths
+unfolding pathCount
+plan-few k root leads few e m =
+    let w = leads .leads e m in
+    omega (arith, count-way (k .graph .acyclic) (k .graph .short) (root .unentered) (w .2 .1), few (w .0) (w .1))
 
--- once a graph is swept, the list of a node can be kept
-pub swept-keepable : {ns es : List ℤ} {leaf : ℕ} {counts head next : List ℕ} {offsets windows kept spare : List ℤ}
-    → Swept ns es (pos leaf) counts head next offsets windows → 3 * maxPaths ≤ length kept → 3 * maxPaths ≤ length spare
-    → Keepable ns es leaf counts head next offsets windows kept spare
-swept-keepable p a b =
-    record { linked = p .linked; windowed = p .windowed; held = p .held; counted = p .counted; keptRoom = a; spareRoom = b }
-
--- and the edges of its roots can be gone over
-pub swept-enterable : {ns es : List ℤ} {leaf : ℕ} {counts head next : List ℕ} {offsets windows : List ℤ}
-    → Swept ns es (pos leaf) counts head next offsets windows → Enterable ns es offsets windows
-swept-enterable p =
-    let tables = p .linked .tables in
+-- so that it can be swept from the root, which is u as the code has it
+pub root-sweepable : {ns es ls : List ℤ} {plan : List ℕ} {r : ℤ} {u : ℕ} {s e : List ℤ} → TakenTables ns es → Planned ns es plan → LeadingTo ns es ls plan
+    → Root (graphOf ns es) r → ((l : ℤ) → l ∈ ls → FewPaths (graphOf ns es) r l) → pos u ≡ r → length s ≡ stateRoom → 3 * maxPaths ≤ length e
+    → Sweepable ns es plan u s e
+root-sweepable {ns} {es} {plan} k planned leads root few q room spareRoom =
     record {
-      tables = tables;
-      offset = λ e h. edge-shiftable tables (p .windowed .edgeBits) e h;
-      window = λ v row. row-cuttable (p .linked) (p .windowed) row;
+      tables = k;
+      planned = planned;
+      start = subst (λ (v : ℤ). Root (graphOf ns es) v) (sym q) root;
+      few = subst (λ (v : ℤ). (e : Edge) → e ∈ passedOf es plan → pathCount (graphOf ns es) v (e .to) ≤ maxPaths) (sym q) (plan-few k root leads few);
+      room = room;
+      spareRoom = spareRoom;
     }
 
--- the work areas may be those that other pairs were found in
-pub leaf-ready-on : {t : Tables} {j : ℕ} {sc sh sx mc mh mx : List ℕ} {sf sv mf mv sk mk sw mw e sw′ mw′ e′ : List ℤ} {sd md : Shared}
-    → LeafReady t j sc sh sx sf sv sd sk mc mh mx mf mv md mk sw mw e → WorkSizes sw mw e sw′ mw′ e′
-    → LeafReady t j sc sh sx sf sv sd sk mc mh mx mf mv md mk sw′ mw′ e′
-leaf-ready-on k p =
-    record {
-      inputs = k .inputs;
-      few = k .few;
-      row = k .row;
-      swept = k .swept;
-      specKeeps = k .specKeeps;
-      implKeeps = k .implKeeps;
-      specRoom = omega (arith, k .specRoom, p .spec);
-      implRoom = omega (arith, k .implRoom, p .impl);
-      spareRoom = omega (arith, k .spareRoom, p .spare);
-    }
+-- ---- both graphs
 
--- all buffers may be those that other leaf rows were worked through in
-pub all-ready-on : {t : Tables} {so mo sc sh sx mc mh mx sc′ sh′ sx′ mc′ mh′ mx′ : List ℕ} {st sf mt mf sv mv sk mk sv′ mv′ sk′ mk′ sw mw e sw′ mw′ e′ : List ℤ}
-    → AllReady t so mo st sf mt mf sc sh sx sv sk mc mh mx mv mk sw mw e → SweepSizes sc sh sx sv sk sc′ sh′ sx′ sv′ sk′
-    → SweepSizes mc mh mx mv mk mc′ mh′ mx′ mv′ mk′ → WorkSizes sw mw e sw′ mw′ e′
-    → AllReady t so mo st sf mt mf sc′ sh′ sx′ sv′ sk′ mc′ mh′ mx′ mv′ mk′ sw′ mw′ e′
-all-ready-on k p q w =
-    record {
-      ordered = k .ordered;
-      few = k .few;
-      measured = k .measured;
-      specCountRoom = omega (arith, k .specCountRoom, p .counts);
-      specHeadRoom = omega (arith, k .specHeadRoom, p .head);
-      specNextRoom = omega (arith, k .specNextRoom, p .next);
-      specWindowRoom = omega (arith, k .specWindowRoom, p .windows);
-      specKeptRoom = omega (arith, k .specKeptRoom, p .kept);
-      implCountRoom = omega (arith, k .implCountRoom, q .counts);
-      implHeadRoom = omega (arith, k .implHeadRoom, q .head);
-      implNextRoom = omega (arith, k .implNextRoom, q .next);
-      implWindowRoom = omega (arith, k .implWindowRoom, q .windows);
-      implKeptRoom = omega (arith, k .implKeptRoom, q .kept);
-      specRoom = omega (arith, k .specRoom, w .spec);
-      implRoom = omega (arith, k .implRoom, w .impl);
-      spareRoom = omega (arith, k .spareRoom, w .spare);
-    }
+module _ {t : Tables} {sp mp : List ℕ} {ss ms e : List ℤ} (k : RowsReady t sp ss mp ms e) where
+  -- the states and the spare area may be those that other root rows were worked through in
+  pub rows-ready-on : {ss′ ms′ e′ : List ℤ} → WorkSizes ss ms e ss′ ms′ e′ → RowsReady t sp ss′ mp ms′ e′
+  rows-ready-on w =
+      record {
+        inputs = k .inputs;
+        few = k .few;
+        spec = k .spec;
+        specLeads = k .specLeads;
+        impl = k .impl;
+        implLeads = k .implLeads;
+        specRoom = omega (arith, k .specRoom, w .spec);
+        implRoom = omega (arith, k .implRoom, w .impl);
+        spareRoom = omega (arith, k .spareRoom, w .spare);
+      }
 
-module _ {t : Tables} {so mo sc sh sx mc mh mx : List ℕ} {st sf mt mf sv mv sk mk sw mw e : List ℤ}
-    (k : AllReady t so mo st sf mt mf sc sh sx sv sk mc mh mx mv mk sw mw e) (j : ℕ) (h : j < length (t .leafPairs) / pairWidth)
-  where
-    -- the specification can be swept for the leaf row
-    pub spec-sweepable : {leaf : ℕ} → pos leaf ≡ pairAt (t .leafPairs) j .spec
-        → Sweepable (t .specNodes) (t .specEdges) so (pos leaf) st sf sc sh sx sv
+  module _ {i : ℕ} (h : i < length (t .rootPairs) / pairWidth) where
+    -- few paths lead from the roots of a row to each paired leaf
+    spec-few : (l : ℤ) → l ∈ nodesIn 0 (t .leafPairs) → FewPaths (specGraph t) (pairAt (t .rootPairs) i .spec) l
+    spec-few l m =
+        let w = map-out (λ p. p .spec) (leafRows t) m in
+        rw (w .2) (k .few (record { root = pairAt (t .rootPairs) i; leaf = w .0 }) (visits-in (rootRows t) (leafRows t) .1 (row-member (t .rootPairs) i h, w .1)) .0)
+
+    impl-few : (l : ℤ) → l ∈ nodesIn 1 (t .leafPairs) → FewPaths (implGraph t) (pairAt (t .rootPairs) i .impl) l
+    impl-few l m =
+        let w = map-out (λ p. p .impl) (leafRows t) m in
+        rw (w .2) (k .few (record { root = pairAt (t .rootPairs) i; leaf = w .0 }) (visits-in (rootRows t) (leafRows t) .1 (row-member (t .rootPairs) i h, w .1)) .1)
+
+    -- the specification can be swept from its root
+    pub spec-sweepable : {r : ℕ} → pos r ≡ pairAt (t .rootPairs) i .spec → Sweepable (t .specNodes) (t .specEdges) sp r ss e
     spec-sweepable q =
-        let inputs = k .ordered .inputs in
-        record {
-          tables = inputs .spec;
-          inOrder = k .ordered .inSpec;
-          block = rw q (row-leaves inputs j h .0);
-          countRoom = k .specCountRoom;
-          headRoom = k .specHeadRoom;
-          nextRoom = k .specNextRoom;
-          nodeBits = k .measured .specNodes;
-          edgeBits = k .measured .specEdges;
-          windowRoom = k .specWindowRoom;
-        }
+        root-sweepable (k .inputs .spec) (k .spec) (k .specLeads) (row-roots (k .inputs) i h .0) spec-few q (k .specRoom) (k .spareRoom)
 
-    -- and so can the implementation
-    pub impl-sweepable : {leaf : ℕ} → pos leaf ≡ pairAt (t .leafPairs) j .impl
-        → Sweepable (t .implNodes) (t .implEdges) mo (pos leaf) mt mf mc mh mx mv
-    impl-sweepable q =
-        let inputs = k .ordered .inputs in
-        record {
-          tables = inputs .impl;
-          inOrder = k .ordered .inImpl;
-          block = rw q (row-leaves inputs j h .1);
-          countRoom = k .implCountRoom;
-          headRoom = k .implHeadRoom;
-          nextRoom = k .implNextRoom;
-          nodeBits = k .measured .implNodes;
-          edgeBits = k .measured .implEdges;
-          windowRoom = k .implWindowRoom;
-        }
+    -- and the implementation from its own, with any spare area that has room
+    pub impl-sweepable : {r : ℕ} (after : List ℤ) → pos r ≡ pairAt (t .rootPairs) i .impl → 3 * maxPaths ≤ length after
+        → Sweepable (t .implNodes) (t .implEdges) mp r ms after
+    impl-sweepable after q room =
+        root-sweepable (k .inputs .impl) (k .impl) (k .implLeads) (row-roots (k .inputs) i h .1) impl-few q (k .implRoom) room
 
-    -- then the pairs of the leaf row can be found
-    pub leaf-ready : {sc′ sh′ sx′ mc′ mh′ mx′ : List ℕ} {sv′ mv′ sk′ mk′ sw′ mw′ e′ : List ℤ} {sd md : Shared} {s m : ℕ}
-        → pos s ≡ pairAt (t .leafPairs) j .spec → pos m ≡ pairAt (t .leafPairs) j .impl
-        → Swept (t .specNodes) (t .specEdges) (pos s) sc′ sh′ sx′ sf sv′ → Keeps (t .specNodes) (t .specEdges) s sd sk′
-        → Swept (t .implNodes) (t .implEdges) (pos m) mc′ mh′ mx′ mf mv′ → Keeps (t .implNodes) (t .implEdges) m md mk′
-        → WorkSizes sw mw e sw′ mw′ e′ → LeafReady t j sc′ sh′ sx′ sf sv′ sd sk′ mc′ mh′ mx′ mf mv′ md mk′ sw′ mw′ e′
-    leaf-ready {sc′} {sh′} {sx′} {mc′} {mh′} {mx′} {sv′} {mv′} {sk′} {mk′} {sd} {md} q f a b c d p =
-        let swept : BothSwept t j sc′ sh′ sx′ sf sv′ mc′ mh′ mx′ mf mv′ = record {
-          spec = subst (λ (l : ℤ). Swept (t .specNodes) (t .specEdges) l sc′ sh′ sx′ sf sv′) q a;
-          impl = subst (λ (l : ℤ). Swept (t .implNodes) (t .implEdges) l mc′ mh′ mx′ mf mv′) f c;
-        } in
-        leaf-ready-on (record {
-          inputs = k .ordered .inputs;
+    -- then the pairs of the row can be found
+    pub pairs-ready : {r u : ℕ} {ss′ ms′ e′ : List ℤ} → pos r ≡ pairAt (t .rootPairs) i .spec → pos u ≡ pairAt (t .rootPairs) i .impl
+        → Swept (t .specNodes) (t .specEdges) sp r ss′ → Swept (t .implNodes) (t .implEdges) mp u ms′ → 3 * maxPaths ≤ length e′ → PairReady t i sp ss′ mp ms′ e′
+    pairs-ready {ss′} {ms′} q f a b room =
+        record {
+          inputs = k .inputs;
           few = k .few;
           row = h;
-          swept = swept;
-          specKeeps = subst (λ (l : ℤ). Keeps (t .specNodes) (t .specEdges) (natAbs l) sd sk′) q b;
-          implKeeps = subst (λ (l : ℤ). Keeps (t .implNodes) (t .implEdges) (natAbs l) md mk′) f d;
-          specRoom = k .specRoom;
-          implRoom = k .implRoom;
-          spareRoom = k .spareRoom;
-        }) p
+          spec = subst (λ (v : ℤ). Swept (t .specNodes) (t .specEdges) sp (natAbs v) ss′) q a;
+          specLeads = k .specLeads;
+          impl = subst (λ (v : ℤ). Swept (t .implNodes) (t .implEdges) mp (natAbs v) ms′) f b;
+          implLeads = k .implLeads;
+          spareRoom = room;
+        }
 
--- ---- the bits of both graphs
+-- ---- the plans
 
--- once found they stand in their tables
-pub tables-measured : (t : Tables) {se so me mo : List ℤ} (e o f p : List ℤ) → se ≡ extentsOver (specGraph t) e → so ≡ offsetsOver (specGraph t) o
-    → me ≡ extentsOver (implGraph t) f → mo ≡ offsetsOver (implGraph t) p → Measured t se so me mo
-tables-measured t e o f p a b c d =
-    record {
-      specNodes = extents-in (t .specNodes) (t .specEdges) e a;
-      specEdges = offsets-in (t .specNodes) (t .specEdges) o b;
-      implNodes = extents-in (t .implNodes) (t .implEdges) f c;
-      implEdges = offsets-in (t .implNodes) (t .implEdges) p d;
-    }
+module _ {t : Tables} {so mo : List ℕ} (k : Ordered t so mo) where
+  -- both graphs can be planned for the paired leaves
+  pub spec-plannable : (plan : List ℕ) → length plan ≡ planRoom → Plannable (t .specNodes) (t .specEdges) so (t .leafPairs) 0 plan
+  spec-plannable plan room =
+      record {
+        tables = k .inputs .spec;
+        backward = k .inSpec;
+        column = omega arith;
+        rows = λ l m. let w = map-out (λ p. p .spec) (leafRows t) m in rw (w .2) (k .inputs .leaves (w .0) (w .1) .0 .row);
+        room = room;
+      }
+
+  pub impl-plannable : (plan : List ℕ) → length plan ≡ planRoom → Plannable (t .implNodes) (t .implEdges) mo (t .leafPairs) 1 plan
+  impl-plannable plan room =
+      record {
+        tables = k .inputs .impl;
+        backward = k .inImpl;
+        column = omega arith;
+        rows = λ l m. let w = map-out (λ p. p .impl) (leafRows t) m in rw (w .2) (k .inputs .leaves (w .0) (w .1) .1 .row);
+        room = room;
+      }
+
+-- ---- the lists of a pair
+
+-- what holds of every two normal lists with the rows that were found holds of the lists of the pair
+pub found-lists : {t : Tables} {i j : ℕ} {sp mp : List ℕ} {ss ms e : List ℤ} {f : Found} → PairFound t i j sp ss mp ms e f
+    → j < length (t .leafPairs) / pairWidth → {P : List Record → List Record → Type 0} → OfRows ss (f .spec) ms (f .implementation) P
+    → P (findingAt t i j .spec) (findingAt t i j .impl)
+found-lists {t} {i} {j} k h w =
+    let normal = lists-normal (k .ready) h in
+    w (findingAt t i j .spec) (findingAt t i j .impl) (normal .0) (normal .1) (k .specRows) (k .implRows)

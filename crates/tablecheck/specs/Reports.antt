@@ -18,11 +18,10 @@ lineRoom = 2048
 abbrev pub lineWidth : ℕ
 lineWidth = 3
 
--- tables that are not refused, and room for so many rows, twice
-pub record Reportable (t : Tables) (lines spare : List ℤ) : Type 0 where
+-- tables that are not refused, and room for so many rows
+pub record Reportable (t : Tables) (lines : List ℤ) : Type 0 where
   pub taken : checkTables t ≡ none
   pub room : lineWidth * lineRoom ≤ length lines
-  pub spareRoom : length lines ≤ length spare
 
 -- where a part of the pairs starts: at a root row, with one leaf row at least
 pub record PartStart (roots leaves : List Pair) (from : ℕ) : Type 0 where

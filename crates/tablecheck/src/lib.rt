@@ -61,12 +61,11 @@ fn long_length(
     leaf_pairs: &[i64],
     result: Comparison,
     lines: &mut [i64],
-    spare: &mut [i64],
     room: usize,
 ) -> usize
     requires { ⌜
         Reportable (tablesOf (now «spec_nodes») (now «spec_edges») (now «impl_nodes») (now «impl_edges») (now «root_pairs») (now «leaf_pairs»))
-        (now lines) (now spare)
+        (now lines)
         × (comparisonResult result ≡ resultOf (findings
         (tablesOf (now «spec_nodes») (now «spec_edges») (now «impl_nodes») (now «impl_edges») (now «root_pairs») (now «leaf_pairs»))))
         × (room < 2 ^ 63) ⌝ }
@@ -94,7 +93,6 @@ fn long_length(
             from,
             to,
             lines,
-            spare,
         );
         total += reporting::lines_length(lines, n, 0, room - total);
         from = to;
@@ -111,12 +109,11 @@ fn put_parts(
     root_pairs: &[i64],
     leaf_pairs: &[i64],
     lines: &mut [i64],
-    spare: &mut [i64],
     out: &mut [u8],
 ) -> usize
     requires { ⌜
         Reportable (tablesOf (now «spec_nodes») (now «spec_edges») (now «impl_nodes») (now «impl_edges») (now «root_pairs») (now «leaf_pairs»))
-        (now lines) (now spare)
+        (now lines)
         × (length (linesOf (rowsOfFindings (findings
         (tablesOf (now «spec_nodes») (now «spec_edges») (now «impl_nodes») (now «impl_edges») (now «root_pairs») (now «leaf_pairs»)))))
         ≤ length (now out)) ⌝ }
@@ -141,7 +138,6 @@ fn put_parts(
             from,
             to,
             lines,
-            spare,
         );
         at += reporting::put_lines(&mut out[at..], lines, n);
         from = to;
@@ -159,12 +155,11 @@ fn put_long(
     leaf_pairs: &[i64],
     result: Comparison,
     lines: &mut [i64],
-    spare: &mut [i64],
     out: &mut [u8],
 ) -> usize
     requires { ⌜
         Reportable (tablesOf (now «spec_nodes») (now «spec_edges») (now «impl_nodes») (now «impl_edges») (now «root_pairs») (now «leaf_pairs»))
-        (now lines) (now spare)
+        (now lines)
         × (comparisonResult result ≡ resultOf (findings
         (tablesOf (now «spec_nodes») (now «spec_edges») (now «impl_nodes») (now «impl_edges») (now «root_pairs») (now «leaf_pairs»))))
         × (length (model.report (findings
@@ -186,7 +181,6 @@ fn put_long(
             root_pairs,
             leaf_pairs,
             lines,
-            spare,
             &mut out[at..],
         );
     at + reporting::put_ending(&mut out[at..], result)
@@ -202,12 +196,11 @@ fn long_report(
     leaf_pairs: &[i64],
     result: Comparison,
     lines: &mut [i64],
-    spare: &mut [i64],
     out: &mut [u8],
 ) -> Written
     requires { ⌜
         Reportable (tablesOf (now «spec_nodes») (now «spec_edges») (now «impl_nodes») (now «impl_edges») (now «root_pairs») (now «leaf_pairs»))
-        (now lines) (now spare)
+        (now lines)
         × (comparisonResult result ≡ resultOf (findings
         (tablesOf (now «spec_nodes») (now «spec_edges») (now «impl_nodes») (now «impl_edges») (now «root_pairs») (now «leaf_pairs»)))) ⌝ }
     ensures returned { λ r. ⌜
@@ -234,7 +227,6 @@ fn long_report(
         leaf_pairs,
         result,
         lines,
-        spare,
         room,
     );
     if length > room {
@@ -249,7 +241,6 @@ fn long_report(
         leaf_pairs,
         result,
         lines,
-        spare,
         out,
     ))
 }
@@ -266,12 +257,11 @@ fn table_report(
     result: Comparison,
     lines: &mut [i64],
     count: usize,
-    spare: &mut [i64],
     out: &mut [u8],
 ) -> Written
     requires { ⌜
         Reportable (tablesOf (now «spec_nodes») (now «spec_edges») (now «impl_nodes») (now «impl_edges») (now «root_pairs») (now «leaf_pairs»))
-        (now lines) (now spare)
+        (now lines)
         × (comparisonResult result ≡ resultOf (findings
         (tablesOf (now «spec_nodes») (now «spec_edges») (now «impl_nodes») (now «impl_edges») (now «root_pairs») (now «leaf_pairs»))))
         × LinesHeld (findings
@@ -303,7 +293,6 @@ fn table_report(
         leaf_pairs,
         result,
         lines,
-        spare,
         out,
     )
 }
@@ -339,7 +328,6 @@ pub fn check_tables(
         (now (report .entry)) (now (report .exit)) r ⌝ }
 {
     let mut lines = [0i64; LINE_NUMBERS];
-    let mut spare = [0i64; LINE_NUMBERS];
     let most = report.len() / LEAST_LINE;
     let lined = compare::compare_lines(
         spec_nodes,
@@ -350,7 +338,6 @@ pub fn check_tables(
         leaf_pairs,
         most,
         &mut lines,
-        &mut spare,
     );
     if most < lined.count {
         return Outcome::Refused(Reason::LongOutput);
@@ -369,7 +356,6 @@ pub fn check_tables(
                 result,
                 &mut lines,
                 lined.count,
-                &mut spare,
                 report,
             );
             let verdict = result.verdict;

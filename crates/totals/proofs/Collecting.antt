@@ -1,4 +1,4 @@
--- Rows added to a table one behind the other, while there is room, and then sorted.
+-- Rows added to a table one behind the other, while there is room.
 use mathlib.Core.Path.{_≡_, sym, ap, _∙_}
 use mathlib.Core.List.{List, [], _∷_, _++_, append-assoc, append-nil}
 use Prim.Native.Nat.{ℕ, _+_, _*_, _≤_, _<_}
@@ -6,12 +6,9 @@ use native.Mathlib.Omega.{arith}
 use lib.IntN.{ℤ}
 use lib.ListN.{length, take, drop, length-append}
 use Rattle.sorting.specs.declared.Row.{Row}
-use Rattle.sorting.specs.Rows.{rowsOf, numbersOf, sorted}
+use Rattle.sorting.specs.Rows.{rowsOf, numbersOf}
 use Rattle.sorting.proofs.Tables.{rowsOf-written, numbersOf-rowsOf, numbersOf-append}
-use Rattle.sorting.proofs.Sorting.{sorted-length}
-use Rattle.totals.specs.Lines.{Collected, Sorts}
-
--- ---- added rows
+use Rattle.totals.specs.Lines.{Collected}
 
 -- none
 pub collected-none : (table : List ℤ) (n : ℕ) → Collected [] table n table n
@@ -49,24 +46,3 @@ collected-past table n r past =
         rows = λ k. absurd (omega arith);
       };
     }
-
--- ---- sorted rows
-
--- rows that all stand there are sorted
-pub sorts-held : (table after : List ℤ) (n : ℕ) → 3 * n ≤ length table → after ≡ numbersOf (sorted (rowsOf table n)) ++ drop (3 * n) table → Sorts table n after
-sorts-held table after n room e =
-    record {
-      held = λ rows p.
-          let size : length (sorted rows) ≡ n = sorted-length rows ∙ sym (p .counted) in
-          record {
-            counted = sym size;
-            rows = λ k.
-                ap (λ (l : List ℤ). rowsOf l n) (e ∙ ap (λ (l : List Row). numbersOf (sorted l) ++ drop (3 * n) table) (p .rows room))
-                ∙ rowsOf-written (sorted rows) (drop (3 * n) table) n size;
-          };
-    }
-
--- where there was no room for all of them, they are counted
-pub sorts-past : (table : List ℤ) (n : ℕ) → length table < 3 * n → Sorts table n table
-sorts-past table n past =
-    record { held = λ rows p. record { counted = p .counted ∙ sym (sorted-length rows); rows = λ k. absurd (omega arith) } }

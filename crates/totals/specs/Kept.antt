@@ -1,12 +1,17 @@
 -- What is kept of the pairs: the totals of their verdicts, and how many have a record. Assumes nothing.
+use mathlib.Core.Path.{_≡_}
 use mathlib.Core.Bool.{cond}
+use mathlib.Core.List.{List}
 use Prim.Native.Nat.{ℕ, suc, _+_, _≤_}
 use lib.Dec.{eqb, ltb}
 use lib.IntN.{ℤ, negsuc}
+use Rattle.model.specs.Answers.{verdictNumber}
 use Rattle.visiting.specs.Visiting as visiting
-use Rattle.visiting.specs.Visiting.{noKey}
+use Rattle.visiting.specs.Visiting.{noKey, withVerdict}
+use Rattle.pairs.specs.declared.Found.{Found}
 use Rattle.totals.specs.declared.Totals.{Totals}
 use Rattle.totals.specs.declared.Kept.{Kept}
+use Rattle.totals.specs.Lines.{Collected, foundRows}
 
 -- the totals that the code holds
 abbrev pub asTotals : Totals → visiting.Totals
@@ -75,3 +80,9 @@ pastKept n = record { totals = freshKept .totals; count = n + 1 }
 -- what is kept where at most n rows are counted
 unfoldable pub keptUpTo : ℕ → Kept → Kept
 keptUpTo n k = cond (ltb n (k .count)) (pastKept n) k
+
+-- what is kept with one more pair: its verdict, place and address are added to the totals, and its row, where it has one, to the table
+pub record PairKept (place : ℕ) (f : Found) (address : ℤ) (before after : Kept) (lines lines′ : List ℤ) : Type 0 where
+  pub totals : asTotals (after .totals) ≡ withVerdict (verdictNumber (f .verdict)) place address (asTotals (before .totals))
+  pub rows : Collected (foundRows place f) lines (before .count) lines′ (after .count)
+  pub count : after .count ≤ before .count + 1

@@ -9,7 +9,7 @@ use lib.ListN.{length}
 use Rattle.model.specs.Limits.{maxPaths}
 use Rattle.model.specs.Answers.{verdictNumber}
 use Rattle.sorting.specs.declared.Row.{Row}
-use Rattle.sorting.specs.Rows.{rowsOf, sorted}
+use Rattle.sorting.specs.Rows.{rowsOf}
 use Rattle.reporting.specs.Lines.{lengthStride}
 use Rattle.visiting.specs.Visiting.{noKey}
 use Rattle.pairs.specs.declared.Found.{Found}
@@ -24,10 +24,6 @@ pub record RowsHeld (list : List Row) (table : List ℤ) (n : ℕ) : Type 0 wher
 -- rows were added to a table: whatever rows it held, it holds these behind them
 pub record Collected (added : List Row) (before : List ℤ) (n : ℕ) (after : List ℤ) (m : ℕ) : Type 0 where
   pub held : (rows : List Row) → RowsHeld rows before n → RowsHeld (rows ++ added) after m
-
--- a table was sorted: whatever rows it held, it holds them in ascending order
-pub record Sorts (before : List ℤ) (n : ℕ) (after : List ℤ) : Type 0 where
-  pub held : (rows : List Row) → RowsHeld rows before n → RowsHeld (sorted rows) after n
 
 -- ---- what is found of a pair, as a row
 

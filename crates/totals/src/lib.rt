@@ -7,14 +7,13 @@ ghost use lib.ListN.{length};
 ghost use Rattle.model.specs.Limits.{maxPairs};
 ghost use Rattle.model.specs.Answers.{verdictNumber};
 ghost use Rattle.visiting.specs.Visiting.{withVerdict};
-ghost use Rattle.totals.specs.Lines.{Collected, Sorts, FewFound, foundRow, foundRows};
-ghost use Rattle.totals.specs.Kept.{asTotals, AtMost, placed, withCount, KeptMost, equalKept, freshKept, keptUpTo};
+ghost use Rattle.totals.specs.Lines.{Collected, FewFound, foundRow, foundRows};
+ghost use Rattle.totals.specs.Kept.{asTotals, AtMost, placed, withCount, KeptMost, equalKept, freshKept, keptUpTo, PairKept};
 use model::Verdict;
 use pairs::Found;
 use reporting::LENGTH_STRIDE;
 use sorting::Row;
 use sorting::put_row;
-use sorting::sort_rows;
 
 // Numbers of a line's row.
 const LINE_WIDTH: usize = 3;
@@ -70,8 +69,8 @@ pub fn up_to(kept: Kept, most: usize) -> Kept
 }
 
 // The totals with this place and address, where the place is below the one kept.
-fn with_place(t: Totals, place: usize, found: Found) -> Totals
-    ensures { λ r. ⌜ asTotals r ≡ placed place (found .address) (asTotals t) ⌝ }
+fn with_place(t: Totals, place: usize, address: i64) -> Totals
+    ensures { λ r. ⌜ asTotals r ≡ placed place address (asTotals t) ⌝ }
 {
     if place < t.key {
         return Totals {
@@ -79,7 +78,7 @@ fn with_place(t: Totals, place: usize, found: Found) -> Totals
             partial: t.partial,
             different: t.different,
             key: place,
-            address: found.address,
+            address: address,
         };
     }
     t
@@ -105,17 +104,17 @@ fn counted(t: Totals, verdict: Verdict) -> Totals
     next
 }
 
-// The totals with one more pair: its verdict is counted, and where it is unequal its place may be the lowest.
-pub fn with_found(t: Totals, place: usize, found: Found) -> Totals
+// The totals with one more pair: its verdict is counted, and where it is unequal its place may be the lowest, with this address.
+fn with_found(t: Totals, place: usize, found: Found, address: i64) -> Totals
     requires { ⌜ AtMost (maxPairs * maxPairs) t ⌝ }
-    ensures { λ r. ⌜ asTotals r ≡ withVerdict (verdictNumber (found .verdict)) place (found .address) (asTotals t) ⌝ }
+    ensures { λ r. ⌜ asTotals r ≡ withVerdict (verdictNumber (found .verdict)) place address (asTotals t) ⌝ }
 {
     let verdict = found.verdict;
     let next = counted(t, verdict);
     match verdict {
         Verdict::Equal => next,
-        Verdict::Partial => with_place(next, place, found),
-        Verdict::Different => with_place(next, place, found),
+        Verdict::Partial => with_place(next, place, address),
+        Verdict::Different => with_place(next, place, address),
     }
 }
 
@@ -157,7 +156,7 @@ fn line_of(place: usize, found: Found) -> Row
 }
 
 // Stores the row of a pair with a record on either side behind `count` rows, while there is room. Returns how many such pairs there are with it.
-pub fn with_line(lines: &mut [i64], count: usize, place: usize, found: Found) -> usize
+fn with_line(lines: &mut [i64], count: usize, place: usize, found: Found) -> usize
     requires { ⌜ (count ≤ maxPairs * maxPairs) × FewFound place found ⌝ }
     ensures { λ r. ⌜ Collected (foundRows place found) (now (lines .entry)) count (now (lines .exit)) r ⌝ }
     ensures { λ r. ⌜ r ≤ count + 1 ⌝ }
@@ -172,13 +171,17 @@ pub fn with_line(lines: &mut [i64], count: usize, place: usize, found: Found) ->
     count + 1
 }
 
-// Sorts `count` rows, where there was room for all of them.
-pub fn sort_lines(lines: &mut [i64], count: usize, spare: &mut [i64])
-    requires { ⌜ (count ≤ maxPairs * maxPairs) × (length (now lines) ≤ length (now spare)) ⌝ }
-    ensures { λ _. ⌜ Sorts (now (lines .entry)) count (now (lines .exit)) ⌝ }
+// What is kept with one more pair: its verdict is counted, where it is unequal its place may be the lowest, with this address, and its row is stored
+// behind the others, while there is room.
+pub fn with_pair(lines: &mut [i64], kept: Kept, place: usize, found: Found, address: i64) -> Kept
+    requires { ⌜ KeptMost (maxPairs * maxPairs) kept × FewFound place found ⌝ }
+    ensures { λ r. ⌜ PairKept place found address kept r (now (lines .entry)) (now (lines .exit)) ⌝ }
 {
-    if lines.len() < LINE_WIDTH * count {
-        return;
+    let totals = kept.totals;
+    let totals = with_found(totals, place, found, address);
+    let count = with_line(lines, kept.count, place, found);
+    Kept {
+        totals: totals,
+        count: count,
     }
-    sort_rows(lines, count, spare);
 }

@@ -1,15 +1,14 @@
--- The full result read from totals is the one that the definitions give, in visiting order and leaf row by leaf row.
--- Two findings of different keys may be taken in either order, so that totals do not depend on the order of the visits; in visiting order
--- keys ascend, so that the lowest key of an unequal pair is that of the first unequal pair.
+-- The full result read from totals taken in visiting order is the one that the definitions give: keys ascend along the visits, so that the
+-- lowest key of an unequal pair is that of the first unequal pair, and the address of no other pair matters.
 use mathlib.Core.Path.{_≡_, refl, sym, ap, ap₂, _∙_, subst}
-use mathlib.Core.Bool.{Bool, true, false, not, cond, _&&_}
-use mathlib.Core.List.{List, [], _∷_, map, List·Memᴰ·head, List·Memᴰ·tail, Permᴰ·symm}
+use mathlib.Core.Bool.{Bool, true, false, cond}
+use mathlib.Core.List.{List, [], _∷_, map, List·Memᴰ·head, List·Memᴰ·tail}
 use mathlib.Core.Logic.{_≢_, _⊎_, inl, inr, ⊎-elim}
 use mathlib.Core.Option.{some}
 use Prim.Native.Nat.{ℕ, zero, suc, _+_, _≤_, _<_, max}
 use native.Mathlib.Nat.{zero-max, le-of-lt, le-trans}
 use native.Mathlib.Omega.{arith}
-use lib.Dec.{eqb, ltb, ltb→lt, lt→ltb, eqb→eq, eqb·suc-zero}
+use lib.Dec.{eqb, eqb→eq, eqb·suc-zero}
 use lib.IntN.{ℤ}
 use lib.ListN.{length, length-map}
 use Rattle.integers.proofs.Tests.{Test, passed, failed, eq?, ltb?, test-of, of-test, is-true, is-false}
@@ -21,16 +20,9 @@ use Rattle.model.specs.Verdicts.{lowest}
 use Rattle.model.specs.Compare.{Tables, rootRows, leafRows, visits, Finding, findingOf, findings, verdictOf, count, largest, firstUnequal, placeOf, resultOf}
 use Rattle.model.proofs.Folds.{counts-total}
 use Rattle.model.proofs.Verdicts.{verdict-range}
-use Rattle.model.proofs.Visits.{Ascends, none, more, ascends-two, ascends-map}
-use Rattle.visiting.specs.Visiting.{byLeaf, keyOf, noKey, Totals, freshTotals, isEarlier, withVerdict, withFinding, totalsFrom, totalsOf, placeFrom, resultFrom}
-use Rattle.visiting.proofs.Rearranging.{rearranged-map, foldl-rearranged}
-use Rattle.visiting.proofs.Keys.{by-leaf-rearranged, Small, key-below, key-root, key-leaf, visits-small, keys-ascending}
-
-below : {j k : ℕ} → j < k → ltb j k ≡ true
-below {j} {k} h = is-true (ltb j k) (lt→ltb j k h)
-
-not-below : {j k : ℕ} → k ≤ j → ltb j k ≡ false
-not-below {j} {k} h = is-false (ltb j k) (λ t. let l : j < k = ltb→lt j k t in omega arith)
+use Rattle.model.proofs.Visits.{Ascends, none, more, ascends-map}
+use Rattle.visiting.specs.Visiting.{keyOf, noKey, Totals, freshTotals, isEarlier, withVerdict, withFinding, totalsFrom, totalsOf, KeyBelow, placeFrom, resultFrom}
+use Rattle.visiting.proofs.Keys.{Small, key-below, key-root, key-leaf, visits-small, keys-ascending}
 
 -- ---- counts and verdict
 
@@ -110,6 +102,29 @@ earlier-no v key t h = is-false (isEarlier v key t) (λ p. let w = test-of (earl
 
 earlier-yes : (v key : ℕ) (t : Totals) → v ≢ 0 → key < t .key → isEarlier v key t ≡ true
 earlier-yes v key t n h = is-true (isEarlier v key t) (of-test (earlier? v key t) (λ w. ⊎-elim n (λ l. omega arith) w))
+
+-- the address of a pair that is equal, or whose key is not below the one kept, does not matter
+address-other : (v key : ℕ) (a b : ℤ) (t : Totals) → (v ≡ 0) ⊎ (t .key ≤ key) → withVerdict v key a t ≡ withVerdict v key b t
+unfolding withVerdict
+address-other v key a b t h = rw (earlier-no v key t h)
+
+-- behind the pairs that were taken, the address of a pair matters only where it is unequal and the first to be so
+pub address-first : (v key : ℕ) (a b : ℤ) (t : Totals) → KeyBelow key t → (t .key ≡ noKey → v ≢ 0 → a ≡ b) → withVerdict v key a t ≡ withVerdict v key b t
+address-first v key a b t k h = go (eqb v 0) (eq? v 0) (eqb (t .key) noKey) (eq? (t .key) noKey)
+  where
+    go : (x : Bool) → Test (v ≡ 0) (v ≢ 0) x → (y : Bool) → Test (t .key ≡ noKey) (t .key ≢ noKey) y → withVerdict v key a t ≡ withVerdict v key b t
+    go true (passed e) y q = address-other v key a b t (inl e)
+    go false (failed n) true (passed e) = ap (λ (z : ℤ). withVerdict v key z t) (h e n)
+    go false (failed n) false (failed m) = address-other v key a b t (inr (le-of-lt (k m)))
+
+-- with a pair of this key, the key kept lies below the next
+pub key-below-next : (v key : ℕ) (a : ℤ) (t : Totals) → KeyBelow key t → KeyBelow (key + 1) (withVerdict v key a t)
+unfolding withVerdict
+key-below-next v key a t k = go (isEarlier v key t)
+  where
+    go : (b : Bool) → cond b key (t .key) ≢ noKey → cond b key (t .key) < key + 1
+    go true n = omega arith
+    go false n = omega (arith, k n)
 
 -- totals keep a pair, by its key and its address
 record Keeps (k : ℕ) (a : ℤ) (t : Totals) : Type 0 where
@@ -194,41 +209,6 @@ result-in-order fs a s =
       place = place-first freshTotals fs refl a s i;
     }
 
--- ---- any order
-
--- one more number where the test passes, twice: the tests may change places
-added-twice : (a b : Bool) (n : ℕ) → cond a (suc (cond b (suc n) n)) (cond b (suc n) n) ≡ cond b (suc (cond a (suc n) n)) (cond a (suc n) n)
-added-twice true true n = refl
-added-twice true false n = refl
-added-twice false true n = refl
-added-twice false false n = refl
-
--- of a value z with key m, x with the lower key j and y with the higher key k, the one of the lowest key is left in either order
-earliest-twice : {A : Type 0} (a b : Bool) {j k : ℕ} (m : ℕ) (x y z : A) → j < k
-    → cond (b && ltb k (cond (a && ltb j m) j m)) y (cond (a && ltb j m) x z)
-    ≡ cond (a && ltb j (cond (b && ltb k m) k m)) x (cond (b && ltb k m) y z)
-earliest-twice false b m x y z h = refl
-earliest-twice true false m x y z h = refl
-earliest-twice true true {j} {k} m x y z h = go (ltb j m) (ltb k m) (ltb? j m) (ltb? k m)
-  where
-    go : (p q : Bool) → Test (j < m) (m ≤ j) p → Test (k < m) (m ≤ k) q
-        → cond (ltb k (cond p j m)) y (cond p x z) ≡ cond (ltb j (cond q k m)) x (cond q y z)
-    go true true (passed l) (passed o) = rw (not-below (le-of-lt h), below h)
-    go true false (passed l) (failed o) = rw (not-below (le-of-lt h), below l)
-    go false true (failed l) (passed o) = absurd (omega arith)
-    go false false (failed l) (failed o) = rw (not-below o, not-below l)
-
--- two findings of different keys may be taken in either order
-findings-commute : (t : Totals) (f g : Finding) → FoundBefore f g → withFinding (withFinding t f) g ≡ withFinding (withFinding t g) f
-unfolding withFinding withVerdict isEarlier
-findings-commute t f g h = λ i. record {
-  equal = added-twice (eqb (verdictOf g) 0) (eqb (verdictOf f) 0) (t .equal) i;
-  partial = added-twice (eqb (verdictOf g) 1) (eqb (verdictOf f) 1) (t .partial) i;
-  different = added-twice (eqb (verdictOf g) 2) (eqb (verdictOf f) 2) (t .different) i;
-  key = earliest-twice (not (eqb (verdictOf f) 0)) (not (eqb (verdictOf g) 0)) (t .key) (keyOf (f .visit)) (keyOf (g .visit)) (t .key) h i;
-  address = earliest-twice (not (eqb (verdictOf f) 0)) (not (eqb (verdictOf g) 0)) (t .key) (lowest (f .spec) (f .impl)) (lowest (g .spec) (g .impl)) (t .address) h i;
-}
-
 -- the findings of the visits of tables
 module _ (t : Tables) (fewRoots : length (rootRows t) ≤ maxPairs) (fewLeaves : length (leafRows t) ≤ maxPairs) where
   findings-ascend : Ascends FoundBefore (findings t)
@@ -241,21 +221,6 @@ module _ (t : Tables) (fewRoots : length (rootRows t) ≤ maxPairs) (fewLeaves :
       let w = map-out (findingOf t) (visits (rootRows t) (leafRows t)) m in
       subst (λ (g : Finding). Small (g .visit)) (sym (w .2)) (visits-small (t .rootPairs) (t .leafPairs) fewRoots fewLeaves (w .0) (w .1))
 
-  -- any two of them may be taken in either order
-  members-commute : (f g : Finding) → f ∈ findings t → g ∈ findings t → (s : Totals) → withFinding (withFinding s f) g ≡ withFinding (withFinding s g) f
-  members-commute f g m n s = go (ascends-two findings-ascend m n)
-    where
-      go : (f ≡ g) ⊎ FoundBefore f g ⊎ FoundBefore g f → withFinding (withFinding s f) g ≡ withFinding (withFinding s g) f
-      go (inl e) = cc
-      go (inr (inl h)) = findings-commute s f g h
-      go (inr (inr h)) = sym (findings-commute s g f h)
-
-  -- totals taken leaf row by leaf row are those taken in visiting order
-  pub totals-by-leaf : totalsOf (map (findingOf t) (byLeaf (rootRows t) (leafRows t))) ≡ totalsOf (findings t)
-  unfolding totalsFrom findings
-  totals-by-leaf =
-      sym (foldl-rearranged withFinding (Permᴰ·symm (rearranged-map (findingOf t) (by-leaf-rearranged (rootRows t) (leafRows t)))) members-commute freshTotals)
-
-  -- the full result, read from totals taken leaf row by leaf row
-  pub result-by-leaf : resultFrom (totalsOf (map (findingOf t) (byLeaf (rootRows t) (leafRows t)))) ≡ resultOf (findings t)
-  result-by-leaf = ap resultFrom totals-by-leaf ∙ result-in-order (findings t) findings-ascend findings-small
+  -- the full result, read from totals taken in visiting order
+  pub result-by-visits : resultFrom (totalsOf (findings t)) ≡ resultOf (findings t)
+  result-by-visits = result-in-order (findings t) findings-ascend findings-small

@@ -1,9 +1,10 @@
--- Pairs worked through leaf row by leaf row, and what is kept of them on the way, from which the full result is read. Assumes nothing.
--- A pair has a key, its place in visiting order, so that the first pair in that order is found in any order of work.
+-- What is kept of the pairs on the way, from which the full result is read; and refusal 10 by pairs worked through leaf row by leaf row. Assumes
+-- nothing. A pair has a key, its place in visiting order, so that the first pair in that order is found in any order of work.
 use mathlib.Core.Bool.{Bool, not, cond, _&&_}
 use mathlib.Core.List.{List, map, flatMap, foldl}
+use mathlib.Core.Logic.{_≢_}
 use mathlib.Core.Option.{Option, none, some}
-use Prim.Native.Nat.{ℕ, suc, _+_, _*_, _/_, _%_, min}
+use Prim.Native.Nat.{ℕ, suc, _+_, _*_, _/_, _%_, _<_, min}
 use lib.Dec.{eqb, ltb}
 use lib.IntN.{ℤ, pos, negsuc}
 use Rattle.model.specs.Limits.{rootStride}
@@ -70,6 +71,10 @@ totalsFrom t fs = foldl withFinding t fs
 
 abbrev pub totalsOf : List Finding → Totals
 totalsOf fs = totalsFrom freshTotals fs
+
+-- the key kept, where there is one, lies below this
+abbrev pub KeyBelow : ℕ → Totals → Type 0
+KeyBelow key t = t .key ≢ noKey → t .key < key
 
 -- the place of the pair kept
 unfoldable pub placeFrom : Totals → Place

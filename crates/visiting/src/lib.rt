@@ -1,1 +1,1 @@
-// Visiting: the comparison's result does not depend on the order in which pairs are worked through, with its laws. It has no code.
+// Visiting: what is kept of the pairs of a comparison on the way, from which its result and refusal 10 are read, with its laws. It has no code.

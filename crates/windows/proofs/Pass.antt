@@ -20,14 +20,13 @@ use Rattle.model.proofs.Taken.{taken-offset}
 use Rattle.tables.specs.Tables.{edgeAt}
 use Rattle.tables.proofs.Rows.{nodes-length, edges-length}
 use Rattle.tables.proofs.Limits.{first-address, last-address}
-use Rattle.reach.specs.Counting.{pathCount}
 use Rattle.reach.proofs.Pass.{Underway, underway-start, underway-fit, underway-next, underway-end, turn, turn-own, turn-ends, turn-from, turn-to, leaf-below}
 use Rattle.reach.proofs.Ends.{Ends, from-below, to-below}
 use Rattle.windows.specs.Windows.{Span, nowhere, extent, shared, raised, carried, window}
 use Rattle.windows.specs.Tables.{spanWidth, spanAt, setSpan, spansOf, Carriable, widened, carriedBy, Crossable, windowsOver, Windowable}
 use Rattle.windows.proofs.Spans.{Within}
-use Rattle.windows.proofs.Windows.{carriedBack, carried-none, window-none, window-within}
-use Rattle.windows.proofs.Tables.{span-kept, spans-length, widened-none, widened-length, widened-kept}
+use Rattle.windows.proofs.Windows.{carriedBack, window-within}
+use Rattle.windows.proofs.Tables.{span-kept, spans-length, widened-length, widened-kept}
 use Rattle.windows.proofs.Sweep.{Swept, swept-start, swept-onward, swept-next, swept-end}
 
 -- ---- what an edge carries back, as the code computes it
@@ -161,14 +160,6 @@ module _ (ns es : List ℤ) (order : List ℕ) (leaf : ℕ) where
             let own = c .nodeBits .each from (omega (arith, from-below ends from q, nodes-length ns)) in
             pass-joined (carriedBy extents offsets t (getD order i 0) from to)
             (carried-read (graphOf ns es) (pos leaf) (edgeAt es (getD order i 0)) q r own offset-read turn-onward)
-
-      -- a node without a path to the leaf has no window: the edge carries nothing back
-      pub pass-over : pathCount (graphOf ns es) (pos to) (pos leaf) ≡ 0 → Passed start t (i + 1)
-      pass-over z =
-          let g = graphOf ns es in
-          let e = edgeAt es (getD order i 0) in
-          let none = window-none (e .to) fit (subst (λ (v : ℤ). pathCount g v (pos leaf) ≡ 0) r z) in
-          subst (λ (u : List ℤ). Passed start u (i + 1)) (widened-none nowhere from t (omega (arith, ints))) (pass-joined nowhere (sym (carried-none g e none)))
 
     -- behind the last turn
     pub pass-end : (s : Span) (old : List ℤ) → length es / 3 ≤ i → start ≡ begun (length ns / 4) leaf s old → t ≡ windowsOver (graphOf ns es) (pos leaf) old

@@ -110,10 +110,6 @@ hull-same vs ws h k =
 pub hull-unmoved : (ws : List Span) → joined nowhere (hull ws) ≡ hull ws
 hull-unmoved ws = within-same (joined-least (hull-nowhere ws) (within-refl (hull ws))) (joined-right nowhere (hull ws))
 
--- spans that are all nowhere have no other hull
-pub hull-none : (ws : List Span) → ((w : Span) → w ∈ ws → w ≡ nowhere) → hull ws ≡ nowhere
-hull-none ws h = within-same (hull-least ws (within-refl nowhere) (λ w m. rw (h w m) (within-refl nowhere))) (hull-nowhere ws)
-
 -- ---- shared bits
 
 -- what two spans share lies in the first, where nowhere does

@@ -1,5 +1,5 @@
 -- The window of the leaf is its extent, that of any other node the hull over the edges that leave it, and every window lies in the extent of its node.
-use mathlib.Core.Path.{_≡_, refl, sym, ap, subst, _∙_}
+use mathlib.Core.Path.{_≡_, refl, sym, ap, _∙_}
 use mathlib.Core.Bool.{Bool, true, false, cond}
 use mathlib.Core.List.{List, [], _∷_, map, List·Memᴰ·head, List·Memᴰ·tail}
 use mathlib.Core.Logic.{_≢_}
@@ -21,11 +21,10 @@ use Rattle.model.specs.Runs.{leaving}
 use Rattle.model.specs.Taken.{Taken}
 use Rattle.model.proofs.Paths.{Fit, leaving-out, way-short}
 use Rattle.model.proofs.Taken.{node-bounds, bounds-full}
-use Rattle.reach.specs.Counting.{pathCount}
-use Rattle.reach.proofs.Counting.{empty-list, count-some}
+use Rattle.reach.proofs.Counting.{empty-list}
 use Rattle.steps.proofs.Bounds.{extent-small}
-use Rattle.windows.specs.Windows.{Span, nowhere, extent, raised, shared, hull, carried, windowWithin, window}
-use Rattle.windows.proofs.Spans.{Within, within-refl, hull-least, hull-none, shared-within, shared-raised-none}
+use Rattle.windows.specs.Windows.{Span, nowhere, extent, raised, hull, carried, windowWithin, window}
+use Rattle.windows.proofs.Spans.{Within, within-refl, hull-least, shared-within}
 
 -- ---- the limit on edges does not matter
 
@@ -90,38 +89,6 @@ window-step {g} {v} {l} f n = go (eqZ v l) (eqZ? v l)
         ap hull
         (map-agree (carriedWithin (maxChain - 1) g l) (carriedBack g l) (leaving g v)
         (λ e m. ap (carried g e) (sym (within-settled (maxChain - 1) g (e .to) l (ends-onward short e m)))))
-
--- ---- nodes without a path to the leaf
-
--- from nowhere nothing is carried back
-pub carried-none : (g : Graph) (e : Edge) {w : Span} → w ≡ nowhere → carried g e w ≡ nowhere
-unfolding carried
-carried-none g e q =
-    ap (λ w. shared (extent (node g (e .from))) (raised (bitOffset g e) w)) q
-    ∙ shared-raised-none (extent (node g (e .from))) (bitOffset g e) nowhere (omega (arith, ints))
-
--- from a node without a way to the leaf the window is nowhere, over any number of edges
-within-none : (k : ℕ) (g : Graph) (v l : ℤ) → ((p : List Edge) → Way g v p l → ⊥) → windowWithin k g v l ≡ nowhere
-unfolding windowWithin
-within-none zero g v l h = go (eqZ v l) (eqZ? v l)
-  where
-    go : (t : Bool) → Test (v ≡ l) (v ≢ l) t → cond t (extent (node g l)) nowhere ≡ nowhere
-    go true (passed e) = absurd (h [] (subst (Way g v []) e stay))
-    go false (failed n) = refl
-within-none (suc k) g v l h =
-    go (λ e m. let n = leaving-out g v m in within-none k g (e .to) l (λ p y. h (e ∷ p) (over e (n .0) (n .1) y))) (eqZ v l) (eqZ? v l)
-  where
-    go : ((e : Edge) → e ∈ leaving g v → windowWithin k g (e .to) l ≡ nowhere) → (t : Bool) → Test (v ≡ l) (v ≢ l) t
-        → cond t (extent (node g l)) (hull (map (carriedWithin k g l) (leaving g v))) ≡ nowhere
-    go each true (passed e) = absurd (h [] (subst (Way g v []) e stay))
-    go each false (failed n) =
-        hull-none (map (carriedWithin k g l) (leaving g v))
-        (λ w m. let u = map-out (carriedWithin k g l) (leaving g v) m in u .2 ∙ carried-none g (u .0) (each (u .0) (u .1)))
-
--- the window of a node without a path to the leaf is nowhere
-pub window-none : {g : Graph} {l : ℤ} (v : ℤ) → Fit g l → pathCount g v l ≡ 0 → window g v l ≡ nowhere
-unfolding window
-window-none {g} {l} v f z = within-none maxChain g v l (λ p w. let h = count-some f .1 (p, w) in omega (arith, h, z))
 
 -- ---- windows lie in extents
 

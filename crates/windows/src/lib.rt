@@ -9,15 +9,12 @@ ghost use Rattle.model.specs.Rows.{nodeRows, edgeRows};
 ghost use Rattle.model.specs.Graph.{graphOf};
 ghost use Rattle.model.specs.Runs.{shift};
 ghost use Rattle.model.specs.Taken.{TakenTables};
-ghost use Rattle.reach.specs.Counting.{countsOver, Countable};
 ghost use Rattle.steps.specs.Steps.{runOf, living, livingOf, SmallRun, Clippable};
 ghost use Rattle.windows.specs.Windows.{nowhere, raised, shared, joined, cut};
 ghost use Rattle.windows.specs.Tables.{spanOf, spanAt, setSpan, spansOf, Raisable, Carriable, widened, carriedBy, Crossable, extentsOver, offsetsOver, windowsOver, Measurable, Windowable, Shiftable, Cuttable};
 use model::Bits;
 use model::EDGE_WIDTH;
 use model::NODE_WIDTH;
-use reach::add_paths;
-use reach::start_counts;
 use steps::Clipped;
 use steps::Run;
 use tables::edge_from;
@@ -265,42 +262,6 @@ pub fn find_windows(
         let to = edge_to(edges, e);
         carry_back(extents, offsets, e, from, to, windows);
         i += 1;
-    }
-}
-
-// Sets counts[v], for each node v, to the number of paths from v to the leaf, as reach::count_paths does, and span v of `windows` to its window.
-// One pass over the edges in an order that has each edge behind all edges that leave the node it enters. An edge into a node without a path to the leaf
-// adds no path and carries nothing back: it is passed over.
-pub fn sweep_back(
-    nodes: &[i64],
-    edges: &[i64],
-    order: &[usize],
-    leaf: usize,
-    extents: &[i64],
-    offsets: &[i64],
-    counts: &mut [usize],
-    windows: &mut [i64],
-)
-    requires { ⌜
-        Countable (now nodes) (now edges) (now order) leaf (now counts)
-        × Windowable (now nodes) (now edges) (now order) leaf (now extents) (now offsets) (now windows) ⌝ }
-    ensures { λ _. ⌜ now (counts .exit) ≡ countsOver (graphOf (now (nodes .entry)) (now (edges .entry))) (pos leaf) (now (counts .entry)) ⌝ }
-    ensures { λ _. ⌜ now (windows .exit) ≡ windowsOver (graphOf (now (nodes .entry)) (now (edges .entry))) (pos leaf) (now (windows .entry)) ⌝ }
-{
-    start_counts(counts, nodes.len() / NODE_WIDTH, leaf);
-    start_windows(extents, leaf, nodes.len() / NODE_WIDTH, windows);
-    let count = edges.len() / EDGE_WIDTH;
-    let mut i = 0;
-    while i < count {
-        let e = order[i];
-        i += 1;
-        let from = edge_from(edges, e);
-        let to = edge_to(edges, e);
-        let more = counts[to];
-        if more != 0 {
-            add_paths(counts, from, more);
-            carry_back(extents, offsets, e, from, to, windows);
-        }
     }
 }
 

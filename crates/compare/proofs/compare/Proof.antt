@@ -6,15 +6,12 @@ use Rattle.compare.proofs.compare.Tie as tie
 slice-aggregate-compare-lines : tie.Need-slice-aggregate-compare-lines
 slice-aggregate-compare-lines c = search needs
 
-slice-aggregate-compare-lines-2 : tie.Need-slice-aggregate-compare-lines-2
-slice-aggregate-compare-lines-2 c = search needs
-
 compare-lines-requires : tie.Need-compare-lines-requires
 compare-lines-requires c κs = search needs
 
 returns : tie.Need-returns
-returns c = let p = c .before .before .compare-lines .ensures in p .compared (p .few)
+returns c = let p = c .before .compare-lines .ensures in p .compared (p .few)
 
 pub compare-spec : {M : Type 1} → statement M
 compare-spec =
-    tie.close (tie.spec slice-aggregate-compare-lines slice-aggregate-compare-lines-2 compare-lines-requires returns)
+    tie.close (tie.spec slice-aggregate-compare-lines compare-lines-requires returns)

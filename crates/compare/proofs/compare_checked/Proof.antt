@@ -5,14 +5,8 @@ use borrow.Author.Needs.{needs}
 use Rattle.compare.proofs.compare_checked.Statement.{statement}
 use Rattle.compare.proofs.compare_checked.Tie as tie
 
-slice-aggregate-lowest-many : tie.Need-slice-aggregate-lowest-many
-slice-aggregate-lowest-many c = search needs
-
-slice-aggregate-lowest-many-2 : tie.Need-slice-aggregate-lowest-many-2
-slice-aggregate-lowest-many-2 c = search needs
-
-lowest-many-requires : tie.Need-lowest-many-requires
-lowest-many-requires c κs = search needs
+lowest-key-requires : tie.Need-lowest-key-requires
+lowest-key-requires c κs = search needs
 
 mul-if1 : tie.Need-mul-if1
 mul-if1 c = search needs
@@ -25,42 +19,36 @@ refusal-requires c κs = search needs
 
 returns : tie.Need-returns
 returns c =
-    let m = c .before .before .before .before .before in
-    let s = m .before .before .before .before .before in
+    let m = c .before .before .before in
+    let s = m .before .before .before in
     let r = c .refusal .ensures in
-    paths-refused (r .0) (r .1) (key-refused (s .pre .0 .inputs) (m .lowest-many .ensures) (c .before .many-paths .ensures))
+    paths-refused (r .0) (r .1) (key-refused (s .pre .inputs) (m .lowest-key .ensures) (c .before .many-paths .ensures))
 
 compare-pairs-requires : tie.Need-compare-pairs-requires
 compare-pairs-requires c κs =
-    let m = c .before .before .before .before .before in
-    let s = m .before .before .before .before .before in
-    (s .pre .0, key-few (s .pre .0 .inputs) (m .lowest-many .ensures) (c .before .before .if1 .left), s .pre .1)
+    let m = c .before .before in
+    let s = m .before .before .before in
+    (s .pre, key-few (s .pre .inputs) (m .lowest-key .ensures) (c .before .if1 .left))
 
 same-length : tie.Need-same-length
 same-length c = search needs
 
-same-length-2 : tie.Need-same-length-2
-same-length-2 c = search needs
-
 returns-2 : tie.Need-returns-2
 returns-2 c =
-    let e = c .before .before .before .before .before in
-    let m = e .before .before .before in
-    let s = m .before .before .before .before .before in
-    paths-full (s .pre .0 .inputs) (m .lowest-many .ensures) (e .if1 .left) (c .before .before .compare-pairs .ensures)
+    let e = c .before .before .before in
+    let m = e .before in
+    let s = m .before .before .before in
+    paths-full (s .pre .inputs) (m .lowest-key .ensures) (e .if1 .left) (c .before .compare-pairs .ensures)
 
 pub compare-checked-spec : {M : Type 1} → statement M
 compare-checked-spec =
     tie.close
     (tie.spec
-    slice-aggregate-lowest-many
-    slice-aggregate-lowest-many-2
-    lowest-many-requires
+    lowest-key-requires
     mul-if1
     many-paths-requires
     refusal-requires
     returns
     compare-pairs-requires
     same-length
-    same-length-2
     returns-2)

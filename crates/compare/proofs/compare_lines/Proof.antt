@@ -36,20 +36,16 @@ slice-aggregate-compare-checked-2 c = search needs
 
 compare-checked-requires : tie.Need-compare-checked-requires
 compare-checked-requires c κs =
-    let e = c .before .before .before .before in
-    let k = e .before .before .before .before in
-    (k .check-inputs .ensures .takes (e .enum-told .given .1), k .before .before .before .pre)
+    let e = c .before .before .before in
+    e .before .before .before .before .check-inputs .ensures .takes (e .enum-told .given .1)
 
 same-length : tie.Need-same-length
 same-length c = search needs
 
-same-length-2 : tie.Need-same-length-2
-same-length-2 c = search needs
-
 returns-2 : tie.Need-returns-2
 returns-2 c =
-    let e = c .before .before .before .before .before .before .before in
-    lined-taken (e .before .before .before .before .check-inputs .ensures) (e .enum-told .given .1) (c .before .before .compare-checked .ensures)
+    let e = c .before .before .before .before .before in
+    lined-taken (e .before .before .before .before .check-inputs .ensures) (e .enum-told .given .1) (c .before .compare-checked .ensures)
 
 pub compare-lines-spec : {M : Type 1} → statement M
 compare-lines-spec =
@@ -66,5 +62,4 @@ compare-lines-spec =
     slice-aggregate-compare-checked-2
     compare-checked-requires
     same-length
-    same-length-2
     returns-2)

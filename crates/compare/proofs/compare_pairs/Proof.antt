@@ -18,13 +18,10 @@ too-long-requires c κs = search needs
 same-length : tie.Need-same-length
 same-length c = search needs
 
-same-length-2 : tie.Need-same-length-2
-same-length-2 c = search needs
-
 returns : tie.Need-returns
 returns c =
     let t = c .before in
-    let v = t .before .before .before .before in
+    let v = t .before .before .before in
     let p = v .survey .ensures in
     let long = c .too-long .ensures in
     let more = t .if1 .taken in
@@ -39,17 +36,14 @@ returns c =
 comparison-of-requires : tie.Need-comparison-of-requires
 comparison-of-requires c κs = search needs
 
-same-length-3 : tie.Need-same-length-3
-same-length-3 c = search needs
-
-same-length-4 : tie.Need-same-length-4
-same-length-4 c = search needs
+same-length-2 : tie.Need-same-length-2
+same-length-2 c = search needs
 
 returns-2 : tie.Need-returns-2
 returns-2 c =
     let e = c .before .before in
-    let v = e .before .before .before .before in
-    let s = v .before .before .before .before .before in
+    let v = e .before .before .before in
+    let s = v .before .before .before .before in
     let p = v .survey .ensures in
     let few = e .if1 .left in
     record {
@@ -67,9 +61,7 @@ compare-pairs-spec =
     survey-requires
     too-long-requires
     same-length
-    same-length-2
     returns
     comparison-of-requires
-    same-length-3
-    same-length-4
+    same-length-2
     returns-2)

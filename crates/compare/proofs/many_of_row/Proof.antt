@@ -7,9 +7,8 @@ use Rattle.model.specs.Graph.{graphOf}
 use Rattle.model.specs.Paths.{Leaf}
 use Rattle.pairing.specs.Pairs.{pairAt}
 use Rattle.pairs.proofs.Inputs.{row-leaves}
-use Rattle.survey.proofs.Ready.{spec-enters, impl-enters}
 use Rattle.compare.proofs.Keys.{row-keyed}
-use Rattle.compare.proofs.Many.{leaf-countable, row-lowest, unentered-lowest}
+use Rattle.compare.proofs.Many.{spec-enters, impl-enters, leaf-countable, row-lowest, unentered-lowest}
 use Rattle.compare.proofs.many_of_row.Statement.{statement}
 use Rattle.compare.proofs.many_of_row.Tie as tie
 

@@ -7,13 +7,13 @@ use borrow.Author.Needs.{needs}
 use Rattle.sorting.specs.declared.Row.{Row}
 use Rattle.sorting.specs.Rows.{rowAt}
 use Rattle.model.specs.Runs.{touch}
-use Rattle.normalisation.specs.Merging.{ofDisplacement}
+use Rattle.normalisation.specs.Merging.{ofDisplacement, byFirst}
 use Rattle.normalisation.proofs.Turns.{Pass, row-small, pass-none, pass-start, pass-length, pass-joined, pass-apart, pass-count, pass-end}
 use Rattle.normalisation.proofs.merge_touching.Statement.{statement}
 use Rattle.normalisation.proofs.merge_touching.Tie as tie
 
 abbrev Inv-loop : tie.InvT-loop
-Inv-loop t n out₀ current₀ i₀ k₀ out current i k = Pass t n out₀ out current i k
+Inv-loop t n out₀ current₀ i₀ k₀ out current i k = Pass byFirst t n out₀ out current i k
 
 abbrev μ-loop : tie.MeasureT-loop
 μ-loop t n out₀ current₀ i₀ k₀ out current i k = n - i
@@ -30,13 +30,13 @@ test c =
     sym (c .touches .ensures ∙ ap (λ (r : Row). touch (ofDisplacement current) (ofDisplacement r)) (c .before .row-at2 .ensures))
 
 returns : tie.Need-returns Inv-loop μ-loop
-returns c = pass-none _ _ _ (c .if1 .taken)
+returns c = pass-none _ _ _ _ (c .if1 .taken)
 
 row-at-requires : tie.Need-row-at-requires Inv-loop μ-loop
 row-at-requires c κs = omega arith
 
 loop-holds : tie.Need-loop-holds Inv-loop μ-loop
-loop-holds c = rw (c .row-at .ensures) (pass-start _ _ _ (omega arith) (c .before .before .pre .2))
+loop-holds c = rw (c .row-at .ensures) (pass-start _ _ _ _ (omega arith) (c .before .before .pre .2))
 
 row-at-requires-2 : tie.Need-row-at-requires-2 Inv-loop μ-loop
 row-at-requires-2 c κs = omega arith

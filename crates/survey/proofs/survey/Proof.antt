@@ -1,89 +1,88 @@
--- The bits of both graphs are found, and with them what is kept of all pairs.
-use Prim.Native.Nat.{_*_}
-use native.Mathlib.Omega.{arith}
+-- Both graphs are planned, and what is kept of all pairs is held to the most rows.
+use Prim.Native.Nat.{ℕ}
 use lib.IntN.{ℤ, pos}
 use lib.ListN.{replicate, length-replicate}
-use Rattle.model.specs.Limits.{maxNodes, maxEdges}
-use Rattle.pairing.specs.Pairs.{tablesOf}
-use Rattle.listing.proofs.Windowed.{tables-measurable}
-use Rattle.survey.proofs.Ready.{tables-measured}
+use Rattle.forward.specs.Forward.{planRoom}
+use Rattle.arrivals.specs.State.{stateRoom}
+use Rattle.survey.proofs.Stopping.{survey-up-to}
+use Rattle.survey.proofs.Ready.{spec-plannable, impl-plannable}
 use borrow.Author.Needs.{needs}
 use Rattle.survey.proofs.survey.Statement.{statement}
 use Rattle.survey.proofs.survey.Tie as tie
 
-slice-aggregate-measure : tie.Need-slice-aggregate-measure
-slice-aggregate-measure c = search needs
+-- from the second plan back to where the function begins
+abbrev planned : tie.After-impl-plan → tie.Start
+planned c = c .before .before .before .before .before .before
 
-slice-aggregate-measure-2 : tie.Need-slice-aggregate-measure-2
-slice-aggregate-measure-2 c = search needs
+slice-aggregate-plan-graph : tie.Need-slice-aggregate-plan-graph
+slice-aggregate-plan-graph c = search needs
 
-measure-requires : tie.Need-measure-requires
-measure-requires c κs =
-    tables-measurable (c .before .before .before .before .pre .0 .inputs .spec) (replicate (2 * maxNodes) (pos 0)) (replicate maxEdges (pos 0))
-    (omega (arith, length-replicate {A = ℤ} (2 * maxNodes) (pos 0))) (omega (arith, length-replicate {A = ℤ} maxEdges (pos 0)))
+plan-graph-requires : tie.Need-plan-graph-requires
+plan-graph-requires c κs = spec-plannable (c .before .before .before .pre .0) (replicate planRoom 0) (length-replicate {A = ℕ} planRoom 0)
 
-slice-aggregate-measure-3 : tie.Need-slice-aggregate-measure-3
-slice-aggregate-measure-3 c = search needs
+slice-aggregate-plan-graph-2 : tie.Need-slice-aggregate-plan-graph-2
+slice-aggregate-plan-graph-2 c = search needs
 
-slice-aggregate-measure-4 : tie.Need-slice-aggregate-measure-4
-slice-aggregate-measure-4 c = search needs
+plan-graph-requires-2 : tie.Need-plan-graph-requires-2
+plan-graph-requires-2 c κs = impl-plannable (planned c .pre .0) (replicate planRoom 0) (length-replicate {A = ℕ} planRoom 0)
 
-measure-requires-2 : tie.Need-measure-requires-2
-measure-requires-2 c κs =
-    tables-measurable (c .before .before .before .before .before .before .before .before .before .pre .0 .inputs .impl) (replicate (2 * maxNodes) (pos 0)) (replicate maxEdges (pos 0))
-    (omega (arith, length-replicate {A = ℤ} (2 * maxNodes) (pos 0))) (omega (arith, length-replicate {A = ℤ} maxEdges (pos 0)))
+slice-aggregate-found-of-all : tie.Need-slice-aggregate-found-of-all
+slice-aggregate-found-of-all c = search needs
 
-slice-aggregate-survey-measured : tie.Need-slice-aggregate-survey-measured
-slice-aggregate-survey-measured c = search needs
+slice-aggregate-found-of-all-2 : tie.Need-slice-aggregate-found-of-all-2
+slice-aggregate-found-of-all-2 c = search needs
 
-slice-aggregate-survey-measured-2 : tie.Need-slice-aggregate-survey-measured-2
-slice-aggregate-survey-measured-2 c = search needs
+slice-aggregate-found-of-all-3 : tie.Need-slice-aggregate-found-of-all-3
+slice-aggregate-found-of-all-3 c = search needs
 
-slice-aggregate-survey-measured-3 : tie.Need-slice-aggregate-survey-measured-3
-slice-aggregate-survey-measured-3 c = search needs
+slice-aggregate-found-of-all-4 : tie.Need-slice-aggregate-found-of-all-4
+slice-aggregate-found-of-all-4 c = search needs
 
-slice-aggregate-survey-measured-4 : tie.Need-slice-aggregate-survey-measured-4
-slice-aggregate-survey-measured-4 c = search needs
+slice-aggregate-found-of-all-5 : tie.Need-slice-aggregate-found-of-all-5
+slice-aggregate-found-of-all-5 c = search needs
 
-survey-measured-requires : tie.Need-survey-measured-requires
-survey-measured-requires c κs =
-    let i = c .before .before .before .before .before .before .before .before in
-    let m = i .before .before .before .before .before in
-    let s = m .before .before .before .before .before in
-    let a = s .args in
-    let t = tablesOf (a .spec-nodes .now) (a .spec-edges .now) (a .impl-nodes .now) (a .impl-edges .now) (a .root-pairs .now) (a .leaf-pairs .now) in (
-      s .pre .0,
-      s .pre .1,
+found-of-all-requires : tie.Need-found-of-all-requires
+found-of-all-requires c κs =
+    let q = c .before .before .before .before .before .before .before in
+    let p = q .before .before .before in
+    let s = planned (q .before) in (
+      record {
+        inputs = s .pre .0 .inputs;
+        few = s .pre .1;
+        spec = p .plan-graph .ensures .0;
+        specLeads = p .plan-graph .ensures .1;
+        impl = q .plan-graph2 .ensures .0;
+        implLeads = q .plan-graph2 .ensures .1;
+        specRoom = length-replicate {A = ℤ} stateRoom (pos 0);
+        implRoom = length-replicate {A = ℤ} stateRoom (pos 0);
+        spareRoom = search needs;
+      },
       s .pre .2,
-      s .pre .3,
-      tables-measured t (replicate (2 * maxNodes) (pos 0)) (replicate maxEdges (pos 0)) (replicate (2 * maxNodes) (pos 0)) (replicate maxEdges (pos 0))
-          (m .measure .ensures .0) (m .measure .ensures .1) (i .measure2 .ensures .0) (i .measure2 .ensures .1),
     )
+
+up-to-requires : tie.Need-up-to-requires
+up-to-requires c κs = search needs
 
 same-length : tie.Need-same-length
 same-length c = search needs
 
-same-length-2 : tie.Need-same-length-2
-same-length-2 c = search needs
-
 returns : tie.Need-returns
-returns c = search needs
+returns c = rw (c .up-to .ensures) (survey-up-to (c .before .before .before .before .before .found-of-all .ensures))
 
 pub survey-spec : {M : Type 1} → statement M
 survey-spec =
     tie.close
     (tie.spec
-    slice-aggregate-measure
-    slice-aggregate-measure-2
-    measure-requires
-    slice-aggregate-measure-3
-    slice-aggregate-measure-4
-    measure-requires-2
-    slice-aggregate-survey-measured
-    slice-aggregate-survey-measured-2
-    slice-aggregate-survey-measured-3
-    slice-aggregate-survey-measured-4
-    survey-measured-requires
+    slice-aggregate-plan-graph
+    plan-graph-requires
+    slice-aggregate-plan-graph-2
+    plan-graph-requires-2
+    slice-aggregate-found-of-all
+    slice-aggregate-found-of-all-2
+    slice-aggregate-found-of-all-3
+    slice-aggregate-found-of-all-4
+    slice-aggregate-found-of-all-5
+    found-of-all-requires
+    up-to-requires
     same-length
-    same-length-2
     returns)

@@ -19,13 +19,13 @@ tables s =
 
 -- the comparison, of which few enough rows are counted, as it is known before and after the report is written
 abbrev few-of : tie.After-table-report-arg → tie.Else1
-few-of a = a .before .before .before .before .before .before
+few-of a = a .before .before .before .before .before
 
 abbrev compared-of : tie.Else1 → tie.After-compare-lines
-compared-of e = e .before .before .before .before
+compared-of e = e .before .before .before
 
 abbrev start : tie.After-compare-lines → tie.Start
-start k = k .before .before .before .before
+start k = k .before .before .before
 
 -- what it promises
 promise : (e : tie.Else1) → let k = compared-of e in ComparePromise (tables (start k)) (k .compare-lines .result .compared)
@@ -34,14 +34,11 @@ promise e = compared-of e .compare-lines .ensures .compared (e .if1 .left)
 slice-aggregate-compare-lines : tie.Need-slice-aggregate-compare-lines
 slice-aggregate-compare-lines c = search needs
 
-slice-aggregate-compare-lines-2 : tie.Need-slice-aggregate-compare-lines-2
-slice-aggregate-compare-lines-2 c = search needs
-
 compare-lines-requires : tie.Need-compare-lines-requires
 compare-lines-requires c κs = search needs
 
 returns : tie.Need-returns
-returns c = let k = c .before .before .before .before in
+returns c = let k = c .before .before .before in
     let t = tables (start k) in
     let p = k .compare-lines .ensures in
     let taken = p .taken (c .if1 .taken) in
@@ -56,18 +53,14 @@ enum-known-compared-2 c = search needs
 slice-aggregate-table-report : tie.Need-slice-aggregate-table-report
 slice-aggregate-table-report c = search needs
 
-slice-aggregate-table-report-2 : tie.Need-slice-aggregate-table-report-2
-slice-aggregate-table-report-2 c = search needs
-
 table-report-requires : tie.Need-table-report-requires
 table-report-requires c κs = let few = few-of c in
     let k = compared-of few in
-    let e = c .before .before .before .before .compared2 .given .1 in
+    let e = c .before .before .before .compared2 .given .1 in
     let t = tables (start k) in (
       record {
         taken = outcome-taken t (promise few) e;
         room = omega (arith, k .compare-lines .kept .1 .1 .1 .1 .1 .1 .1 .0);
-        spareRoom = omega (arith, k .compare-lines .kept .1 .1 .1 .1 .1 .1 .1 .0, k .compare-lines .kept .1 .1 .1 .1 .1 .1 .1 .1 .0);
       },
       outcome-result t (promise few) e,
       k .compare-lines .ensures .lined (few .if1 .left) .held _ (ap comparedAnswer e),
@@ -85,9 +78,9 @@ same-length : tie.Need-same-length
 same-length c = search needs
 
 returns-3 : tie.Need-returns-3
-returns-3 c = let p = c .before .before .before .before .before in
+returns-3 c = let p = c .before .before .before .before in
     let few = few-of (p .before) in
-    let e = p .before .before .before .before .before .compared2 .given .1 in
+    let e = p .before .before .before .before .compared2 .given .1 in
     outcome-written (tables (start (compared-of few))) (promise few) e (p .table-report .result) (c .outcome-of .result) (p .table-report .ensures .0)
     (p .table-report .ensures .1) (c .outcome-of .ensures)
 
@@ -96,13 +89,11 @@ check-tables-spec =
     tie.close
     (tie.spec
     slice-aggregate-compare-lines
-    slice-aggregate-compare-lines-2
     compare-lines-requires
     returns
     enum-known-compared
     enum-known-compared-2
     slice-aggregate-table-report
-    slice-aggregate-table-report-2
     table-report-requires
     outcome-of-requires
     returns-2

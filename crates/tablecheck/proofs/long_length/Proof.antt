@@ -17,14 +17,13 @@ use Rattle.tablecheck.proofs.long_length.Statement.{statement}
 use Rattle.tablecheck.proofs.long_length.Tie as tie
 
 abbrev Inv-loop : tie.InvT-loop
-Inv-loop spec-nodes spec-edges impl-nodes impl-edges root-pairs leaf-pairs lines₀ spare₀ room rows total₀ from₀ lines spare total from =
+Inv-loop spec-nodes spec-edges impl-nodes impl-edges root-pairs leaf-pairs lines₀ room rows total₀ from₀ lines total from =
     (from ≤ rows)
     × (total ≡ measured room (total₀ + length (linesUpTo (tablesOf spec-nodes spec-edges impl-nodes impl-edges root-pairs leaf-pairs) from)))
     × (length lines ≡ length lines₀)
-    × (length spare ≡ length spare₀)
 
 abbrev μ-loop : tie.MeasureT-loop
-μ-loop spec-nodes spec-edges impl-nodes impl-edges root-pairs leaf-pairs lines₀ spare₀ room rows total₀ from₀ lines spare total from =
+μ-loop spec-nodes spec-edges impl-nodes impl-edges root-pairs leaf-pairs lines₀ room rows total₀ from₀ lines total from =
     rows - from
 
 abbrev tables : tie.Start Inv-loop μ-loop → Tables
@@ -59,7 +58,7 @@ module _ (l : tie.At-loop Inv-loop μ-loop) where
 
 -- what is known once the lines of a part are held
 abbrev loop-of : tie.After-lines-between Inv-loop μ-loop → tie.At-loop Inv-loop μ-loop
-loop-of b = b .before .before .before .before .before .before
+loop-of b = b .before .before .before .before .before
 
 module _ (b : tie.After-lines-between Inv-loop μ-loop) where
   lines-room : lineWidth * lineRoom ≤ length (b .lines-between .last .1 .1 .1 .1 .1 .1 .1 .1 .0)
@@ -68,27 +67,24 @@ module _ (b : tie.After-lines-between Inv-loop μ-loop) where
   held-small : SmallLines (b .lines-between .last .1 .1 .1 .1 .1 .1 .1 .1 .0) (b .lines-between .result)
   held-small =
       let s = start (loop-of b) in
-      part-small (tables s) (s .pre .0 .taken) lines-room (b .before .before .before .part-end .ensures) (b .lines-between .ensures)
+      part-small (tables s) (s .pre .0 .taken) lines-room (b .before .before .part-end .ensures) (b .lines-between .ensures)
 
-  held-length : length (linesUpTo (tables (start (loop-of b))) (b .before .before .before .part-end .result))
+  held-length : length (linesUpTo (tables (start (loop-of b))) (b .before .before .part-end .result))
       ≡ length (linesUpTo (tables (start (loop-of b))) (loop-of b .loop .from))
       + length (linesOf (rowsOf (b .lines-between .last .1 .1 .1 .1 .1 .1 .1 .1 .0) (b .lines-between .result)))
   held-length =
       let s = start (loop-of b) in
-      part-length (tables s) (s .pre .0 .taken) lines-room (b .before .before .before .part-end .ensures) (b .lines-between .ensures)
+      part-length (tables s) (s .pre .0 .taken) lines-room (b .before .before .part-end .ensures) (b .lines-between .ensures)
 
 report-length-requires : tie.Need-report-length-requires Inv-loop μ-loop
 report-length-requires c κs = let s = c .before in (small-none (s .args .lines .now), taken-result-small (tables s) (s .pre .0 .taken) (s .pre .1), s .pre .2)
 
 loop-holds : tie.Need-loop-holds Inv-loop μ-loop
 loop-holds c = let s = c .before .before in
-    (omega arith, omega (arith, c .report-length .ensures, ap length (lines-start (tables s))), refl, refl)
+    (omega arith, omega (arith, c .report-length .ensures, ap length (lines-start (tables s))), refl)
 
 same-length : tie.Need-same-length Inv-loop μ-loop
 same-length c = c .before .before .loop .inv .2
-
-same-length-2 : tie.Need-same-length-2 Inv-loop μ-loop
-same-length-2 c = c .before .before .loop .inv .3
 
 returns : tie.Need-returns Inv-loop μ-loop
 returns c = let l = c .before .before in omega (arith, l .loop .inv .1, total-all l, lines-bound (tables (start l)) (l .loop .from) (from-within l))
@@ -103,38 +99,34 @@ part-end-requires c κs = let l = c .before .before in
     }
 
 lines-between-requires : tie.Need-lines-between-requires Inv-loop μ-loop
-lines-between-requires c κs = let e = c .before .before in
+lines-between-requires c κs = let e = c .before in
     let l = e .before .before .before in
     let s = start l in
-    (s .pre .0 .taken, omega (arith, e .part-end .ensures .later), omega (arith, e .part-end .ensures .within, row-count s), omega (arith, l .loop .inv .2, l .loop .inv .3, s .pre .0 .spareRoom))
+    (s .pre .0 .taken, omega (arith, e .part-end .ensures .later), omega (arith, e .part-end .ensures .within, row-count s))
 
 lines-length-requires : tie.Need-lines-length-requires Inv-loop μ-loop
-lines-length-requires c κs = let b = c .before .before .before in (held-small b, omega arith, omega (arith, start (loop-of b) .pre .2))
+lines-length-requires c κs = let b = c .before .before in (held-small b, omega arith, omega (arith, start (loop-of b) .pre .2))
 
 add-total : tie.Need-add-total Inv-loop μ-loop
-add-total c = let b = c .before .before .before .before in
-    omega (arith, c .lines-length .ensures, b .before .before .before .before .if1 .left, start (loop-of b) .pre .2)
+add-total c = let b = c .before .before .before in
+    omega (arith, c .lines-length .ensures, b .before .before .before .if1 .left, start (loop-of b) .pre .2)
 
 loop-less : tie.Need-loop-less Inv-loop μ-loop
-loop-less c = let e = c .before .before .before .before .before .before .before in
+loop-less c = let e = c .before .before .before .before .before in
     omega (arith, e .part-end .ensures .later, e .before .before .loop-test .taken)
 
 loop-again : tie.Need-loop-again Inv-loop μ-loop
-loop-again c = let b = c .before .before .before .before in
-    let e = b .before .before .before in
+loop-again c = let b = c .before .before .before in
+    let e = b .before .before in
     let l = loop-of b in
     let s = start l in (
       omega (arith, e .part-end .ensures .within, row-count s),
       omega (arith, c .lines-length .ensures, e .before .if1 .left, l .loop .inv .1, held-length b),
       b .lines-between .kept .1 .1 .1 .1 .1 .1 .1 .1 .0 ∙ l .loop .inv .2,
-      b .lines-between .kept .1 .1 .1 .1 .1 .1 .1 .1 .1 .0 ∙ l .loop .inv .3,
     )
 
-same-length-3 : tie.Need-same-length-3 Inv-loop μ-loop
-same-length-3 c = c .before .loop .inv .2
-
-same-length-4 : tie.Need-same-length-4 Inv-loop μ-loop
-same-length-4 c = c .before .loop .inv .3
+same-length-2 : tie.Need-same-length-2 Inv-loop μ-loop
+same-length-2 c = c .before .loop .inv .2
 
 returns-2 : tie.Need-returns-2 Inv-loop μ-loop
 returns-2 c = let l = c .before in omega (arith, l .loop .inv .1, total-all l, ap length (lines-end (tables (start l)) (l .loop .from) (omega (arith, row-count (start l)))))
@@ -148,7 +140,6 @@ long-length-spec =
     report-length-requires
     loop-holds
     same-length
-    same-length-2
     returns
     part-end-requires
     lines-between-requires
@@ -156,6 +147,5 @@ long-length-spec =
     add-total
     loop-less
     loop-again
-    same-length-3
-    same-length-4
+    same-length-2
     returns-2)

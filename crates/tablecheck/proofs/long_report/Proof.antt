@@ -19,16 +19,15 @@ abbrev report : tie.Start → Bytes
 report s = model.report (findings (tables s))
 
 abbrev start : tie.After-long-length → tie.Start
-start k = k .before .before .before .before
+start k = k .before .before .before
 
 -- the work space keeps its sizes
-still : (k : tie.After-long-length) → Reportable (tables (start k)) (k .long-length .last .1 .1 .1 .1 .1 .1 .1 .0) (k .long-length .last .1 .1 .1 .1 .1 .1 .1 .1 .0)
+still : (k : tie.After-long-length) → Reportable (tables (start k)) (k .long-length .last .1 .1 .1 .1 .1 .1 .1 .0)
 still k =
     let s = start k in
     record {
       taken = s .pre .0 .taken;
       room = omega (arith, s .pre .0 .room, k .long-length .kept .1 .1 .1 .1 .1 .1 .1 .0);
-      spareRoom = omega (arith, s .pre .0 .spareRoom, k .long-length .kept .1 .1 .1 .1 .1 .1 .1 .0, k .long-length .kept .1 .1 .1 .1 .1 .1 .1 .1 .0);
     }
 
 long-length-requires : tie.Need-long-length-requires
@@ -37,32 +36,26 @@ long-length-requires c κs = search needs
 same-length : tie.Need-same-length
 same-length c = search needs
 
-same-length-2 : tie.Need-same-length-2
-same-length-2 c = search needs
-
 returns : tie.Need-returns
-returns c = let k = c .before .before .before in
+returns c = let k = c .before .before in
     let s = start k in
     output-long (report s) (s .args .out .now) (omega (arith, k .long-length .ensures, c .if1 .taken))
 
 put-long-requires : tie.Need-put-long-requires
-put-long-requires c κs = let e = c .before .before .before in
-    let k = e .before .before .before in
+put-long-requires c κs = let e = c .before .before in
+    let k = e .before .before in
     (still k, start k .pre .1, omega (arith, k .long-length .ensures, e .if1 .left))
+
+same-length-2 : tie.Need-same-length-2
+same-length-2 c = search needs
 
 same-length-3 : tie.Need-same-length-3
 same-length-3 c = search needs
 
-same-length-4 : tie.Need-same-length-4
-same-length-4 c = search needs
-
-same-length-5 : tie.Need-same-length-5
-same-length-5 c = search needs
-
 returns-2 : tie.Need-returns-2
-returns-2 c = let p = c .before .before .before .before in
-    let e = p .before .before .before .before in
-    let k = e .before .before .before in
+returns-2 c = let p = c .before .before .before in
+    let e = p .before .before .before in
+    let k = e .before .before in
     let s = start k in
     output-written (report s) (s .args .out .now) (omega (arith, k .long-length .ensures, e .if1 .left)) (p .put-long .ensures)
 
@@ -72,10 +65,8 @@ long-report-spec =
     (tie.spec
     long-length-requires
     same-length
-    same-length-2
     returns
     put-long-requires
+    same-length-2
     same-length-3
-    same-length-4
-    same-length-5
     returns-2)

@@ -17,14 +17,13 @@ use Rattle.tablecheck.proofs.put_parts.Statement.{statement}
 use Rattle.tablecheck.proofs.put_parts.Tie as tie
 
 abbrev Inv-loop : tie.InvT-loop
-Inv-loop spec-nodes spec-edges impl-nodes impl-edges root-pairs leaf-pairs lines₀ spare₀ out₀ rows at₀ from₀ lines spare out at from =
+Inv-loop spec-nodes spec-edges impl-nodes impl-edges root-pairs leaf-pairs lines₀ out₀ rows at₀ from₀ lines out at from =
     (from ≤ rows)
     × Put (linesUpTo (tablesOf spec-nodes spec-edges impl-nodes impl-edges root-pairs leaf-pairs) from) out₀ out at
     × (length lines ≡ length lines₀)
-    × (length spare ≡ length spare₀)
 
 abbrev μ-loop : tie.MeasureT-loop
-μ-loop spec-nodes spec-edges impl-nodes impl-edges root-pairs leaf-pairs lines₀ spare₀ out₀ rows at₀ from₀ lines spare out at from =
+μ-loop spec-nodes spec-edges impl-nodes impl-edges root-pairs leaf-pairs lines₀ out₀ rows at₀ from₀ lines out at from =
     rows - from
 
 abbrev tables : tie.Start Inv-loop μ-loop → Tables
@@ -46,7 +45,7 @@ kept l =
 
 -- what is known once the lines of a part are held
 abbrev loop-of : tie.After-lines-between Inv-loop μ-loop → tie.At-loop Inv-loop μ-loop
-loop-of b = b .before .before .before .before .before
+loop-of b = b .before .before .before .before
 
 module _ (b : tie.After-lines-between Inv-loop μ-loop) where
   lines-room : lineWidth * lineRoom ≤ length (b .lines-between .last .1 .1 .1 .1 .1 .1 .1 .1 .0)
@@ -55,13 +54,13 @@ module _ (b : tie.After-lines-between Inv-loop μ-loop) where
   held-small : SmallLines (b .lines-between .last .1 .1 .1 .1 .1 .1 .1 .1 .0) (b .lines-between .result)
   held-small =
       let s = start (loop-of b) in
-      part-small (tables s) (s .pre .0 .taken) lines-room (b .before .before .before .part-end .ensures) (b .lines-between .ensures)
+      part-small (tables s) (s .pre .0 .taken) lines-room (b .before .before .part-end .ensures) (b .lines-between .ensures)
 
   -- there is room for them
   room : loop-of b .loop .at + length (linesOf (rowsOf (b .lines-between .last .1 .1 .1 .1 .1 .1 .1 .1 .0) (b .lines-between .result)))
       ≤ length (start (loop-of b) .args .out .now)
   room =
-      let e = b .before .before .before in
+      let e = b .before .before in
       let l = loop-of b in
       let s = start l in
       omega (
@@ -73,7 +72,7 @@ module _ (b : tie.After-lines-between Inv-loop μ-loop) where
       )
 
 loop-holds : tie.Need-loop-holds Inv-loop μ-loop
-loop-holds c = let s = c .before in (omega arith, rw (lines-start (tables s)) (put-none (s .args .out .now)), refl, refl)
+loop-holds c = let s = c .before in (omega arith, rw (lines-start (tables s)) (put-none (s .args .out .now)), refl)
 
 part-end-requires : tie.Need-part-end-requires Inv-loop μ-loop
 part-end-requires c κs =
@@ -86,58 +85,54 @@ part-end-requires c κs =
 
 lines-between-requires : tie.Need-lines-between-requires Inv-loop μ-loop
 lines-between-requires c κs =
-    let e = c .before .before in
+    let e = c .before in
     let l = e .before .before in
     let s = start l in
-    (s .pre .0 .taken, omega (arith, e .part-end .ensures .later), omega (arith, e .part-end .ensures .within, row-count s), omega (arith, l .loop .inv .2, l .loop .inv .3, s .pre .0 .spareRoom))
+    (s .pre .0 .taken, omega (arith, e .part-end .ensures .later), omega (arith, e .part-end .ensures .within, row-count s))
 
 sub-put-lines : tie.Need-sub-put-lines Inv-loop μ-loop
-sub-put-lines c = let b = c .before .before in omega (arith, room b, kept (loop-of b))
+sub-put-lines c = let b = c .before in omega (arith, room b, kept (loop-of b))
 
 part-put-lines-start : tie.Need-part-put-lines-start Inv-loop μ-loop
-part-put-lines-start c = let b = c .before .before in omega (arith, room b, kept (loop-of b))
+part-put-lines-start c = let b = c .before in omega (arith, room b, kept (loop-of b))
 
 part-put-lines-end : tie.Need-part-put-lines-end Inv-loop μ-loop
 part-put-lines-end c = search needs
 
 put-lines-requires : tie.Need-put-lines-requires Inv-loop μ-loop
 put-lines-requires c κs =
-    let b = c .before .before .before .before in
+    let b = c .before .before .before in
     let l = loop-of b in
     (held-small b, rw (tail-length (l .loop .out) (l .loop .at)) (omega (arith, room b, kept l)))
 
 add-at : tie.Need-add-at Inv-loop μ-loop
 add-at c =
     let p = c .before .before in
-    let b = p .before .before .before .before .before in
-    omega (arith, p .put-lines .ensures .count, room b, start (loop-of b) .good .1 .1 .1 .1 .1 .1 .1 .1 .0 .0)
+    let b = p .before .before .before .before in
+    omega (arith, p .put-lines .ensures .count, room b, start (loop-of b) .good .1 .1 .1 .1 .1 .1 .1 .0 .0)
 
 loop-less : tie.Need-loop-less Inv-loop μ-loop
 loop-less c =
-    let e = c .before .before .before .before .before .before .before .before .before .before in
+    let e = c .before .before .before .before .before .before .before .before in
     omega (arith, e .part-end .ensures .later, e .before .loop-test .taken)
 
 loop-again : tie.Need-loop-again Inv-loop μ-loop
 loop-again c =
     let p = c .before .before in
-    let b = p .before .before .before .before .before in
-    let e = b .before .before .before in
+    let b = p .before .before .before .before in
+    let e = b .before .before in
     let l = loop-of b in
     let s = start l in (
       omega (arith, e .part-end .ensures .within, row-count s),
       rw (part-lines (tables s) (s .pre .0 .taken) (lines-room b) (e .part-end .ensures) (b .lines-between .ensures)) (put-tail (l .loop .inv .1) (p .put-lines .ensures)),
       b .lines-between .kept .1 .1 .1 .1 .1 .1 .1 .1 .0 ∙ l .loop .inv .2,
-      b .lines-between .kept .1 .1 .1 .1 .1 .1 .1 .1 .1 .0 ∙ l .loop .inv .3,
     )
 
 same-length : tie.Need-same-length Inv-loop μ-loop
 same-length c = c .before .loop .inv .2
 
 same-length-2 : tie.Need-same-length-2 Inv-loop μ-loop
-same-length-2 c = c .before .loop .inv .3
-
-same-length-3 : tie.Need-same-length-3 Inv-loop μ-loop
-same-length-3 c = kept (c .before)
+same-length-2 c = kept (c .before)
 
 returns : tie.Need-returns Inv-loop μ-loop
 returns c =
@@ -163,5 +158,4 @@ put-parts-spec =
     loop-again
     same-length
     same-length-2
-    same-length-3
     returns)

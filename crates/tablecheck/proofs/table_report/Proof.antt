@@ -47,9 +47,6 @@ same-length-3 c = search needs
 same-length-4 : tie.Need-same-length-4
 same-length-4 c = search needs
 
-same-length-5 : tie.Need-same-length-5
-same-length-5 c = search needs
-
 returns-2 : tie.Need-returns-2
 returns-2 c = search needs
 
@@ -64,5 +61,4 @@ table-report-spec =
     long-report-requires
     same-length-3
     same-length-4
-    same-length-5
     returns-2)

@@ -12,9 +12,9 @@ use Rattle.totals.proofs.with_place.Tie as tie
 returns : tie.Need-returns
 unfolding placed
 returns c =
-    let s = c .before .before .before in
-    let fits : SFits w64 (s .args .found .address) = search needs in
-    rw (toZ-ofZ fits, lt-ltb (s .args .place) (s .args .t .key) (c .before .if1 .taken)) refl
+    let s = c .before .before in
+    let fits : SFits w64 (s .args .address) = search needs in
+    rw (toZ-ofZ fits, lt-ltb (s .args .place) (s .args .t .key) (c .if1 .taken)) refl
 
 returns-2 : tie.Need-returns-2
 unfolding placed

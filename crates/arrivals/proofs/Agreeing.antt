@@ -1,0 +1,129 @@
+-- A sweep's state depends on the numbers before the free part of the arena alone.
+use mathlib.Core.Path.{_≡_, refl, sym, ap, _∙_, subst}
+use mathlib.Core.List.{List, _++_, map}
+use Prim.Native.Nat.{ℕ, zero, suc, _+_, _*_, _≤_, _<_}
+use native.Mathlib.Omega.{arith}
+use lib.IntN.{ℤ, pos, natAbs}
+use lib.Signed.{leZ}
+use lib.ListN.{length, getD, take, drop}
+use lib.Seq.{getD-take, getD-drop, length-take-le}
+use lib.ListN.{List·getD-append}
+use Rattle.integers.proofs.Linear.{ints}
+use Rattle.model.specs.Limits.{maxNodes}
+use Rattle.model.specs.Rows.{nodeRows}
+use Rattle.model.specs.Graph.{Graph, graphOf, NodeRow, node}
+use Rattle.model.specs.Taken.{TakenTables}
+use Rattle.tables.proofs.Rows.{nodes-length}
+use Rattle.sorting.specs.declared.Row.{Row}
+use Rattle.sorting.specs.Rows.{rowsOf, numbersOf}
+use Rattle.normalisation.specs.Merging.{ofDisplacement}
+use Rattle.listing.specs.Listing.{Appended}
+use Rattle.listing.proofs.Appending.{append-length}
+use Rattle.references.specs.References.{recordsAt}
+use Rattle.arrivals.specs.State.{usedAt, arenaRow, markNumber, isMet, referenceAt, isListed, placeOf, countOf, usedIn, rootIn}
+use Rattle.arrivals.specs.Sweep.{Listed, Sweeping}
+use Rattle.arrivals.proofs.Relisting.{listed-moved, relisted-sweeping}
+
+-- two states of one length that have the same numbers in front of row n
+pub record Agree (n : ℕ) (s t : List ℤ) : Type 0 where
+  pub long : length t ≡ length s
+  pub same : (j : ℕ) → j < 3 * n → getD t j (pos 0) ≡ getD s j (pos 0)
+
+-- what agrees in front of a row agrees in front of a row before
+pub agree-less : {n m : ℕ} {s t : List ℤ} → m ≤ n → Agree n s t → Agree m s t
+agree-less h a = record { long = a .long; same = λ j k. a .same j (omega (arith, h, k)) }
+
+pub agree-trans : {n : ℕ} {s t u : List ℤ} → Agree n s t → Agree n t u → Agree n s u
+agree-trans a b = record { long = b .long ∙ a .long; same = λ j k. b .same j k ∙ a .same j k }
+
+-- the root and the used part are the same
+pub agree-root : {n : ℕ} {s t : List ℤ} → arenaRow ≤ n → Agree n s t → rootIn t ≡ rootIn s
+agree-root h a = a .same 12001 (omega (arith, h))
+
+pub agree-used : {n : ℕ} {s t : List ℤ} → arenaRow ≤ n → Agree n s t → usedIn t ≡ usedIn s
+agree-used h a = ap natAbs (a .same 12000 (omega (arith, h)))
+
+-- rows that have the same numbers are the same
+rows-agree : (n : ℕ) (s t : List ℤ) → ((j : ℕ) → j < 3 * n → getD t j (pos 0) ≡ getD s j (pos 0)) → rowsOf t n ≡ rowsOf s n
+unfolding rowsOf
+rows-agree zero s t e = refl
+rows-agree (suc n) s t e =
+    let p = e 0 (omega arith) in
+    let q = e 1 (omega arith) in
+    let r = e 2 (omega arith) in
+    let rest = rows-agree n (drop 3 s) (drop 3 t) (λ j h. getD-drop 3 t j (pos 0) ∙ e (3 + j) (omega (arith, h)) ∙ sym (getD-drop 3 s j (pos 0))) in
+    rw (p, q, r, rest) refl
+
+-- so are records in front of the row
+pub agree-records : {n : ℕ} {s t : List ℤ} (p c : ℕ) → p + c ≤ n → Agree n s t → recordsAt t p c ≡ recordsAt s p c
+agree-records {n} {s} {t} p c h a =
+    ap (map ofDisplacement)
+    (rows-agree c (drop (3 * p) s) (drop (3 * p) t)
+    (λ j k. getD-drop (3 * p) t j (pos 0) ∙ a .same (3 * p + j) (omega (arith, h, k)) ∙ sym (getD-drop (3 * p) s j (pos 0))))
+
+-- rows appended behind the first n leave what stands in front
+pub appended-agrees : {rows : List Row} {s t : List ℤ} {n m : ℕ} → 3 * (n + length rows) ≤ length s → Appended rows s t n m → Agree n s t
+appended-agrees {rows} {s} {t} {n} k a =
+    record {
+      long = append-length k a;
+      same = λ j h.
+          ap (λ l. getD l j (pos 0)) (a .numbers)
+          ∙ List·getD-append (take (3 * n) s) (numbersOf rows ++ drop (3 * (n + length rows)) s) (pos 0) j
+          (omega (arith, h, length-take-le (3 * n) s (omega (arith, k))))
+          ∙ getD-take (3 * n) s j (pos 0) h;
+    }
+
+-- ---- the facts of a sweep
+
+module _ {n : ℕ} {s t : List ℤ} (low : arenaRow ≤ n) (a : Agree n s t) where
+  mark-agrees : (v k : ℕ) → v < maxNodes → k < 6 → markNumber t v k ≡ markNumber s v k
+  mark-agrees v k h j = a .same (6 * v + k) (omega (arith, h, j, low))
+
+  -- the mark of a node is the same
+  pub met-agrees : (v : ℕ) → v < maxNodes → isMet t v ≡ isMet s v
+  met-agrees v h = ap (leZ (pos 0)) (mark-agrees v 0 h (omega arith))
+
+  pub reference-agrees : (v : ℕ) → v < maxNodes → referenceAt t v ≡ referenceAt s v
+  reference-agrees v h =
+      rw (mark-agrees v 0 h (omega arith), mark-agrees v 1 h (omega arith), mark-agrees v 2 h (omega arith), mark-agrees v 3 h (omega arith)) refl
+
+  pub listed-agrees : (v : ℕ) → v < maxNodes → isListed t v ≡ isListed s v
+  listed-agrees v h = ap (leZ (pos 0)) (mark-agrees v 4 h (omega arith))
+
+  place-agrees : (v : ℕ) → v < maxNodes → placeOf t v ≡ placeOf s v
+  place-agrees v h = ap natAbs (mark-agrees v 4 h (omega arith))
+
+  -- so is its list, where it lies in front of the row
+  list-agrees : {g : Graph} {r : ℤ} (v : ℕ) → v < maxNodes → usedIn s ≤ n → Listed g r s v → Listed g r t v
+  list-agrees v h u l =
+      listed-moved (place-agrees v h) (mark-agrees v 5 h (omega arith)) (omega (arith, agree-used low a))
+      (agree-records (placeOf s v) (countOf s v) (omega (arith, l .within, u)) a) l
+
+-- a node row of taken tables is one of 2,000
+pub row-few : {ns es : List ℤ} {v : ℕ} → TakenTables ns es → NodeRow (graphOf ns es) (pos v) → v < maxNodes
+unfolding graphOf
+row-few {ns} {es} {v} w r = let h = w .nodes .few in omega (arith, ints, r .high, nodes-length ns)
+
+pub rows-few : {ns es : List ℤ} {v : ℕ} → TakenTables ns es → v < length (nodeRows ns) → v < maxNodes
+rows-few {ns} {es} {v} w r = let h = w .nodes .few in omega (arith, r, nodes-length ns)
+
+-- a state that agrees in front of the free part is swept as far
+pub sweeping-agrees : {ns es : List ℤ} {plan : List ℕ} {i : ℕ} {s t : List ℤ} → Sweeping ns es plan i s → Agree (usedIn s) s t → Sweeping ns es plan i t
+sweeping-agrees {ns} {es} {s} {t} w a =
+    let low = w .usedLow in
+    let used = agree-used low a in
+    let few : (v : ℕ) → v < length (nodeRows ns) → v < maxNodes = λ v h. rows-few (w .tables) h in
+    relisted-sweeping
+    (record {
+      long = a .long;
+      root = agree-root low a;
+      references = λ v h. reference-agrees low a v (few v h);
+      usedNumber = ap pos used ∙ w .usedNumber ∙ sym (a .same usedAt (omega (arith, low)));
+      usedLow = omega (arith, low, used);
+      usedHigh = omega (arith, w .usedHigh, used);
+      rootListed = λ r q.
+          listed-agrees low a r (row-few (w .tables) (subst (NodeRow (graphOf ns es)) (sym q) (w .root .row))) ∙ w .rootListed r q;
+      listed = λ v h m l.
+          list-agrees low a v (few v h) (omega arith) (w .marks v h .listed m (sym (listed-agrees low a v (few v h)) ∙ l));
+    })
+    w

@@ -1,0 +1,9 @@
+pub mod Marks
+pub mod Moves
+pub mod Relisting
+pub mod Agreeing
+pub mod Settled
+pub mod Gathering
+pub mod Passing
+pub mod Keeping
+pub mod Answering

@@ -1,0 +1,87 @@
+-- The steps of a sweep, case by case.
+use mathlib.Core.Path.{_≡_, sym, ap, subst}
+use mathlib.Core.Bool.{true, false}
+use mathlib.Core.List.{List, [], _∷_}
+use mathlib.Core.Option.{none}
+use Prim.Native.Nat.{ℕ, _+_, _*_, _≤_, _<_}
+use native.Mathlib.Omega.{arith}
+use borrow.Author.Tests.{lt-ltb, le-ltb}
+use lib.IntN.{ℤ, pos, negsuc, natAbs}
+use lib.ListN.{length, set}
+use Rattle.model.specs.Graph.{Graph, NodeRow, graphOf, bitOffset}
+use Rattle.tables.specs.Tables.{edgeAt}
+use Rattle.listing.specs.Listing.{Appended}
+use Rattle.steps.specs.Steps.{GoodRow}
+use Rattle.steps.proofs.Rows.{node-good, edge-in}
+use Rattle.references.specs.declared.Reference.{Reference as Held}
+use Rattle.references.specs.References.{Reference, referenceOf, own, through, unlessNone, sameReference}
+use Rattle.arrivals.specs.State.{arenaRow, keptRows, usedAt, rootAt, setMark, marked, isMet, referenceAt}
+use Rattle.arrivals.specs.Moves.{Crossable, crossing, meeting, storing, begun}
+
+-- the owner of all that arrives at v is v
+pub own-owner : {r : Held} (g : Graph) {v : ℕ} → referenceOf r ≡ own g (pos v) → r .owner ≡ v
+own-owner g e = ap (λ (f : Reference). natAbs (f .owner)) e
+
+-- ---- over an edge
+
+module _ {ns es : List ℤ} {e : ℕ} {f : Reference} {s : List ℤ} (x : Crossable ns es e f s) where
+  -- the node that the edge leaves is a node row
+  pub from-row : NodeRow (graphOf ns es) (edgeAt es e .from)
+  from-row = x .tables .graph .ends (edgeAt es e) (edge-in ns es e (x .there)) .0
+
+  module _ {u : ℕ} (from : pos u ≡ edgeAt es e .from) where
+    -- it has a mark in the state
+    pub from-marked : 6 * u + 6 ≤ length s
+    from-marked =
+        let good : GoodRow ns u = node-good (x .tables) (subst (NodeRow (graphOf ns es)) (sym from) from-row) in
+        omega (arith, good .there, x .tables .nodes .few, x .marks)
+
+    -- where nothing has arrived there, nothing comes over the edge
+    pub crossing-none : isMet s u ≡ false → crossing (graphOf ns es) (edgeAt es e) f s ≡ none
+    crossing-none n = rw (← from, n)
+
+    -- else what f takes of what has arrived
+    pub crossing-some : {o : ℤ} → o ≡ bitOffset (graphOf ns es) (edgeAt es e) → isMet s u ≡ true
+        → crossing (graphOf ns es) (edgeAt es e) f s ≡ unlessNone (through o f (referenceAt s u))
+    crossing-some p y = rw (p, ← from, y)
+
+-- ---- a reference met
+
+module _ (s : List ℤ) (v : ℕ) (all f : Reference) where
+  -- at a node where nothing had arrived it is kept
+  pub meeting-first : isMet s v ≡ false → meeting s v all f ≡ setMark s v (marked f (negsuc 0) (pos 0))
+  meeting-first n = rw n
+
+  -- the same again changes nothing
+  pub meeting-same : isMet s v ≡ true → sameReference (referenceAt s v) f ≡ true → meeting s v all f ≡ s
+  meeting-same y e = rw (y, e)
+
+  -- of another one the node is its own owner
+  pub meeting-other : isMet s v ≡ true → sameReference (referenceAt s v) f ≡ false → meeting s v all f ≡ setMark s v (marked all (negsuc 0) (pos 0))
+  meeting-other y n = rw (y, n)
+
+-- ---- rows kept
+
+module _ (all : Reference) (v used k : ℕ) (s : List ℤ) where
+  -- rows that do not fit are not kept
+  pub storing-full : arenaRow + keptRows < used + k → storing all v used k s ≡ setMark s v (marked all (negsuc 1) (pos 0))
+  storing-full h = rw (lt-ltb (arenaRow + keptRows) (used + k) h)
+
+  -- rows that fit are
+  pub storing-kept : used + k ≤ arenaRow + keptRows
+      → storing all v used k s ≡ set (setMark s v (marked all (pos used) (pos k))) usedAt (pos (used + k))
+  storing-kept h = rw (le-ltb (arenaRow + keptRows) (used + k) h)
+
+  -- as they are stored number by number
+  pub rows-stored : {t : List ℤ} {held : Reference} {place count behind : ℤ} → t ≡ setMark s v (marked held place count) → held ≡ all → place ≡ pos used
+      → count ≡ pos k → behind ≡ pos (used + k) → used + k ≤ arenaRow + keptRows → set t usedAt behind ≡ storing all v used k s
+  rows-stored m a p c b h = cc (storing-kept h)
+
+-- ---- the root
+
+-- its mark, its row, and the two numbers behind the marks are the state with the root marked
+pub root-stored : (all : Reference) (root : ℕ) (s : List ℤ) {t u : List ℤ} {held : Reference} {place low high used last : ℤ} {r : ℕ}
+    → t ≡ setMark s root (marked held place (pos 1)) → held ≡ all → place ≡ pos arenaRow → low ≡ all .low → high ≡ all .high
+    → Appended (record { first = pos 0; second = low; third = high } ∷ []) t u arenaRow r → used ≡ pos (arenaRow + 1) → last ≡ pos root
+    → set (set u usedAt used) rootAt last ≡ begun all root s
+root-stored all root s m a p f e b n l = let numbers = b .numbers in cc

@@ -1,0 +1,31 @@
+-- The number read fits an i64, so that its bits stand for it.
+use mathlib.Core.Path.{ap, _∙_}
+use Prim.Native.Nat.{_*_}
+use borrow.Author.Needs.{needs, sfits-of}
+use lib.IntN.{pos}
+use lib.Signed.{leZ}
+use lib.ListN.{getD}
+use mir.Val.{SFits}
+use mir.Facts.{toZ-ofZ}
+use mir.Syntax.{w64}
+use Rattle.arrivals.proofs.Marks.{owner-number}
+use Rattle.arrivals.proofs.is_met.Statement.{statement}
+use Rattle.arrivals.proofs.is_met.Tie as tie
+
+mul-owner : tie.Need-mul-owner
+mul-owner c = search needs
+
+mul-owner-2 : tie.Need-mul-owner-2
+mul-owner-2 c = search needs
+
+shared-slice-copy-out-owner : tie.Need-shared-slice-copy-out-owner
+shared-slice-copy-out-owner c = search needs
+
+returns : tie.Need-returns
+returns c =
+    let s = c .before in
+    let fits : SFits w64 (getD (s .args .state .now) (6 * s .args .v) (pos 0)) = sfits-of {w = w64} (c .owner .given) in
+    ap (leZ (pos 0)) (toZ-ofZ fits ∙ owner-number (s .args .state .now) (s .args .v))
+
+pub is-met-spec : {M : Type 1} → statement M
+is-met-spec = tie.close (tie.spec mul-owner mul-owner-2 shared-slice-copy-out-owner returns)

@@ -1,0 +1,111 @@
+-- The invariant: the state is swept from the root over the first i edges of the plan. The measure is the edges left.
+use mathlib.Core.Path.{_≡_, refl, sym, subst, _∙_}
+use Prim.Native.Nat.{ℕ, _-_, _≤_}
+use native.Mathlib.Omega.{arith}
+use lib.IntN.{pos}
+use lib.ListN.{length}
+use Rattle.model.specs.Rows.{nodeRows}
+use Rattle.tables.proofs.Rows.{nodes-length}
+use Rattle.steps.proofs.Rows.{node-good}
+use Rattle.forward.specs.Forward.{passedCount}
+use Rattle.arrivals.specs.State.{rootIn}
+use Rattle.arrivals.specs.Sweep.{Sweeping}
+use Rattle.arrivals.specs.Moves.{Blank}
+use Rattle.arrivals.proofs.Agreeing.{row-few}
+use Rattle.arrivals.proofs.Passing.{start-root, sweeping-start}
+use Rattle.arrivals.proofs.sweep_root.Statement.{statement}
+use Rattle.arrivals.proofs.sweep_root.Tie as tie
+
+abbrev Inv-loop : tie.InvT-loop
+Inv-loop nodes edges plan root state₀ spare₀ count i₀ state spare i =
+    Sweeping nodes edges plan i state × (rootIn state ≡ pos root) × (i ≤ count) × (length spare ≡ length spare₀)
+
+abbrev μ-loop : tie.MeasureT-loop
+μ-loop nodes edges plan root state₀ spare₀ count i₀ state spare i = count - i
+
+-- the entry of the function, from the loop
+abbrev start : tie.At-loop Inv-loop μ-loop → tie.Start Inv-loop μ-loop
+start l = l .before .before .before .before .before .before .before .before .before
+
+clear-marks-requires : tie.Need-clear-marks-requires Inv-loop μ-loop
+clear-marks-requires c κs = let s = c .before .before in omega (arith, s .pre .room, s .pre .tables .nodes .few)
+
+start-root-requires : tie.Need-start-root-requires Inv-loop μ-loop
+start-root-requires c κs =
+    let m = c .before .before in
+    let s = m .before .before .before in
+    let row = s .pre .start .row in
+    (node-good (s .pre .tables) row, row-few (s .pre .tables) row, m .clear-marks .kept .0 ∙ s .pre .room)
+
+passed-count-requires : tie.Need-passed-count-requires Inv-loop μ-loop
+passed-count-requires c κs = c .before .before .before .before .before .before .before .pre .planned .room
+
+loop-holds : tie.Need-loop-holds Inv-loop μ-loop
+loop-holds c =
+    let k = c .before .before in
+    let m = k .before .before .before in
+    let s = m .before .before .before in
+    let cleared = m .clear-marks .last .0 in
+    let room = m .clear-marks .kept .0 ∙ s .pre .room in
+    let blank : Blank (length (nodeRows (s .args .nodes .now))) cleared =
+    subst (λ (n : ℕ). Blank n cleared) (sym (nodes-length (s .args .nodes .now))) (m .clear-marks .ensures) in
+    rw (k .start-root .ensures (s .args .edges .now))
+    (sweeping-start (s .pre) cleared room blank, start-root (s .pre) cleared room blank, omega arith, refl)
+
+pass-edge-requires : tie.Need-pass-edge-requires Inv-loop μ-loop
+pass-edge-requires c κs =
+    let i = c .before .before in
+    let l = i .before in
+    let s = start l in
+    record {
+      sweeping = l .loop .inv .0;
+      there = omega (arith, i .loop-test .taken, l .before .passed-count .ensures);
+      spareRoom = omega (arith, l .loop .inv .3, s .pre .spareRoom);
+    }
+
+add-i : tie.Need-add-i Inv-loop μ-loop
+add-i c = omega arith
+
+loop-less : tie.Need-loop-less Inv-loop μ-loop
+loop-less c = omega arith
+
+loop-again : tie.Need-loop-again Inv-loop μ-loop
+loop-again c =
+    let a = c .before .before in
+    let i = a .before .before .before in
+    let l = i .before in
+    (a .pass-edge .ensures .0, a .pass-edge .ensures .1 ∙ l .loop .inv .1, omega (arith, i .loop-test .taken), a .pass-edge .kept .1 .1 .1 .1 .1 .0 ∙ l .loop .inv .3)
+
+same-length : tie.Need-same-length Inv-loop μ-loop
+same-length c = let l = c .before in l .loop .inv .0 .room ∙ sym (start l .pre .room)
+
+same-length-2 : tie.Need-same-length-2 Inv-loop μ-loop
+same-length-2 c = c .before .loop .inv .3
+
+returns : tie.Need-returns Inv-loop μ-loop
+returns c =
+    let l = c .before in
+    let s = start l in
+    let all : l .loop .i ≡ passedCount (s .args .plan .now) = omega (arith, c .loop-test .left, l .loop .inv .2, l .before .passed-count .ensures) in
+    record {
+      from = l .loop .inv .1;
+      state = subst (λ (n : ℕ). Sweeping (s .args .nodes .now) (s .args .edges .now) (s .args .plan .now) n (l .loop .state)) all (l .loop .inv .0);
+    }
+
+pub sweep-root-spec : {M : Type 1} → statement M
+sweep-root-spec =
+    tie.close
+    (tie.spec
+    Inv-loop
+    μ-loop
+    clear-marks-requires
+    start-root-requires
+    passed-count-requires
+    loop-holds
+    pass-edge-requires
+    add-i
+    loop-less
+    loop-again
+    same-length
+    same-length-2
+    returns)

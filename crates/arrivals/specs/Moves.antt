@@ -1,0 +1,91 @@
+-- What the steps of a sweep ask and leave. Assumes nothing.
+use mathlib.Core.Path.{_≡_}
+use mathlib.Core.Bool.{Bool, true, false, cond}
+use mathlib.Core.List.{List, [], _∷_, _++_}
+use mathlib.Core.Option.{Option, none}
+use Prim.Native.Nat.{ℕ, _+_, _*_, _≤_, _<_, _^_}
+use lib.Dec.{ltb}
+use lib.IntN.{ℤ, pos, negsuc, natAbs}
+use lib.ListN.{length, set, take, drop}
+use Rattle.model.specs.Limits.{edgeWidth, maxNodes, maxPaths}
+use Rattle.model.specs.Rows.{Edge, nodeRows}
+use Rattle.model.specs.Graph.{Graph, graphOf, bitOffset}
+use Rattle.model.specs.Taken.{TakenTables}
+use Rattle.tables.specs.Tables.{edgeAt}
+use Rattle.reach.specs.Counting.{pathCount}
+use Rattle.steps.specs.Steps.{GoodRow}
+use Rattle.sorting.specs.Rows.{numbersOf}
+use Rattle.forward.specs.Forward.{passedCount}
+use Rattle.references.specs.References.{Reference, through, unlessNone, Small, sameReference}
+use Rattle.arrivals.specs.State.{markWidth, usedAt, rootAt, arenaRow, keptRows, stateRoom, setMark, marked, isMet, referenceAt, rootIn}
+use Rattle.arrivals.specs.Sweep.{Covered, doneOf, Sweeping}
+
+-- ---- over an edge
+
+-- an edge row of taken tables and a reference whose bit addresses are small, as are those of the node that the edge leaves, where something has arrived
+pub record Crossable (ns es : List ℤ) (e : ℕ) (f : Reference) (s : List ℤ) : Type 0 where
+  pub tables : TakenTables ns es
+  pub there : edgeWidth * e + edgeWidth ≤ length es
+  pub small : Small f
+  pub marks : markWidth * maxNodes ≤ length s
+  pub source : (u : ℕ) → pos u ≡ edgeAt es e .from → isMet s u ≡ true → Small (referenceAt s u)
+
+-- what comes over an edge of what f takes of the node entered: nothing where nothing has arrived at the node left
+abbrev pub crossing : Graph → Edge → Reference → List ℤ → Option Reference
+crossing g e f s =
+    cond (isMet s (natAbs (e .from))) (unlessNone (through (bitOffset g e) f (referenceAt s (natAbs (e .from))))) none
+
+-- ---- marks
+
+-- the state once reference f has come to node v, where `all` is the reference to all that arrives at v: kept where v had none or the same, else v is its own
+-- owner, without a list
+abbrev pub meeting : List ℤ → ℕ → Reference → Reference → List ℤ
+meeting s v all f =
+    cond (isMet s v) (cond (sameReference (referenceAt s v) f) s (setMark s v (marked all (negsuc 0) (pos 0))))
+    (setMark s v (marked f (negsuc 0) (pos 0)))
+
+-- k rows from row `used` on may become the list of node v
+pub record Storable (ns : List ℤ) (v used k : ℕ) (s : List ℤ) : Type 0 where
+  pub good : GoodRow ns v
+  pub row : v < maxNodes
+  pub room : length s ≡ stateRoom
+  pub few : used + k < 2 ^ 62
+
+-- the state with k rows from row `used` on as the list of v, where they fit; else v has no list
+abbrev pub storing : Reference → ℕ → ℕ → ℕ → List ℤ → List ℤ
+storing all v used k s =
+    cond (ltb (arenaRow + keptRows) (used + k)) (setMark s v (marked all (negsuc 1) (pos 0)))
+    (set (setMark s v (marked all (pos used) (pos k))) usedAt (pos (used + k)))
+
+-- a marked node all of whose entering edges are passed, with at most 1,024 paths to it, and room for a list
+pub record Ownable (ns es : List ℤ) (plan : List ℕ) (v : ℕ) (s spare : List ℤ) : Type 0 where
+  pub passed : ℕ
+  pub sweeping : Sweeping ns es plan passed s
+  pub row : v < length (nodeRows ns)
+  pub met : isMet s v ≡ true
+  pub covered : Covered es (doneOf es plan passed) (pos v)
+  pub few : pathCount (graphOf ns es) (rootIn s) (pos v) ≤ maxPaths
+  pub spareRoom : 3 * maxPaths ≤ length spare
+
+-- a list of v may have been made: v is still marked, and the state is what it was after as many edges
+pub record Kept (ns es : List ℤ) (plan : List ℕ) (v : ℕ) (old new : List ℤ) : Type 0 where
+  pub met : isMet new v ≡ true
+  pub root : rootIn new ≡ rootIn old
+  pub sweeping : (i : ℕ) → Sweeping ns es plan i old → Sweeping ns es plan i new
+
+-- the next edge of the plan is there, and room for a list
+pub record Passable (ns es : List ℤ) (plan : List ℕ) (i : ℕ) (s spare : List ℤ) : Type 0 where
+  pub sweeping : Sweeping ns es plan i s
+  pub there : i < passedCount plan
+  pub spareRoom : 3 * maxPaths ≤ length spare
+
+-- nothing has arrived at any of the first n nodes
+abbrev pub Blank : ℕ → List ℤ → Type 0
+Blank n s = (v : ℕ) → v < n → isMet s v ≡ false
+
+-- the state with the root marked: all its bits, whose list is one record, the first row of the arena
+abbrev pub begun : Reference → ℕ → List ℤ → List ℤ
+begun all root s =
+    let t = setMark s root (marked all (pos arenaRow) (pos 1)) in
+    set (set (take (3 * arenaRow) t ++ (numbersOf (record { first = pos 0; second = all .low; third = all .high } ∷ []) ++ drop (3 * arenaRow + 3) t))
+    usedAt (pos (arenaRow + 1))) rootAt (pos root)

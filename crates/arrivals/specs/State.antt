@@ -1,0 +1,94 @@
+-- The work space of a sweep, one slice of numbers: a mark for each node, and the arena, in which the lists of owners are kept. Assumes nothing.
+use mathlib.Core.Bool.{Bool}
+use mathlib.Core.List.{List}
+use Prim.Native.Nat.{ℕ, _+_, _*_}
+use lib.IntN.{ℤ, pos, natAbs}
+use lib.Signed.{leZ}
+use lib.ListN.{getD, set}
+use Rattle.model.specs.Limits.{maxNodes, maxPaths}
+use Rattle.references.specs.References.{Reference}
+
+-- numbers of a mark
+abbrev pub markWidth : ℕ
+markWidth = 6
+
+-- behind the marks: from which row on the arena is free, and the root
+abbrev pub usedAt : ℕ
+usedAt = markWidth * maxNodes
+
+abbrev pub rootAt : ℕ
+rootAt = markWidth * maxNodes + 1
+
+-- rows are counted from the front of the slice, three numbers a row: the first of the arena, and how many are kept at most. Behind these there is room for
+-- the rows of one list
+abbrev pub arenaRow : ℕ
+arenaRow = 4001
+
+abbrev pub keptRows : ℕ
+keptRows = 2048
+
+abbrev pub stateRoom : ℕ
+stateRoom = 3 * (arenaRow + keptRows + maxPaths)
+
+-- the mark of a node: its reference, and the first row and the number of records of its list. The owner is −1 where nothing has arrived, and the row
+-- below 0 where no list is kept
+pub record Mark : Type 0 where
+  pub owner : ℤ
+  pub delta : ℤ
+  pub low : ℤ
+  pub high : ℤ
+  pub place : ℤ
+  pub count : ℤ
+
+-- number k of the mark of node v
+abbrev pub markNumber : List ℤ → ℕ → ℕ → ℤ
+markNumber s v k = getD s (markWidth * v + k) (pos 0)
+
+-- the mark of node v
+abbrev pub markAt : List ℤ → ℕ → Mark
+markAt s v =
+    record {
+      owner = markNumber s v 0;
+      delta = markNumber s v 1;
+      low = markNumber s v 2;
+      high = markNumber s v 3;
+      place = markNumber s v 4;
+      count = markNumber s v 5;
+    }
+
+-- the state with m as the mark of node v
+abbrev pub setMark : List ℤ → ℕ → Mark → List ℤ
+setMark s v m =
+    set (set (set (set (set (set s (markWidth * v + 0) (m .owner)) (markWidth * v + 1) (m .delta)) (markWidth * v + 2) (m .low))
+    (markWidth * v + 3) (m .high)) (markWidth * v + 4) (m .place)) (markWidth * v + 5) (m .count)
+
+-- something has arrived at v
+abbrev pub isMet : List ℤ → ℕ → Bool
+isMet s v = leZ (pos 0) (markNumber s v 0)
+
+-- the reference of node v
+abbrev pub referenceAt : List ℤ → ℕ → Reference
+referenceAt s v = record { owner = markNumber s v 0; delta = markNumber s v 1; low = markNumber s v 2; high = markNumber s v 3 }
+
+-- a mark with this reference, place and count
+abbrev pub marked : Reference → ℤ → ℤ → Mark
+marked f place count = record { owner = f .owner; delta = f .delta; low = f .low; high = f .high; place = place; count = count }
+
+-- a list is kept of node v
+abbrev pub isListed : List ℤ → ℕ → Bool
+isListed s v = leZ (pos 0) (markNumber s v 4)
+
+-- first row and number of records of the list of v
+abbrev pub placeOf : List ℤ → ℕ → ℕ
+placeOf s v = natAbs (markNumber s v 4)
+
+abbrev pub countOf : List ℤ → ℕ → ℕ
+countOf s v = natAbs (markNumber s v 5)
+
+-- the row from which on the arena is free
+abbrev pub usedIn : List ℤ → ℕ
+usedIn s = natAbs (getD s usedAt (pos 0))
+
+-- the root
+abbrev pub rootIn : List ℤ → ℤ
+rootIn s = getD s rootAt (pos 0)

@@ -1,0 +1,362 @@
+// What arrives at each node of a graph from a root. A node that is entered in one way has a reference to the arrivals of a node before it; a node where
+// unlike references meet is its own owner, and its list is made once and kept in an arena of fixed size. Where the arena has no room, the rows of such a
+// node are gathered through the edges that enter it. Which lists are kept is a free choice: nothing is promised of it.
+ghost use mathlib.Core.Path.{_≡_};
+ghost use mathlib.Core.List.{List};
+ghost use mathlib.Core.Bool.{true};
+ghost use Prim.Native.Nat.{_+_, _*_, _≤_, _<_};
+ghost use lib.IntN.{ℤ, pos};
+ghost use lib.Signed.{_≤ℤ_};
+ghost use lib.ListN.{length, getD};
+ghost use Rattle.model.specs.Limits.{maxNodes};
+ghost use Rattle.model.specs.Graph.{graphOf};
+ghost use Rattle.tables.specs.Tables.{edgeAt};
+ghost use Rattle.steps.specs.Steps.{GoodRow};
+ghost use Rattle.references.specs.References.{referenceOf, own, broughtOf};
+ghost use Rattle.arrivals.specs.State.{usedAt, stateRoom, setMark, marked, markNumber, isMet, referenceAt, isListed, placeOf, usedIn, rootIn};
+ghost use Rattle.arrivals.specs.Sweep.{Sweeping, Gatherable, Gathered, Sweepable, Swept, Askable, Answered};
+ghost use Rattle.arrivals.specs.Moves.{Crossable, crossing, meeting, Storable, storing, Ownable, Kept, Passable, Blank, begun};
+use forward::first_entering;
+use forward::next_entering;
+use forward::passed_count;
+use forward::passed_row;
+use listing::append_row;
+use model::Bits;
+use model::EDGE_WIDTH;
+use model::MAX_CHAIN;
+use model::NODE_WIDTH;
+use normalisation::merge_rows;
+use references::Brought;
+use references::Reference;
+use references::gather_list;
+use references::own_reference;
+use references::same_reference;
+use references::shifted;
+use references::through;
+use sorting::Row;
+use tables::edge_from;
+use tables::edge_to;
+
+// Numbers of a mark, and of a row.
+const MARK_WIDTH: usize = 6;
+
+const ROW_WIDTH: usize = 3;
+
+// Behind the marks: from which row on the arena is free, and the root.
+const USED_AT: usize = 12000;
+
+const ROOT_AT: usize = 12001;
+
+// The first row of the arena, and the row behind those that are kept.
+const ARENA_ROW: usize = 4001;
+
+const KEPT_END: usize = 6049;
+
+// The numbers of a state.
+pub const STATE_ROOM: usize = 21219;
+
+// No node; no list yet; no list, since there is no room for it.
+const NO_OWNER: i64 = -1;
+
+const NOT_LISTED: i64 = -1;
+
+const NO_ROOM: i64 = -2;
+
+// Whether anything has arrived at node v.
+fn is_met(state: &[i64], v: usize) -> bool
+    requires { ⌜ 6 * v + 6 ≤ length (now state) ⌝ }
+    ensures { λ r. ⌜ r ≡ isMet (now (state .entry)) v ⌝ }
+{
+    let owner = state[MARK_WIDTH * v];
+    0 <= owner
+}
+
+// The reference of node v.
+fn reference_at(state: &[i64], v: usize) -> Reference
+    requires { ⌜ (6 * v + 6 ≤ length (now state)) × (isMet (now state) v ≡ true) ⌝ }
+    ensures { λ r. ⌜ referenceOf r ≡ referenceAt (now (state .entry)) v ⌝ }
+{
+    let owner = state[MARK_WIDTH * v];
+    let delta = state[MARK_WIDTH * v + 1];
+    let low = state[MARK_WIDTH * v + 2];
+    let high = state[MARK_WIDTH * v + 3];
+    Reference {
+        owner: owner as usize,
+        delta: Bits::of(delta),
+        low: Bits::of(low),
+        high: Bits::of(high),
+    }
+}
+
+// The first row of the list of node v: below 0 where none is kept.
+fn place_at(state: &[i64], v: usize) -> i64
+    requires { ⌜ 6 * v + 6 ≤ length (now state) ⌝ }
+    ensures { λ r. ⌜ r ≡ markNumber (now (state .entry)) v 4 ⌝ }
+{
+    let place = state[MARK_WIDTH * v + 4];
+    place
+}
+
+// Whether a list is kept of node v.
+fn is_listed(state: &[i64], v: usize) -> bool
+    requires { ⌜ 6 * v + 6 ≤ length (now state) ⌝ }
+    ensures { λ r. ⌜ r ≡ isListed (now (state .entry)) v ⌝ }
+{
+    let place = state[MARK_WIDTH * v + 4];
+    0 <= place
+}
+
+// The first row of the list that is kept of node v.
+fn first_row(state: &[i64], v: usize) -> usize
+    requires { ⌜ (6 * v + 6 ≤ length (now state)) × (isListed (now state) v ≡ true) ⌝ }
+    ensures { λ r. ⌜ r ≡ placeOf (now (state .entry)) v ⌝ }
+{
+    let place = state[MARK_WIDTH * v + 4];
+    place as usize
+}
+
+// How many records the list of node v has.
+fn count_at(state: &[i64], v: usize) -> usize
+    requires { ⌜ (6 * v + 6 ≤ length (now state)) × (pos 0 ≤ℤ markNumber (now state) v 5) ⌝ }
+    ensures { λ r. ⌜ pos r ≡ markNumber (now (state .entry)) v 5 ⌝ }
+{
+    let count = state[MARK_WIDTH * v + 5];
+    count as usize
+}
+
+// Stores the mark of node v.
+fn put_mark(state: &mut [i64], v: usize, f: Reference, place: i64, count: i64)
+    requires { ⌜ (6 * v + 6 ≤ length (now state)) × (f .owner < maxNodes) ⌝ }
+    ensures { λ _. ⌜ now (state .exit) ≡ setMark (now (state .entry)) v (marked (referenceOf f) place count) ⌝ }
+{
+    let delta = f.delta;
+    let low = f.low;
+    let high = f.high;
+    let shift = delta.0;
+    let first = low.0;
+    let last = high.0;
+    state[MARK_WIDTH * v] = f.owner as i64;
+    state[MARK_WIDTH * v + 1] = shift;
+    state[MARK_WIDTH * v + 2] = first;
+    state[MARK_WIDTH * v + 3] = last;
+    state[MARK_WIDTH * v + 4] = place;
+    state[MARK_WIDTH * v + 5] = count;
+}
+
+// The row from which on the arena is free.
+pub fn used_row(state: &[i64]) -> usize
+    requires { ⌜ (usedAt < length (now state)) × (pos 0 ≤ℤ getD (now state) usedAt (pos 0)) ⌝ }
+    ensures { λ r. ⌜ r ≡ usedIn (now (state .entry)) ⌝ }
+{
+    let used = state[USED_AT];
+    used as usize
+}
+
+// What comes over edge e of what f takes of the node that it enters, where something has arrived at the node that it leaves.
+fn brought_over(nodes: &[i64], edges: &[i64], e: usize, f: Reference, state: &[i64]) -> Brought
+    requires { ⌜ Crossable (now nodes) (now edges) e (referenceOf f) (now state) ⌝ }
+    ensures { λ r. ⌜ broughtOf r ≡ crossing (graphOf (now (nodes .entry)) (now (edges .entry))) (edgeAt (now (edges .entry)) e) (referenceOf f) (now (state .entry)) ⌝ }
+{
+    let from = edge_from(edges, e);
+    if !is_met(state, from) {
+        return Brought::Nothing;
+    }
+    let u = reference_at(state, from);
+    through(f, u, steps::offset_of(nodes, edges, e))
+}
+
+// Gathers the rows of what a reference brings, behind the first n rows, over at most `left` edges: from the list of its owner where one is kept, else through
+// the edges that enter the owner. Returns how many rows stand there then.
+fn gather(
+    nodes: &[i64],
+    edges: &[i64],
+    plan: &[usize],
+    f: Reference,
+    left: usize,
+    state: &mut [i64],
+    n: usize,
+) -> usize
+    requires { ⌜ Gatherable (now nodes) (now edges) (now plan) (referenceOf f) left (now state) n ⌝ }
+    ensures { λ r. ⌜
+        Gathered (graphOf (now (nodes .entry)) (now (edges .entry))) (rootIn (now (state .entry))) (referenceOf f) (now (state .entry)) (now (state .exit)) n r ⌝ }
+{
+    let owner = f.owner;
+    if is_listed(state, owner) {
+        return gather_list(state, first_row(state, owner), count_at(state, owner), f, n);
+    }
+    if left == 0 {
+        return n;
+    }
+    let rows = edges.len() / EDGE_WIDTH;
+    let mut m = n;
+    let mut e = first_entering(plan, owner);
+    while e < rows {
+        let brought = brought_over(nodes, edges, e, f, state);
+        if let Brought::Left(part) = brought {
+            m = gather(nodes, edges, plan, part, left - 1, state, m);
+        }
+        e = next_entering(plan, e);
+    }
+    m
+}
+
+// Keeps k rows from row `used` on as the list of node v, where they fit.
+fn keep_rows(nodes: &[i64], v: usize, used: usize, k: usize, state: &mut [i64])
+    requires { ⌜ Storable (now nodes) v used k (now state) ⌝ }
+    ensures { λ _. ⌜ ((es : List ℤ) → now (state .exit) ≡ storing (own (graphOf (now (nodes .entry)) es) (pos v)) v used k (now (state .entry))) ⌝ }
+{
+    let all = own_reference(nodes, v);
+    if KEPT_END < used + k {
+        put_mark(state, v, all, NO_ROOM, 0);
+        return;
+    }
+    put_mark(state, v, all, used as i64, k as i64);
+    state[USED_AT] = (used + k) as i64;
+}
+
+// Makes the list of a node that is its own owner and has none yet, and keeps it where there is room.
+fn keep_list(
+    nodes: &[i64],
+    edges: &[i64],
+    plan: &[usize],
+    v: usize,
+    state: &mut [i64],
+    spare: &mut [i64],
+)
+    requires { ⌜ Ownable (now nodes) (now edges) (now plan) v (now state) (now spare) ⌝ }
+    ensures { λ _. ⌜ Kept (now (nodes .entry)) (now (edges .entry)) (now (plan .entry)) v (now (state .entry)) (now (state .exit)) ⌝ }
+{
+    let reference = reference_at(state, v);
+    if reference.owner != v {
+        return;
+    }
+    if place_at(state, v) != NOT_LISTED {
+        return;
+    }
+    let used = used_row(state);
+    let n = gather(nodes, edges, plan, reference, MAX_CHAIN, state, used);
+    let k = merge_rows(&mut state[ROW_WIDTH * used..], n - used, spare);
+    keep_rows(nodes, v, used, k, state);
+}
+
+// Marks node v with what has come to it: where something else had come before, v is its own owner.
+fn meet(nodes: &[i64], v: usize, f: Reference, state: &mut [i64])
+    requires { ⌜ GoodRow (now nodes) v × (v < maxNodes) × (6 * v + 6 ≤ length (now state)) × (f .owner < maxNodes) ⌝ }
+    ensures { λ _. ⌜ ((es : List ℤ) → now (state .exit) ≡ meeting (now (state .entry)) v (own (graphOf (now (nodes .entry)) es) (pos v)) (referenceOf f)) ⌝ }
+{
+    if !is_met(state, v) {
+        put_mark(state, v, f, NOT_LISTED, 0);
+        return;
+    }
+    if same_reference(reference_at(state, v), f) {
+        return;
+    }
+    put_mark(state, v, own_reference(nodes, v), NOT_LISTED, 0);
+}
+
+// Passes edge i of the plan: what has arrived at the node that it leaves comes to the node that it enters.
+fn pass_edge(
+    nodes: &[i64],
+    edges: &[i64],
+    plan: &[usize],
+    i: usize,
+    state: &mut [i64],
+    spare: &mut [i64],
+)
+    requires { ⌜ Passable (now nodes) (now edges) (now plan) i (now state) (now spare) ⌝ }
+    ensures { λ _. ⌜
+        Sweeping (now (nodes .entry)) (now (edges .entry)) (now (plan .entry)) (i + 1) (now (state .exit))
+        × (rootIn (now (state .exit)) ≡ rootIn (now (state .entry))) ⌝ }
+{
+    let e = passed_row(plan, i);
+    let from = edge_from(edges, e);
+    if !is_met(state, from) {
+        return;
+    }
+    keep_list(nodes, edges, plan, from, state, spare);
+    let to = edge_to(edges, e);
+    let brought = brought_over(nodes, edges, e, own_reference(nodes, to), state);
+    if let Brought::Left(part) = brought {
+        meet(nodes, to, part, state);
+    }
+}
+
+// Marks the first `count` nodes with nothing.
+fn clear_marks(state: &mut [i64], count: usize)
+    requires { ⌜ 6 * count ≤ length (now state) ⌝ }
+    ensures { λ _. ⌜ Blank count (now (state .exit)) ⌝ }
+{
+    let mut v: usize = 0;
+    while v < count {
+        state[MARK_WIDTH * v] = NO_OWNER;
+        v += 1;
+    }
+}
+
+// Marks the root with all its bits, whose list is one record, and stores which node it is.
+fn start_root(nodes: &[i64], root: usize, state: &mut [i64])
+    requires { ⌜ GoodRow (now nodes) root × (root < maxNodes) × (length (now state) ≡ stateRoom) ⌝ }
+    ensures { λ _. ⌜ ((es : List ℤ) → now (state .exit) ≡ begun (own (graphOf (now (nodes .entry)) es) (pos root)) root (now (state .entry))) ⌝ }
+{
+    let all = own_reference(nodes, root);
+    let low = all.low;
+    let high = all.high;
+    put_mark(state, root, all, ARENA_ROW as i64, 1);
+    let used = append_row(
+        state,
+        ARENA_ROW,
+        Row {
+            first: 0,
+            second: low.0,
+            third: high.0,
+        },
+    );
+    state[USED_AT] = used as i64;
+    state[ROOT_AT] = root as i64;
+}
+
+// Sweeps a graph from a root: every node that leads to a paired leaf is marked with what arrives at it.
+pub fn sweep_root(
+    nodes: &[i64],
+    edges: &[i64],
+    plan: &[usize],
+    root: usize,
+    state: &mut [i64],
+    spare: &mut [i64],
+)
+    requires { ⌜ Sweepable (now nodes) (now edges) (now plan) root (now state) (now spare) ⌝ }
+    ensures { λ _. ⌜ Swept (now (nodes .entry)) (now (edges .entry)) (now (plan .entry)) root (now (state .exit)) ⌝ }
+{
+    clear_marks(state, nodes.len() / NODE_WIDTH);
+    start_root(nodes, root, state);
+    let count = passed_count(plan);
+    let mut i: usize = 0;
+    while i < count {
+        pass_edge(nodes, edges, plan, i, state, spare);
+        i += 1;
+    }
+}
+
+// Lists the bitmapping list of the root that the state is swept from and a leaf, behind the used part of the arena: rows by displacement, sorted. Returns how
+// many records it has. What stands in `spare` afterwards is space that was worked in.
+pub fn list_at(
+    nodes: &[i64],
+    edges: &[i64],
+    plan: &[usize],
+    leaf: usize,
+    state: &mut [i64],
+    spare: &mut [i64],
+) -> usize
+    requires { ⌜ Askable (now nodes) (now edges) (now plan) leaf (now state) (now spare) ⌝ }
+    ensures { λ r. ⌜
+        Answered (now (nodes .entry)) (now (edges .entry)) (now (plan .entry)) leaf (now (state .entry)) (now (state .exit)) r ⌝ }
+{
+    if !is_met(state, leaf) {
+        return 0;
+    }
+    let all = own_reference(nodes, leaf);
+    let part = shifted(reference_at(state, leaf), all.low);
+    let used = used_row(state);
+    let n = gather(nodes, edges, plan, part, MAX_CHAIN, state, used);
+    merge_rows(&mut state[ROW_WIDTH * used..], n - used, spare)
+}

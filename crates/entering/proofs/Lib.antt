@@ -1,0 +1,4 @@
+pub mod Sums
+pub mod Ways
+pub mod Walks
+pub mod Counts

@@ -1,0 +1,16 @@
+-- The edges that enter a node. Assumes nothing.
+use mathlib.Core.Bool.{Bool}
+use mathlib.Core.List.{List}
+use lib.IntN.{ℤ}
+use Rattle.integers.specs.Integers.{eqZ}
+use Rattle.lists.specs.Lists.{keep}
+use Rattle.model.specs.Rows.{Edge}
+use Rattle.model.specs.Graph.{Graph}
+
+-- the edge enters v
+unfoldable pub enters : ℤ → Edge → Bool
+enters v e = eqZ (e .to) v
+
+-- the edges that enter v
+unfoldable pub entering : Graph → ℤ → List Edge
+entering g v = keep (enters v) (g .edges)

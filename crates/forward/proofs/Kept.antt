@@ -1,0 +1,162 @@
+-- The edge rows that enter a marked node, stored from the last of the order to the first.
+use mathlib.Core.Path.{_≡_, refl, sym, ap, subst, _∙_}
+use mathlib.Core.Bool.{Bool, true, false, cond}
+use mathlib.Core.List.{List, [], _∷_, _++_, reverse, reverse-cons}
+use mathlib.Core.Logic.{_≢_}
+use Prim.Native.Nat.{ℕ, suc, _+_, _/_, _≤_, _<_}
+use native.Mathlib.Omega.{arith}
+use lib.Dec.{ltb}
+use lib.IntN.{ℤ, pos, natAbs}
+use lib.ListN.{length, getD, set, take, drop, length-take, length-drop, length-map, length-append, length-reverse}
+use lib.Seq.{sets, length-sets, drop-cons, drop-length, getD-take}
+use Rattle.integers.proofs.Tests.{ltb?, is-true, is-false, of-test, test-of}
+use Rattle.lists.specs.Lists.{_∈_, keep}
+use Rattle.lists.proofs.Kept.{keep-length}
+use Rattle.lists.proofs.Membership.{map-out}
+use Rattle.model.specs.Rows.{edgeRows}
+use Rattle.model.proofs.Paths.{edges-distinct}
+use Rattle.tables.specs.Tables.{edgeAt}
+use Rattle.tables.proofs.Rows.{getD-in, nodes-length, edges-length, edge-own}
+use Rattle.depth.specs.Order.{edgeOrder}
+use Rattle.depth.proofs.Stores.{sets-more}
+use Rattle.reach.proofs.Pass.{order-cut, cut-length}
+use Rattle.reach.proofs.Ends.{Ends, edge-ends, to-below}
+use Rattle.forward.specs.Forward.{countAt}
+use Rattle.forward.specs.Passes.{Passable, entersMarked, leadingRows, planWith}
+
+-- ---- the rows in front of the order
+
+module _ {es : List ℤ} {order : List ℕ} {count : ℕ} (p : Passable es order count) where
+  -- there is one for each edge
+  pub front-length : length (take (length (edgeRows es)) order) ≡ length es / 3
+  front-length =
+      ap length (p .backward)
+      ∙ length-map (edgeOrder (edgeRows es)) (λ e. e .row)
+      ∙ cut-length (edges-distinct es) (order-cut (p .nodes) es (p .tables))
+      ∙ edges-length es
+
+  -- each is an edge row
+  pub front-row : {r : ℕ} → r ∈ take (length (edgeRows es)) order → r < length es / 3
+  front-row {r} m =
+      let w = map-out (λ e. e .row) (edgeOrder (edgeRows es)) (subst (λ (l : List ℕ). r ∈ l) (p .backward) m) in
+      omega (arith, w .2, edge-own es (order-cut (p .nodes) es (p .tables) .ahead-in (w .0) (w .1)) .0)
+
+  module _ (i : ℕ) (h : i < length es / 3) where
+    -- what stands there is what the code reads
+    pub front-at : getD (take (length (edgeRows es)) order) i 0 ≡ getD order i 0
+    front-at = getD-take (length (edgeRows es)) order i 0 (omega (arith, edges-length es))
+
+    -- within the order
+    pub order-within : i < length order
+    order-within = omega (arith, front-length, length-take (length (edgeRows es)) order)
+
+    -- the ends of its edge are nodes
+    pub order-ends : Ends (p .nodes) es (getD order i 0)
+    order-ends =
+        edge-ends (p .nodes) es (p .tables) (getD order i 0)
+        (rw (← front-at) (front-row (getD-in (take (length (edgeRows es)) order) i 0 (omega (arith, front-length)))))
+
+    -- the node that it enters has a mark
+    pub order-marked : (to : ℕ) → pos to ≡ edgeAt es (getD order i 0) .to → to < count
+    order-marked to q = omega (arith, to-below order-ends to q, p .room, nodes-length (p .nodes))
+
+-- ---- one pass from the last to the first
+
+module _ (es : List ℤ) (order marks : List ℕ) where
+  -- the rows kept of those from place i on
+  abbrev keptFrom : ℕ → List ℕ
+  keptFrom i = reverse (keep (entersMarked es marks) (drop i (take (length (edgeRows es)) order)))
+
+  -- the state between two turns
+  pub record Keeping (old plan : List ℕ) (kept i : ℕ) : Type 0 where
+    pub within : i ≤ length es / 3
+    pub count : kept ≡ length (keptFrom i)
+    pub stored : plan ≡ sets old 0 (keptFrom i)
+
+  -- the state at a place written otherwise
+  pub keeping-at : {old plan : List ℕ} {kept i : ℕ} (k : ℕ) → i ≡ k → Keeping old plan kept i → Keeping old plan kept k
+  keeping-at {old} {plan} {kept} k e s = subst (λ (j : ℕ). Keeping old plan kept j) e s
+
+  -- the plan keeps its length
+  pub keeping-long : {old plan : List ℕ} {kept i : ℕ} → Keeping old plan kept i → length plan ≡ length old
+  keeping-long {old} {i = i} s = ap length (s .stored) ∙ length-sets old 0 (keptFrom i)
+
+  module _ (p : Passable es order (length marks)) where
+    -- before the first turn
+    pub keep-start : (old : List ℕ) → Keeping old old 0 (length es / 3)
+    unfolding keep
+    keep-start old =
+        let front = take (length (edgeRows es)) order in
+        let none : keptFrom (length es / 3) ≡ [] =
+        ap (λ l. reverse (keep (entersMarked es marks) l)) (ap (λ n. drop n front) (sym (front-length p)) ∙ drop-length front) in
+        record { within = omega arith; count = sym (ap length none); stored = ap (sets old 0) (sym none) }
+
+    -- fewer rows are kept than there are edges
+    pub keep-few : {old plan : List ℕ} {kept i : ℕ} → Keeping old plan kept i → kept + i ≤ length es / 3
+    keep-few {i = i} s =
+        let rest = drop i (take (length (edgeRows es)) order) in
+        let some = keep (entersMarked es marks) rest in
+        omega (
+          arith,
+          s .count,
+          s .within,
+          length-reverse some,
+          keep-length (entersMarked es marks) rest,
+          length-drop i (take (length (edgeRows es)) order),
+          front-length p,
+        )
+
+    module _ {old plan : List ℕ} {kept k : ℕ} (s : Keeping old plan kept (suc k)) (to : ℕ) (q : pos to ≡ edgeAt es (getD order k 0) .to) where
+      -- the row of a turn
+      below : k < length es / 3
+      below = omega (arith, s .within)
+
+      -- the test of the row, by the mark of the node that it enters
+      test-at : entersMarked es marks (getD order k 0) ≡ ltb 0 (getD marks to 0)
+      unfolding entersMarked
+      test-at = ap (λ v. ltb 0 (getD marks (natAbs v) 0)) (sym q)
+
+      -- the rows kept with one row more, by the test of it
+      kept-more : (t : Bool) → ltb 0 (getD marks to 0) ≡ t
+          → keptFrom k ≡ cond t (keptFrom (suc k) ++ (getD order k 0 ∷ [])) (keptFrom (suc k))
+      unfolding keep
+      kept-more t e =
+          let front = take (length (edgeRows es)) order in
+          let ok = entersMarked es marks in
+          let row = getD order k 0 in
+          let rest = keep ok (drop (suc k) front) in
+          ap (λ l. reverse (keep ok l)) (drop-cons front k 0 (omega (arith, below, front-length p)) ∙ ap (λ r. r ∷ drop (suc k) front) (front-at p k below))
+          ∙ ap (λ b. reverse (cond b (row ∷ rest) rest)) (test-at ∙ e)
+          ∙ turned t
+        where
+          turned : (b : Bool) → let rest = keep (entersMarked es marks) (drop (suc k) (take (length (edgeRows es)) order)) in
+              reverse (cond b (getD order k 0 ∷ rest) rest) ≡ cond b (reverse rest ++ (getD order k 0 ∷ [])) (reverse rest)
+          turned true = reverse-cons (getD order k 0) (keep (entersMarked es marks) (drop (suc k) (take (length (edgeRows es)) order)))
+          turned false = refl
+
+      -- a row that enters a marked node is stored
+      pub keep-marked : getD marks to 0 ≢ 0 → Keeping old (set plan kept (getD order k 0)) (kept + 1) k
+      keep-marked m =
+          let row = getD order k 0 in
+          let more = kept-more true (is-true (ltb 0 (getD marks to 0)) (of-test (ltb? 0 (getD marks to 0)) (λ z. m (omega (arith, z))))) in
+          let place : kept ≡ 0 + length (keptFrom (suc k)) = omega (arith, s .count) in
+          record {
+            within = omega (arith, below);
+            count = omega (arith, s .count, ap length more, length-append (keptFrom (suc k)) (row ∷ []));
+            stored =
+                ap (λ l. set l kept row) (s .stored)
+                ∙ ap (λ n. set (sets old 0 (keptFrom (suc k))) n row) place
+                ∙ sets-more old 0 (keptFrom (suc k)) row
+                ∙ ap (sets old 0) (sym more);
+          }
+
+      -- any other is passed over
+      pub keep-over : getD marks to 0 ≡ 0 → Keeping old plan kept k
+      keep-over z =
+          let same = kept-more false (is-false (ltb 0 (getD marks to 0)) (λ t. let m = test-of (ltb? 0 (getD marks to 0)) t in omega (arith, m, z))) in
+          record { within = omega (arith, below); count = s .count ∙ ap length (sym same); stored = s .stored ∙ ap (sets old 0) (sym same) }
+
+  -- behind the last turn the number of rows is stored
+  pub keep-end : {old plan : List ℕ} {kept : ℕ} → Keeping old plan kept 0 → set plan countAt kept ≡ planWith (leadingRows es order marks) old
+  unfolding leadingRows planWith
+  keep-end {old} {kept = kept} s = ap (λ l. set l countAt kept) (s .stored) ∙ ap (set (sets old 0 (keptFrom 0)) countAt) (s .count)

@@ -1,0 +1,8 @@
+pub mod Marks
+pub mod Leaves
+pub mod Leading
+pub mod Links
+pub mod Kept
+pub mod Reversed
+pub mod Order
+pub mod Plan

@@ -1,0 +1,29 @@
+-- The number is not negative, so that the cast keeps it.
+use borrow.Author.Needs.{needs, sfits-of}
+use mir.Syntax.{w64}
+use Rattle.tables.proofs.Cells.{index-fits, index-same}
+use Rattle.pathlimit.proofs.impl_node.Statement.{statement}
+use Rattle.pathlimit.proofs.impl_node.Tie as tie
+
+mul-result : tie.Need-mul-result
+mul-result c = search needs
+
+add-result : tie.Need-add-result
+add-result c = search needs
+
+mul-result-2 : tie.Need-mul-result-2
+mul-result-2 c = search needs
+
+shared-slice-copy-out-result : tie.Need-shared-slice-copy-out-result
+shared-slice-copy-out-result c = search needs
+
+cast-result : tie.Need-cast-result
+cast-result c = index-fits (sfits-of {w = w64} (c .result .given)) (c .before .pre .1)
+
+returns : tie.Need-returns
+returns c = index-same (sfits-of {w = w64} (c .result .given)) (c .before .pre .1)
+
+pub impl-node-spec : {M : Type 1} → statement M
+impl-node-spec =
+    tie.close
+    (tie.spec mul-result add-result mul-result-2 shared-slice-copy-out-result cast-result returns)

@@ -1,0 +1,29 @@
+-- How many paths lead from a root down the edges of a plan, counted up to one past the limit. Assumes nothing.
+use mathlib.Core.Path.{_≡_}
+use mathlib.Core.List.{List}
+use Prim.Native.Nat.{ℕ, _≤_, _<_}
+use lib.IntN.{ℤ, pos}
+use lib.ListN.{length, getD}
+use Rattle.lists.specs.Lists.{_∈_}
+use Rattle.model.specs.Rows.{Edge, nodeRows, edgeRows}
+use Rattle.model.specs.Graph.{graphOf}
+use Rattle.model.specs.Paths.{Root}
+use Rattle.model.specs.Taken.{TakenTables}
+use Rattle.reach.specs.Counting.{pathCount, stopped}
+use Rattle.forward.specs.Forward.{passedOf, Planned}
+
+-- what a count of the paths from a root starts from: tables whose graph is taken, a plan of it, a root, and room
+pub record Countable (ns es : List ℤ) (plan : List ℕ) (root : ℕ) (counts : List ℕ) : Type 0 where
+  pub tables : TakenTables ns es
+  pub planned : Planned ns es plan
+  pub top : Root (graphOf ns es) (pos root)
+  pub room : length (nodeRows ns) ≤ length counts
+
+-- the plan has every edge that enters v
+abbrev pub HasEntering : List ℤ → List ℕ → ℤ → Type 0
+HasEntering es plan v = (e : Edge) → e ∈ edgeRows es → e .to ≡ v → e ∈ passedOf es plan
+
+-- the stopped count of the paths from the root stands at each node whose entering edges the plan has
+pub record Counted (ns es : List ℤ) (plan : List ℕ) (root : ℕ) (counts : List ℕ) : Type 0 where
+  pub each : (v : ℕ) → v < length (nodeRows ns) → HasEntering es plan (pos v)
+      → getD counts v 0 ≡ stopped (pathCount (graphOf ns es) (pos root) (pos v))

@@ -1,0 +1,145 @@
+-- The rows that a reference has of its owner's list, gathered record by record behind rows that hold the list.
+use mathlib.Core.Path.{_≡_, refl, sym, ap, subst, _∙_}
+use mathlib.Core.List.{List, [], _∷_, _++_, map, append-nil, append-assoc, flatMap, List·Memᴰ·head, Memᴰ·append-right}
+use Prim.Native.Nat.{ℕ, _+_, _-_, _*_, _≤_, _<_}
+use native.Mathlib.Omega.{arith}
+use lib.IntN.{ℤ, pos}
+use lib.ListN.{length, getD, take, drop, length-append, length-map}
+use lib.Seq.{getD-take, getD-drop, take-at, length-take-le}
+use Rattle.lists.specs.Lists.{_∈_}
+use Rattle.lists.proofs.Membership.{map-in}
+use Rattle.model.specs.Bitmapping.{Record}
+use Rattle.sorting.specs.declared.Row.{Row}
+use Rattle.sorting.specs.Rows.{rowAt, rowsOf, rowsFrom, numbersOf}
+use Rattle.sorting.proofs.Tables.{rowsOf-length, rowsOf-add, rowsFrom-more, rowsFrom-none, rowsFrom-start}
+use Rattle.normalisation.specs.Merging.{ofDisplacement}
+use Rattle.listing.specs.Listing.{Appended}
+use Rattle.listing.proofs.Appending.{append-none, append-append, append-length}
+use Rattle.references.specs.References.{Reference, Within, recordsAt, Cuttable, cutRow, cutRows}
+use Rattle.references.proofs.Cutting.{cut-row-few}
+
+-- ---- the records of a list that begins with row p
+
+-- record i of it, in row p + i
+abbrev pub recordAt : List ℤ → ℕ → ℕ → Record
+recordAt t p i = ofDisplacement (rowAt t (p + i))
+
+-- of the n records of it those from record i on
+abbrev pub recordsFrom : List ℤ → ℕ → ℕ → ℕ → List Record
+recordsFrom t p i n = map ofDisplacement (rowsFrom (drop (3 * p) t) i n)
+
+-- row i behind row p is row p + i
+row-behind : (t : List ℤ) (p i : ℕ) → rowAt (drop (3 * p) t) i ≡ rowAt t (p + i)
+row-behind t p i =
+    let first : 3 * p + 3 * i ≡ 3 * (p + i) = omega arith in
+    let second : 3 * p + (3 * i + 1) ≡ 3 * (p + i) + 1 = omega arith in
+    let third : 3 * p + (3 * i + 2) ≡ 3 * (p + i) + 2 = omega arith in
+    rw (getD-drop (3 * p) t (3 * i) (pos 0), getD-drop (3 * p) t (3 * i + 1) (pos 0), getD-drop (3 * p) t (3 * i + 2) (pos 0), first, second, third) refl
+
+module _ (t : List ℤ) (p i n : ℕ) where
+  -- those from record i on are record i and those behind it
+  recordsFrom-more : i < n → recordsFrom t p i n ≡ recordAt t p i ∷ recordsFrom t p (i + 1) n
+  recordsFrom-more h =
+      ap (map ofDisplacement) (rowsFrom-more (drop (3 * p) t) i n h)
+      ∙ ap (λ (r : Row). ofDisplacement r ∷ recordsFrom t p (i + 1) n) (row-behind t p i)
+
+  -- past the last record there is none
+  recordsFrom-none : n ≤ i → recordsFrom t p i n ≡ []
+  recordsFrom-none h = ap (map ofDisplacement) (rowsFrom-none (drop (3 * p) t) i n h)
+
+  -- record i is one of the n
+  pub recordAt-in : i < n → recordAt t p i ∈ recordsAt t p n
+  recordAt-in h =
+      let l = drop (3 * p) t in
+      let all : i + (n - i) ≡ n = omega arith in
+      let split : rowsOf l n ≡ rowsOf l i ++ (rowAt l i ∷ rowsFrom l (i + 1) n) =
+      ap (rowsOf l) (sym all) ∙ rowsOf-add l i (n - i) ∙ ap (λ (r : List Row). rowsOf l i ++ r) (rowsFrom-more l i n h) in
+      let m : rowAt l i ∈ rowsOf l n = rw split (Memᴰ·append-right (rowsOf l i) (List·Memᴰ·head refl)) in
+      subst (λ (r : Row). ofDisplacement r ∈ recordsAt t p n) (row-behind t p i) (map-in ofDisplacement m)
+
+-- n records are read
+pub recordsAt-length : (t : List ℤ) (p n : ℕ) → length (recordsAt t p n) ≡ n
+recordsAt-length t p n = length-map (rowsOf (drop (3 * p) t) n) ofDisplacement ∙ rowsOf-length (drop (3 * p) t) n
+
+-- ---- rows behind which others are appended
+
+-- a row before row n stays as it was
+pub row-kept : {rows : List Row} {old new : List ℤ} {n m : ℕ} (p : ℕ) → 3 * n ≤ length old → Appended rows old new n m → p < n → rowAt new p ≡ rowAt old p
+row-kept {rows} {old} {new} {n} p h a k =
+    rw (kept (3 * p) (omega (arith, k)), kept (3 * p + 1) (omega (arith, k)), kept (3 * p + 2) (omega (arith, k))) refl
+  where
+    front : take (3 * n) new ≡ take (3 * n) old
+    front = ap (take (3 * n)) (a .numbers) ∙ take-at (take (3 * n) old) (numbersOf rows ++ drop (3 * (n + length rows)) old) (3 * n) (length-take-le (3 * n) old h)
+
+    kept : (j : ℕ) → j < 3 * n → getD new j (pos 0) ≡ getD old j (pos 0)
+    kept j l = sym (getD-take (3 * n) new j (pos 0) l) ∙ ap (λ (t : List ℤ). getD t j (pos 0)) front ∙ getD-take (3 * n) old j (pos 0) l
+
+-- ---- gathering
+
+-- the state before record i: the rows that the records before it give are written, and with those of the records from i on they are all
+pub record Gathering (f : Reference) (old : List ℤ) (place count n : ℕ) (new : List ℤ) (m i : ℕ) : Type 0 where
+  pub upto : i ≤ count
+  pub done : List Row
+  pub few : length done ≤ i
+  pub rest : done ++ cutRows f (recordsFrom old place i count) ≡ cutRows f (recordsAt old place count)
+  pub written : Appended done old new n m
+
+-- at first nothing is written
+pub gathering-start : (f : Reference) (old : List ℤ) (place count n : ℕ) → Gathering f old place count n old n 0
+gathering-start f old place count n =
+    record {
+      upto = omega arith;
+      done = [];
+      few = omega arith;
+      rest = ap (λ (l : List Row). cutRows f (map ofDisplacement l)) (rowsFrom-start (drop (3 * place) old) count);
+      written = append-none old n;
+    }
+
+module _ {f : Reference} {old : List ℤ} {place count n : ℕ} {new : List ℤ} {m i : ℕ} (cuttable : Cuttable f old place count n)
+    (s : Gathering f old place count n new m i)
+  where
+    -- at last all is
+    pub gathering-end : count ≤ i → Appended (cutRows f (recordsAt old place count)) old new n m
+    unfolding cutRows flatMap
+    gathering-end h =
+        let all : s .done ≡ cutRows f (recordsAt old place count) =
+        sym (append-nil (s .done)) ∙ ap (λ (l : List Record). s .done ++ cutRows f l) (sym (recordsFrom-none old place i count h)) ∙ s .rest in
+        rw (← all) (s .written)
+
+    -- the table keeps its length
+    pub gathering-length : length new ≡ length old
+    gathering-length = append-length (omega (arith, s .upto, s .few, cuttable .room)) (s .written)
+
+    module _ (h : i < count) where
+      -- the record in row place + i is that of the table that gathering started from
+      gathering-record : rowAt new (place + i) ≡ rowAt old (place + i)
+      gathering-record = row-kept (place + i) (omega (arith, cuttable .room)) (s .written) (omega (arith, h, cuttable .before))
+
+      -- it can be cut, and there is room for its row
+      pub gathering-within : Within (recordAt new place i)
+      gathering-within =
+          subst (λ (r : Row). Within (ofDisplacement r)) (sym gathering-record)
+          (cuttable .within (recordAt old place i) (recordAt-in old place i count h))
+
+      pub gathering-before : place + i < m
+      gathering-before = omega (arith, h, cuttable .before, s .written .count)
+
+      pub gathering-room : 3 * m + 3 ≤ length new
+      gathering-room = omega (arith, h, cuttable .room, s .few, s .written .count, gathering-length)
+
+      -- once it is written, the next record follows
+      pub gathering-next : {new′ : List ℤ} {m′ : ℕ} → Appended (cutRow f (recordAt new place i)) new new′ m m′ → Gathering f old place count n new′ m′ (i + 1)
+      unfolding cutRows flatMap
+      gathering-next {new′} {m′} a =
+          let rows = cutRow f (recordAt old place i) in
+          let size = length-append (s .done) rows in
+          let one = cut-row-few f (recordAt old place i) in
+          record {
+            upto = omega (arith, h);
+            done = s .done ++ rows;
+            few = omega (arith, s .few, size, one);
+            rest = append-assoc (s .done) rows (cutRows f (recordsFrom old place (i + 1) count))
+                ∙ ap (λ (l : List Record). s .done ++ cutRows f l) (sym (recordsFrom-more old place i count h)) ∙ s .rest;
+            written = append-append (omega (arith, h, cuttable .room, s .few, size, one)) (s .written)
+                (subst (λ (r : Row). Appended (cutRow f (ofDisplacement r)) new new′ m m′) gathering-record a);
+          }

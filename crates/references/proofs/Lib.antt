@@ -1,0 +1,4 @@
+pub mod Bringing
+pub mod Cutting
+pub mod Numbers
+pub mod Gathering

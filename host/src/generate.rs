@@ -132,7 +132,7 @@ impl Draft {
     }
 
     /// Joins two nodes with an offset that mostly lets some addresses live.
-    fn fit(&mut self, random: &mut Random, from: usize, to: usize) {
+    pub fn fit(&mut self, random: &mut Random, from: usize, to: usize) {
         let (source, target) = (self.nodes[from], self.nodes[to]);
         let slide = match random.below(4) {
             0 => 0,
@@ -490,6 +490,11 @@ fn mix_pairs(random: &mut Random, left: &mut Vec<usize>, right: &mut Vec<usize>)
 /// A pair of small graphs with few paths, none of which a refusal concerns.
 pub fn small_map(random: &mut Random) -> Tables {
     let spec = draft(random);
+    implemented(random, spec)
+}
+
+/// A specification with an implementation of it, rows and pairs in any order.
+pub fn implemented(random: &mut Random, spec: Draft) -> Tables {
     let implementation = implementation(random, &spec);
     let mut spec = spec.mixed(random);
     let mut implementation = implementation.mixed(random);

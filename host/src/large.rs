@@ -333,17 +333,45 @@ pub fn connected_beside_chain(count: usize) -> Map {
 }
 
 /// The same, with three roots in place of one before the chain. Two of them see all of
-/// the window of the node behind them, so that its list is kept and used; the third sees
-/// a part of it, and what it reaches is listed path by path.
+/// the window of the node behind them; the third sees a part of it.
 pub fn connected_beside_shared(count: usize) -> Map {
     let shared = Funnel { roots: 2, narrow: 1, ..DEEP };
     connected_beside("connected through one hub, and a chain of 64 that roots share", count, shared)
 }
 
+/// Nodes one behind the other, each entered by the one before and by edges from the root:
+/// unlike references meet in each, and together their lists are longer than any arena.
+fn with_owners(mut draft: Draft) -> Draft {
+    const OWNERS: i64 = 62;
+    const EDGES: i64 = 15;
+    let root = draft.root(0, 4, 8);
+    let mut last = root;
+    for owner in 0..OWNERS {
+        let next = draft.node(SEGMENT, 0, SPAN, 8);
+        draft.join(last, next, 0);
+        (1..=EDGES).for_each(|edge| draft.join(root, next, -(owner * EDGES + edge)));
+        last = next;
+    }
+    let leaf = draft.leaf(0, SPAN, 8);
+    draft.join(last, leaf, 0);
+    draft
+}
+
+/// Many pairs, and beside them one whose records are gathered edge by edge through some
+/// fifty nodes, since their lists find no room.
+pub fn connected_beside_owners(count: usize) -> Map {
+    let hub = Funnel { roots: count, leaves: count, stages: 0, ..FUNNEL };
+    let [spec, implementation] = [hub, hub.shorter()].map(|funnel| with_owners(beside(&[funnel])));
+    let name = "connected through one hub, and 62 owners one behind the other";
+    whole(name, tables(&spec, &implementation))
+}
+
 /// The maps on which the text check takes most stack, the deepest last.
-pub fn deep_maps() -> [Map; 3] {
+pub fn deep_maps() -> [Map; 4] {
     const COUNT: usize = 80;
-    [connected(COUNT), connected_beside_chain(COUNT), connected_beside_shared(COUNT)]
+    let make =
+        [connected, connected_beside_chain, connected_beside_shared, connected_beside_owners];
+    make.map(|make| make(COUNT))
 }
 
 /// Maps with as many paths, records and edges along a path as may be, and few pairs.

@@ -14,8 +14,10 @@
 pub mod bitwalk;
 pub mod faults;
 pub mod generate;
+pub mod hostile;
 pub mod large;
 pub mod library;
+pub mod propagate;
 pub mod reference;
 #[cfg(healdrip_library)]
 pub mod stack;

@@ -2,7 +2,7 @@
 //! listing of the paths, sort and merge. All calls of the documents are here; a
 //! call on tables takes flat slices of numbers, which may hold anything.
 
-use std::mem::take;
+use std::mem::{replace, take};
 
 pub const MAX_NODES: usize = 2_000;
 pub const MAX_EDGES: usize = 2_600;
@@ -95,25 +95,25 @@ pub struct Comparison {
 // Graphs
 
 /// A node's kind and its first and last bit.
-struct Node {
+pub(crate) struct Node {
     kind: i64,
-    first: i64,
-    last: i64,
+    pub(crate) first: i64,
+    pub(crate) last: i64,
 }
 
 /// An edge as its start holds it: where it goes, and its offset in bits.
-struct Edge {
-    to: usize,
-    offset: i64,
+pub(crate) struct Edge {
+    pub(crate) to: usize,
+    pub(crate) offset: i64,
 }
 
 /// A graph that passed refusals 1 to 6.
-struct Graph {
-    nodes: Vec<Node>,
-    leaving: Vec<Vec<Edge>>,
+pub(crate) struct Graph {
+    pub(crate) nodes: Vec<Node>,
+    pub(crate) leaving: Vec<Vec<Edge>>,
     entered: Vec<bool>,
     /// Every node, each before all nodes that its edges lead to.
-    order: Vec<usize>,
+    pub(crate) order: Vec<usize>,
 }
 
 fn check_shape(table: &[i64], number: usize, limit: usize) -> Result<(), Refusal> {
@@ -442,13 +442,13 @@ pub fn lowest_difference(spec: &[Record], implementation: &[Record]) -> Option<i
 
 /// Judges the rows of a pair table and gives the node rows of both sides.
 fn check_pairs(
-    pairs: &[i64], table: usize, graphs: [&Graph; 2], role: fn(&Graph, i64) -> Option<usize>,
+    pairs: &[i64], table: usize, graphs: &[Graph; 2], role: fn(&Graph, i64) -> Option<usize>,
 ) -> Result<[Vec<usize>; 2], Refusal> {
     let mut rows = [Vec::new(), Vec::new()];
-    let mut seen = graphs.map(|graph| vec![false; graph.nodes.len()]);
+    let mut seen = [0, 1].map(|side: usize| vec![false; graphs[side].nodes.len()]);
     for (row, pair) in pairs.chunks(2).enumerate() {
-        let spec = role(graphs[0], pair[0]).ok_or(refusal(7, table, row))?;
-        let implementation = role(graphs[1], pair[1]).ok_or(refusal(7, table, row))?;
+        let spec = role(&graphs[0], pair[0]).ok_or(refusal(7, table, row))?;
+        let implementation = role(&graphs[1], pair[1]).ok_or(refusal(7, table, row))?;
         if seen[0][spec] || seen[1][implementation] {
             return Err(refusal(8, table, row));
         }
@@ -460,18 +460,51 @@ fn check_pairs(
     Ok(rows)
 }
 
+/// The node rows of the pairs, in either graph.
+pub(crate) struct Pairing {
+    pub(crate) roots: [Vec<usize>; 2],
+    pub(crate) leaves: [Vec<usize>; 2],
+}
+
+/// Refusals 1 to 9, or both graphs with their pairing.
+pub(crate) fn check_tables(tables: &Tables) -> Result<([Graph; 2], Pairing), Refusal> {
+    let graphs = [
+        Graph::new(&tables[SPEC_NODES], &tables[SPEC_EDGES], SPEC_NODES)?,
+        Graph::new(&tables[IMPL_NODES], &tables[IMPL_EDGES], IMPL_NODES)?,
+    ];
+    for table in [ROOT_PAIRS, LEAF_PAIRS] {
+        check_shape(&tables[table], table, MAX_PAIRS)?;
+    }
+    for table in [ROOT_PAIRS, LEAF_PAIRS] {
+        if tables[table].is_empty() {
+            return Err(refusal(9, table, 0));
+        }
+    }
+    let roots = check_pairs(&tables[ROOT_PAIRS], ROOT_PAIRS, &graphs, Graph::root)?;
+    let leaves = check_pairs(&tables[LEAF_PAIRS], LEAF_PAIRS, &graphs, Graph::leaf)?;
+    Ok((graphs, Pairing { roots, leaves }))
+}
+
 /// Refusal 10, pair by pair in visiting order, the specification first.
-fn check_paths(
-    graphs: [&Graph; 2], roots: &[Vec<usize>; 2], leaves: &[Vec<usize>; 2],
+pub(crate) fn check_paths(
+    graphs: &[Graph; 2], Pairing { roots, leaves }: &Pairing,
 ) -> Result<(), Refusal> {
-    for (root, (&spec, &implementation)) in roots[0].iter().zip(&roots[1]).enumerate() {
-        let counts = [graphs[0].path_counts(spec), graphs[1].path_counts(implementation)];
-        for leaf in 0..leaves[0].len() {
-            for (side, edge_table) in [SPEC_EDGES, IMPL_EDGES].into_iter().enumerate() {
-                if counts[side][leaves[side][leaf]] > MAX_PATHS {
-                    return Err(refusal(10, edge_table, root * 1_000 + leaf));
-                }
-            }
+    let mut counted = [0, 1].map(|side: usize| vec![false; graphs[side].nodes.len()]);
+    for (row, (&spec, &implementation)) in roots[0].iter().zip(&roots[1]).enumerate() {
+        let crowded = [0, 1].map(|side: usize| {
+            let (graph, root) = (&graphs[side], [spec, implementation][side]);
+            // A root with one edge has as many paths as one before it that leads there.
+            let known = match &graph.leaving[root][..] {
+                [] => true,
+                [only] => replace(&mut counted[side][only.to], true),
+                _ => false,
+            };
+            let counts = if known { Vec::new() } else { graph.path_counts(root) };
+            let more = |leaf: &usize| counts.get(*leaf).is_some_and(|&count| count > MAX_PATHS);
+            leaves[side].iter().position(more).map(|leaf| (leaf, [SPEC_EDGES, IMPL_EDGES][side]))
+        });
+        if let Some((leaf, edge_table)) = crowded.into_iter().flatten().min() {
+            return Err(refusal(10, edge_table, row * 1_000 + leaf));
         }
     }
     Ok(())
@@ -483,29 +516,15 @@ pub fn compare(tables: &Tables) -> Result<Comparison, Refusal> {
 }
 
 pub fn compare_by(tables: &Tables, listing: Listing) -> Result<Comparison, Refusal> {
-    let spec = Graph::new(&tables[SPEC_NODES], &tables[SPEC_EDGES], SPEC_NODES)?;
-    let implementation = Graph::new(&tables[IMPL_NODES], &tables[IMPL_EDGES], IMPL_NODES)?;
-    for table in [ROOT_PAIRS, LEAF_PAIRS] {
-        check_shape(&tables[table], table, MAX_PAIRS)?;
-    }
-    for table in [ROOT_PAIRS, LEAF_PAIRS] {
-        if tables[table].is_empty() {
-            return Err(refusal(9, table, 0));
-        }
-    }
-    let graphs = [&spec, &implementation];
-    let roots = check_pairs(&tables[ROOT_PAIRS], ROOT_PAIRS, graphs, Graph::root)?;
-    let leaves = check_pairs(&tables[LEAF_PAIRS], LEAF_PAIRS, graphs, Graph::leaf)?;
-    check_paths(graphs, &roots, &leaves)?;
-    Ok(judge_pairs(graphs, roots, leaves, listing))
+    let (graphs, pairing) = check_tables(tables)?;
+    check_paths(&graphs, &pairing)?;
+    Ok(judge_pairs(&graphs, pairing, listing))
 }
 
-fn judge_pairs(
-    graphs: [&Graph; 2], roots: [Vec<usize>; 2], [spec_leaves, impl_leaves]: [Vec<usize>; 2],
-    listing: Listing,
-) -> Comparison {
-    let spec = Lister::new(graphs[0], spec_leaves, listing);
-    let implementation = Lister::new(graphs[1], impl_leaves, listing);
+fn judge_pairs(graphs: &[Graph; 2], pairing: Pairing, listing: Listing) -> Comparison {
+    let Pairing { roots, leaves: [spec_leaves, impl_leaves] } = pairing;
+    let spec = Lister::new(&graphs[0], spec_leaves, listing);
+    let implementation = Lister::new(&graphs[1], impl_leaves, listing);
     let mut outcome = Outcome { whole: 0, counts: [0; 3], root: -1, leaf: -1, address: -1 };
     let mut lines = Vec::new();
     for (root, (&spec_root, &impl_root)) in roots[0].iter().zip(&roots[1]).enumerate() {
@@ -579,16 +598,13 @@ fn columns(line: &[u8], names: &[&str]) -> Option<Vec<usize>> {
 }
 
 /// The values of a line, put into the order of the table's names.
-fn values(line: &[u8], columns: &[usize]) -> Option<Vec<i64>> {
-    let fields: Vec<&[u8]> = line.split(|&byte| byte == b' ').collect();
-    if fields.len() != columns.len() {
-        return None;
+fn values(line: &[u8], columns: &[usize]) -> Option<[i64; NODE_NAMES.len()]> {
+    let mut row = [0; NODE_NAMES.len()];
+    let mut fields = line.split(|&byte| byte == b' ');
+    for &column in columns {
+        row[column] = value(fields.next()?)?;
     }
-    let mut row = vec![0; columns.len()];
-    for (field, &column) in fields.iter().zip(columns) {
-        row[column] = value(field)?;
-    }
-    (0..=1).contains(&row[0]).then_some(row)
+    (fields.next().is_none() && (0..=1).contains(&row[0])).then_some(row)
 }
 
 /// Reads one table from line `next` on into the two tables that its first column
@@ -607,7 +623,7 @@ fn read_table(
             Some(line) if line.is_empty() && ends_with_empty_line => return Ok(next + 1),
             Some(line) => {
                 let row = values(line, &columns).ok_or(refusal(14, TEXT, next + 1))?;
-                tables[row[0] as usize].extend(&row[1..]);
+                tables[row[0] as usize].extend(&row[1..names.len()]);
             }
         }
     }

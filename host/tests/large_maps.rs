@@ -6,7 +6,7 @@ use host::reference::{compare, list, text_check, Outcome, PairLine, Record};
 use host::reference::{LEAF_PAIRS, MAX_TEXT, REPORT_ROOM, ROOT_PAIRS};
 
 /// Name, counts of the verdicts, pairs with a record, records of the implementation.
-const EXPECTED: [(&str, [i64; 3], usize, usize); 17] = [
+const EXPECTED: [(&str, [i64; 3], usize, usize); 18] = [
     ("P1", [0, 1, 0], 1, 1),
     ("5 x 115, 2,000 nodes, 2,600 edges", [575, 0, 0], 575, 575),
     ("10^6 pairs, none connected", [1_000_000, 0, 0], 0, 0),
@@ -29,6 +29,13 @@ const EXPECTED: [(&str, [i64; 3], usize, usize); 17] = [
         [320, 6_403, 0],
         6_403,
         6_400 + 2 * 1_024 + 504,
+    ),
+    // Fifteen edges from the root to each of 62 nodes, and the way through all of them.
+    (
+        "connected through one hub, and 62 owners one behind the other",
+        [161, 6_400, 0],
+        6_401,
+        6_400 + 62 * 15 + 1,
     ),
 ];
 

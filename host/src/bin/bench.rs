@@ -1,7 +1,8 @@
-//! Times the verified code beside the reference on the named maps and prints tables
-//! in markdown: the calls on one graph, the text check, the comparison on tables, and
-//! the whole program with its start. The answers must agree. A last table has the stack
-//! that the text check takes.
+//! Times the verified code beside the reference and the engine that propagates lists on
+//! the named maps and prints tables in markdown: the calls on one graph, the text check,
+//! the comparison on tables, the text check on texts made to be slow, and the whole program
+//! with its start. The answers must agree. A last table has the stack that the text check
+//! takes.
 //!
 //! ```text
 //! bench [--long] [part of a map's name or of a table's title]
@@ -9,10 +10,14 @@
 //!
 //! `--long` adds the maps that take seconds. The script `bench` at the top of the
 //! repository builds what is needed and runs this. A call's time is processor time,
-//! the program's is wall clock; each is the lowest of several runs.
+//! the program's is wall clock; each is the lowest of several runs, but for the slow texts,
+//! where it is of one run.
 
+use host::hostile::{texts, Hostile};
 use host::large::{deep_maps, maps, singles, Call, Map, Single};
+use host::propagate;
 use host::reference::{check, compare_by, list, printed, text_check_by, walk, Listing, Refusal};
+use host::reference::{text_check, REPORT_ROOM};
 use std::ffi::c_long;
 use std::hint::black_box;
 use std::io::Write;
@@ -42,6 +47,7 @@ const ALSO_AS_TABLES: usize = 2;
 const ONE_GRAPH: &str = "One graph";
 const TEXT_CHECK: &str = "Text check";
 const COMPARISON: &str = "Comparison on tables";
+const HOSTILE: &str = "Texts made to be slow, one run each";
 const PROGRAM: &str = "Whole program, its start included";
 const STACK: &str = "Stack of the text check";
 
@@ -188,12 +194,10 @@ fn print_table(title: &str, names: &[&str], rows: &[Vec<String>]) {
     rows.iter().for_each(|row| println!("| {} |", row.join(" | ")));
 }
 
-/// The times, and that of the proved code as a multiple of each other one.
-fn cells([proved, by_pair, by_root]: [Option<f64>; 3]) -> [String; 5] {
-    let times = [proved, by_pair, by_root].map(shown);
-    let ratios = [by_pair, by_root].map(|other| ratio(proved, other));
-    let ([a, b, c], [d, e]) = (times, ratios);
-    [a, b, c, d, e]
+/// The times, that of the proved code first, and it as a multiple of each other one.
+fn cells(times: &[Option<f64>]) -> Vec<String> {
+    let ratios = times[1..].iter().map(|&other| ratio(times[0], other));
+    times.iter().map(|&time| shown(time)).chain(ratios).collect()
 }
 
 fn print_singles(graphs: &[Single]) {
@@ -214,17 +218,25 @@ fn print_singles(graphs: &[Single]) {
     print_table(ONE_GRAPH, &["Call", "Map", "Proved", "Rust", "Proved / Rust"], &rows);
 }
 
-const COLUMNS: [&str; 5] =
-    ["Proved", "Rust by pair", "Rust by root", "Proved / by pair", "Proved / by root"];
+const COLUMNS: [&str; 7] = [
+    "Proved",
+    "Rust by pair",
+    "Rust by root",
+    "Rust by lists",
+    "Proved / by pair",
+    "Proved / by root",
+    "Proved / by lists",
+];
 
 fn print_texts(maps: &[Map]) {
     let mut rows = Vec::new();
     for map in maps.iter().filter(|map| AS_TEXT.contains(&map.name)) {
         let text = map.text().expect("the map fits into a text");
         let by = |listing| Some(time(|| text_check_by(&text, usize::MAX, listing)));
-        let times = [time_text(&text), by(Listing::ByPair), by(Listing::ByRoot)];
+        let by_lists = Some(time(|| propagate::text_check(&text, usize::MAX)));
+        let times = [time_text(&text), by(Listing::ByPair), by(Listing::ByRoot), by_lists];
         let mut row = vec![map.name.to_string(), text.len().to_string(), map.pairs().to_string()];
-        row.extend(cells(times));
+        row.extend(cells(&times));
         rows.push(row);
     }
     print_table(TEXT_CHECK, &[&["Map", "Bytes", "Pairs"], &COLUMNS[..]].concat(), &rows);
@@ -237,12 +249,60 @@ fn print_tables(maps: &[Map]) {
     for map in maps.iter().filter(as_tables) {
         let by = |listing| time(|| compare_by(&map.tables, listing));
         let by_pair = map.by_pair.then(|| by(Listing::ByPair));
-        let times = [time_tables(&map.tables), by_pair, Some(by(Listing::ByRoot))];
+        let by_lists = Some(time(|| propagate::compare(&map.tables)));
+        let times = [time_tables(&map.tables), by_pair, Some(by(Listing::ByRoot)), by_lists];
         let mut row = vec![map.name.to_string(), map.pairs().to_string()];
-        row.extend(cells(times));
+        row.extend(cells(&times));
         rows.push(row);
     }
     print_table(COMPARISON, &[&["Map", "Pairs"], &COLUMNS[..]].concat(), &rows);
+}
+
+/// Milliseconds for one run, and what it gave.
+fn time_once<T>(run: impl FnOnce() -> T) -> (f64, T) {
+    let start = now();
+    let given = black_box(run());
+    (now() - start, given)
+}
+
+/// One run of the library with mapcheck's buffer; the answer must be this.
+#[cfg(healdrip_library)]
+fn time_text_once(text: &[u8], expected: &Result<Vec<u8>, Refusal>) -> Option<f64> {
+    let mut report = vec![0; REPORT_ROOM];
+    let (millis, answer) = time_once(|| host::library::text_check(text, &mut report));
+    assert_eq!(answer, host::reference::coded(expected), "the answers differ");
+    assert!(expected.iter().all(|bytes| report.starts_with(bytes)), "the reports differ");
+    Some(millis)
+}
+
+#[cfg(not(healdrip_library))]
+fn time_text_once(_text: &[u8], _expected: &Result<Vec<u8>, Refusal>) -> Option<f64> {
+    None
+}
+
+/// The texts made to be slow.
+fn print_hostile(texts: &[Hostile]) {
+    let mut rows = Vec::new();
+    for hostile in texts {
+        let text = hostile.text();
+        let (by_lists, expected) = time_once(|| propagate::text_check(&text, REPORT_ROOM));
+        let (by_root, given) = time_once(|| text_check(&text, REPORT_ROOM));
+        assert!(given == expected, "the engines differ");
+        let asked = time_text_once(&text, &expected);
+        let [roots, leaves] = hostile.rows();
+        let lines = match &expected {
+            // Two lines of names, an empty one and the last are no pair's.
+            Ok(report) => (report.split(|&byte| byte == b'\n').count() - 5).to_string(),
+            Err(refusal) => format!("refusal {}", refusal.number),
+        };
+        let pairs = format!("{roots} x {leaves}");
+        let mut row = vec![hostile.name.clone(), text.len().to_string(), pairs, lines];
+        row.extend(cells(&[asked, Some(by_root), Some(by_lists)]));
+        rows.push(row);
+    }
+    let names = ["Text", "Bytes", "Pairs", "Lines"];
+    let columns = ["Rust by root", "Rust by lists", "Proved / by root", "Proved / by lists"];
+    print_table(HOSTILE, &[&names[..], &["Proved"], &columns].concat(), &rows);
 }
 
 /// Milliseconds from the start of a program to its end, the lowest of several.
@@ -349,6 +409,8 @@ fn main() {
     print_singles(&graphs.collect::<Vec<_>>());
     print_texts(&wanted.among(TEXT_CHECK, maps()));
     print_tables(&wanted.among(COMPARISON, maps()));
+    let slow = texts().into_iter().filter(|text| wanted.has(HOSTILE, &text.name));
+    print_hostile(&slow.collect::<Vec<_>>());
     print_programs(&wanted.among(PROGRAM, maps()));
     print_stack(&wanted.among(STACK, deep_maps()));
 }

@@ -12,7 +12,7 @@ const DEFAULT_MAPS: u64 = 3_000;
 const LONG_ONE_IN: u64 = 100;
 const EVERY_ONE_IN: u64 = 10;
 
-fn maps_per_thread() -> u64 {
+pub fn maps_per_thread() -> u64 {
     let maps = std::env::var("HEALDRIP_MAPS").ok();
     maps.map_or(DEFAULT_MAPS, |count| count.parse().expect("HEALDRIP_MAPS is a number"))
 }

@@ -17,6 +17,6 @@ fn less_than_the_library_says() {
         taken
     });
     println!("bytes of stack: {taken:?}");
-    // A chain of 64 edges goes deeper than a hub, and past a kept list deeper still.
-    assert!(taken.is_sorted_by(|less, more| less < more), "{taken:?}");
+    // Rows gathered through many nodes go no deeper than the plans of the graphs.
+    assert!(taken.is_sorted(), "{taken:?}");
 }

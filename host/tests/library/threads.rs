@@ -2,7 +2,8 @@
 
 use crate::asking::{check_room, Unlimited};
 use host::generate::{damaged, long_map, mixed_text, Random};
-use host::large::{connected, connected_beside_chain, connected_beside_shared, narrow_maps};
+use host::large::{connected, connected_beside_chain, connected_beside_owners};
+use host::large::{connected_beside_shared, narrow_maps};
 use host::reference::text_check;
 use std::panic::catch_unwind;
 use std::sync::atomic::{AtomicBool, Ordering};
@@ -51,11 +52,12 @@ fn texts() -> Vec<Asked> {
 }
 
 /// Maps with many lines, many paths, many records and long paths, also all in one map;
-/// in some the list of a node is kept, and a root goes past it along the paths.
+/// in some the lists of nodes are kept, and in some they find no room.
 fn deep_texts() -> Vec<Asked> {
     let random = &mut Random::new(8_000_000);
     let maps = COUNTS.map(connected_beside_chain).into_iter();
-    let maps = maps.chain(COUNTS.map(connected_beside_shared)).chain(narrow_maps());
+    let maps = maps.chain(COUNTS.map(connected_beside_shared));
+    let maps = maps.chain(COUNTS.map(connected_beside_owners)).chain(narrow_maps());
     maps.map(|map| asked(mixed_text(random, &map.tables))).collect()
 }
 

@@ -1,0 +1,386 @@
+//! Map texts that are slow for a checker, made for the limits of a text: many pairs, as
+//! many paths and as many edges along a path as may be, and few lines to show for it. Most
+//! are there twice: as drawn up, with the heavy part on the leaves' side, and turned round,
+//! with the heavy part on the roots' side. And random maps of the same kinds.
+//!
+//! All nodes of the texts count in units of 8 bits; offsets, bases and ranges are units.
+
+use crate::generate::{implemented, plain_text, tables, Draft, Random, SEGMENT, SPACE};
+use crate::reference::{Tables, BLOCK, LEAF_PAIRS, ROOT_PAIRS};
+
+/// Records that an engine may keep for a graph if its lists share an arena of fixed size.
+pub const ARENA: usize = 3_072;
+
+/// Units in the window of each node between roots and leaves, which clips nothing: more
+/// than the offsets along a path are together.
+const SPAN: i64 = 9_999;
+const SHORT_SPAN: i64 = 9;
+/// Edges between the first node behind a root and the last before a leaf, where the chain
+/// is as long as may be.
+const INNER_CHAIN: usize = 62;
+/// Roots that see a record where all the others see none.
+const LIVE: usize = 4;
+
+pub struct Hostile {
+    pub name: String,
+    pub tables: Tables,
+}
+
+impl Hostile {
+    pub fn text(&self) -> Vec<u8> {
+        plain_text(&self.tables)
+    }
+
+    /// Root rows and leaf rows.
+    pub fn rows(&self) -> [usize; 2] {
+        [ROOT_PAIRS, LEAF_PAIRS].map(|table| self.tables[table].len() / 2)
+    }
+}
+
+// Parts of graphs
+
+/// A step along a path, with an edge for each offset.
+type Step = Vec<i64>;
+
+/// Steps that double the paths: together they lead from unit i * spacing to unit 0, for each
+/// i. The small offsets come first, so that a run from the middle dies at the last step.
+fn spread(spacing: i64, steps: usize) -> Vec<Step> {
+    (0..steps).map(|step| vec![0, spacing << step]).collect()
+}
+
+/// The same steps with steps of one edge before the last, so that there are that many.
+fn with_chain(mut steps: Vec<Step>, count: usize) -> Vec<Step> {
+    let last = steps.len() - 1;
+    let chain = vec![vec![0]; count - steps.len()];
+    steps.splice(last..last, chain);
+    steps
+}
+
+/// Joins two nodes by steps, through a node of its own behind each step but the last.
+fn lead(draft: &mut Draft, from: usize, to: usize, steps: &[Step]) {
+    let span = draft.nodes[from].range;
+    let mut last = from;
+    for (place, offsets) in steps.iter().enumerate() {
+        let end = place + 1 == steps.len();
+        let next = if end { to } else { draft.node(SEGMENT, 0, span, 8) };
+        offsets.iter().for_each(|&offset| draft.join(last, next, offset));
+        last = next;
+    }
+}
+
+/// That many nodes that clip nothing, in rows from 0 on: most edges name one of them, and a
+/// low row is short.
+fn inner(count: usize, span: i64) -> Draft {
+    let mut draft = Draft::default();
+    (0..count).for_each(|_| _ = draft.node(SEGMENT, 0, span, 8));
+    draft
+}
+
+/// A root of one unit before a node.
+fn root(draft: &mut Draft, base: i64, to: usize) {
+    let root = draft.root(base, 1, 8);
+    draft.join(root, to, 0);
+}
+
+/// That many leaves of one unit behind a node.
+fn leaves(draft: &mut Draft, count: usize, from: usize) {
+    for _ in 0..count {
+        let leaf = draft.leaf(0, 1, 8);
+        draft.join(from, leaf, 0);
+    }
+}
+
+/// Units from one of the 1,024 records of a hub to the next, the first at unit 0.
+const SPACING: i64 = 2;
+
+/// Roots before hubs in turn. Each stands in a gap between records, all but the last, which
+/// live. The first two before a hub are in its outermost gaps, so that no record but two is
+/// out of their reach; the others are in the middle, each in another gap.
+fn roots_in_gaps(draft: &mut Draft, count: usize, hubs: usize, live: usize) {
+    for number in 0..count {
+        let record = match number / hubs {
+            0 => 0,
+            1 => 1_022,
+            _ => 512 - count / 2 + number,
+        };
+        let gap = i64::from(number + live < count);
+        root(draft, SPACING * record as i64 + gap, number % hubs);
+    }
+}
+
+/// The graph with each edge the other way round: root bits and leaf bits are exchanged.
+fn turned(draft: &Draft) -> Draft {
+    let mut turned = draft.clone();
+    for edge in &mut turned.edges {
+        (edge.from, edge.to, edge.offset) = (edge.to, edge.from, -edge.offset);
+    }
+    (turned.roots, turned.leaves) = (draft.leaves.clone(), draft.roots.clone());
+    turned.roots.iter().for_each(|&root| turned.nodes[root].kind = SPACE);
+    turned.leaves.iter().for_each(|&leaf| turned.nodes[leaf].kind = BLOCK);
+    turned
+}
+
+// Graphs
+
+/// Roots in gaps between the 1,024 records of a hub, before as many paths of 64 edges; some
+/// live. Slow for an engine that lists each pair by itself, since half of the runs die only
+/// behind the last doubled edge, and for one that keeps the list of the hub, since each root
+/// sees another part of it. Turned round, each root brings the hub 1,024 records, and each
+/// leaf sees another gap between them: slow for an engine that goes forward from the roots.
+fn gaps(count: usize, live: usize) -> Draft {
+    let mut draft = inner(2, SPAN);
+    roots_in_gaps(&mut draft, count, 1, live);
+    leaves(&mut draft, count, 1);
+    lead(&mut draft, 0, 1, &with_chain(spread(SPACING, 10), INNER_CHAIN));
+    draft
+}
+
+/// The same behind that many hubs in turn, each with two edges of its own to the paths that
+/// all share. Slow for an engine that keeps the list of one node; turned round, for one that
+/// makes a list of 1,024 records for each root and hub, or has no room for it.
+fn gaps_behind(hubs: usize, count: usize) -> Draft {
+    let mut draft = inner(hubs + 2, SPAN);
+    let (top, foot) = (hubs, hubs + 1);
+    roots_in_gaps(&mut draft, count, hubs, LIVE);
+    leaves(&mut draft, count, foot);
+    (0..hubs).for_each(|hub| lead(&mut draft, hub, top, &spread(SPACING, 1)));
+    lead(&mut draft, top, foot, &with_chain(spread(2 * SPACING, 9), INNER_CHAIN - 1));
+    draft
+}
+
+/// The same, and two more roots before each of many nodes of 32 records, one below these and
+/// one above. Slow for an engine that keeps a list a node; turned round, for one whose lists
+/// share an arena: the many nodes are met long before the hubs and fill it.
+fn filled_arena(fillers: usize, hubs: usize, count: usize) -> Draft {
+    let mut draft = gaps_behind(hubs, count - 2 * fillers);
+    let (foot, shared) = (hubs + 1, draft.node(SEGMENT, 0, SPAN, 8));
+    for _ in 0..fillers {
+        let filler = draft.node(SEGMENT, 0, SPAN, 8);
+        [2, 4].iter().for_each(|&offset| draft.join(filler, shared, offset));
+        [1, 2_000].iter().for_each(|&base| root(&mut draft, base, filler));
+    }
+    lead(&mut draft, shared, foot, &spread(100, 4));
+    leaves(&mut draft, 2 * fillers, foot);
+    draft
+}
+
+/// Roots before 512 paths of 64 edges, all of one displacement, which die at the last edge
+/// but one: between the two places at which the foot is seen. Some live. Slow for an engine
+/// that goes path by path. With hubs, the roots are before these in turn: slow for one that
+/// keeps what is behind one node.
+fn late(hubs: usize, count: usize) -> Draft {
+    let mut draft = inner(hubs + 2, SHORT_SPAN);
+    let (top, foot) = (hubs, hubs + 1);
+    for number in 0..count {
+        let to = if hubs == 0 { top } else { number % hubs };
+        root(&mut draft, i64::from(number + LIVE < count), to);
+    }
+    leaves(&mut draft, count, foot);
+    (0..hubs).for_each(|hub| draft.join(hub, top, 0));
+    let steps = [vec![vec![0, 0]; 9], vec![vec![0, 2]]].concat();
+    lead(&mut draft, top, foot, &with_chain(steps, INNER_CHAIN - usize::from(hubs > 0)));
+    draft
+}
+
+/// Each root sees 512 of the 1,024 records of a hub, each from another on; leaves of that
+/// many units. Slow for an engine that shares a list between roots that see all of it;
+/// turned round, for one that goes over a whole list for each leaf.
+fn parts(roots: usize, leaves: usize, leaf_range: i64) -> Draft {
+    let mut draft = inner(2, SPAN);
+    for number in 0..roots as i64 {
+        let root = draft.root(4 * number, 4 * 512, 8);
+        draft.join(root, 0, 0);
+    }
+    for _ in 0..leaves {
+        let leaf = draft.leaf(0, leaf_range, 8);
+        draft.join(1, leaf, 0);
+    }
+    lead(&mut draft, 0, 1, &with_chain(spread(4, 10), INNER_CHAIN));
+    draft
+}
+
+/// Some roots before all leaves, the others before none. Slow for an engine that looks at
+/// each pair, or that makes a long report in parts.
+fn few_joined(count: usize) -> Draft {
+    let mut draft = inner(1, SHORT_SPAN);
+    leaves(&mut draft, count, 0);
+    for number in 0..count {
+        let root = draft.root(0, 1, 8);
+        if number + LIVE >= count {
+            draft.join(root, 0, 0);
+        }
+    }
+    draft
+}
+
+/// Leaf rows that all roots of `long_report` reach.
+const REACHED: usize = 9;
+
+/// Roots in gaps for all leaves but the last few, which they reach: with these the report is
+/// longer than its buffer, and with one less it would fit. Slow for an engine that goes leaf
+/// row by leaf row and learns it at the end; turned round, for one that goes root row by
+/// root row.
+fn long_report(count: usize) -> Draft {
+    let mut draft = gaps(count, 0);
+    let reached = &draft.leaves[count - REACHED..];
+    reached.iter().for_each(|&leaf| draft.nodes[leaf].base = 1);
+    draft
+}
+
+/// The graph with an edge more from the last root to the last leaf, which makes 1,025 paths.
+/// Slow for an engine that counts paths pair by pair.
+fn crowded(mut draft: Draft) -> Draft {
+    let ends = [&draft.roots, &draft.leaves].map(|rows| rows[rows.len() - 1]);
+    draft.join(ends[0], ends[1], 0);
+    draft
+}
+
+/// Root i and leaf j meet where i and j are alike in their last two digits; between them a
+/// hub, and that many edges to the foot. Slow for an engine that walks from each root to
+/// each leaf. Turned round it is the same.
+fn alike_digits(count: usize, chain: usize) -> Draft {
+    let mut draft = inner(2, 100);
+    let digits = |number: usize| number as i64 % 100;
+    (0..count).for_each(|number| root(&mut draft, digits(number), 0));
+    for number in 0..count {
+        let leaf = draft.leaf(digits(number), 1, 8);
+        draft.join(1, leaf, 0);
+    }
+    lead(&mut draft, 0, 1, &vec![vec![0]; chain]);
+    draft
+}
+
+// Texts
+
+/// A map of two drafts.
+fn straight(name: &str, [spec, implementation]: [Draft; 2]) -> Hostile {
+    Hostile { name: name.to_string(), tables: tables(&spec, &implementation) }
+}
+
+/// The map, and the map of both drafts turned round.
+fn both_ways(name: &str, sides: [Draft; 2]) -> [Hostile; 2] {
+    let back = [turned(&sides[0]), turned(&sides[1])];
+    [straight(name, sides), straight(&format!("{name}, turned"), back)]
+}
+
+/// The maps with as many rows as a text has room for, or so many times fewer.
+fn maps(fewer: usize) -> Vec<Hostile> {
+    let few = |count: usize| count / fewer;
+    let fillers = few(ARENA / 32);
+    let alike = |draft: Draft| [draft.clone(), draft];
+    let maps = [
+        both_ways("roots in gaps of a hub", alike(gaps(few(570), LIVE))),
+        both_ways("roots in gaps behind 2 hubs", alike(gaps_behind(2, few(570)))),
+        both_ways("roots in gaps behind 4 hubs", alike(gaps_behind(4, few(570)))),
+        both_ways("roots in gaps behind 100 hubs", alike(gaps_behind(few(100), few(490)))),
+        both_ways("paths that die late", alike(late(0, few(616)))),
+        both_ways("paths that die late behind 2 hubs", alike(late(2, few(616)))),
+        both_ways("paths that die late behind 4 hubs", alike(late(4, few(615)))),
+        both_ways("nodes that fill an arena", alike(filled_arena(fillers, 1, few(505)))),
+        both_ways("nodes that fill an arena, 4 hubs", alike(filled_arena(fillers, 4, few(505)))),
+        both_ways("each root another part of a hub", [3, 2].map(|it| parts(few(500), 8, it))),
+        both_ways("4 of 799 roots joined", alike(few_joined(few(799)))),
+        both_ways("refusal 11 at the last rows", alike(long_report(few(570)))),
+        both_ways(
+            "refusal 10 at the last pair",
+            [gaps(few(570), LIVE), crowded(gaps(few(570), LIVE))],
+        ),
+    ];
+    let same_when_turned = [
+        straight("chain of 64, mostly empty", alike(alike_digits(few(543), INNER_CHAIN))),
+        straight("hub, mostly empty", alike(alike_digits(few(625), 1))),
+    ];
+    maps.into_iter().flatten().chain(same_when_turned).collect()
+}
+
+/// The texts, each of at most MAX_TEXT bytes.
+pub fn texts() -> Vec<Hostile> {
+    maps(1)
+}
+
+/// The same maps with fewer rows, which an engine that goes path by path or pair by pair
+/// does in no time.
+pub fn small_versions() -> Vec<Hostile> {
+    maps(24)
+}
+
+// Random maps
+
+/// Joins a node to some of those above it: by one edge, by parallel edges of one offset, or
+/// by edges of unlike offsets.
+fn enter(random: &mut Random, draft: &mut Draft, above: &[usize], node: usize) {
+    for _ in 0..random.between(1, 3) {
+        let from = random.pick(above);
+        draft.fit(random, from, node);
+        let offset = draft.edges[draft.edges.len() - 1].offset;
+        match random.below(5) {
+            0 => draft.join(from, node, offset),
+            1 => draft.join(from, node, offset + random.pick(&[1, 2, 8])),
+            2 => (1..4).for_each(|more| draft.join(from, node, offset + 3 * more)),
+            _ => (),
+        }
+    }
+}
+
+/// Layers of windows, wide and narrow: lists that are cut differently meet, and what is
+/// behind sees some of the records, or a gap between them.
+fn layered(random: &mut Random) -> Draft {
+    let mut draft = Draft::default();
+    for _ in 0..random.between(1, 3) {
+        draft.root(random.between(0, 9), random.pick(&[1, 8, 30]), 8);
+    }
+    let mut above = draft.roots.clone();
+    for _ in 0..random.between(1, 4) {
+        let before = above.clone();
+        if random.chance(70) {
+            above.clear();
+        }
+        for _ in 0..random.between(1, 3) {
+            let range = random.pick(&[2, 5, 20, 60, 60]);
+            let node = draft.node(SEGMENT, random.between(0, 9), range, random.pick(&[8, 8, 16]));
+            enter(random, &mut draft, &before, node);
+            above.push(node);
+        }
+    }
+    for _ in 0..random.between(2, 6) {
+        let leaf = draft.leaf(random.between(0, 12), random.pick(&[1, 2, 9, 30]), 8);
+        enter(random, &mut draft, &above, leaf);
+    }
+    draft
+}
+
+/// A small map of layers.
+pub fn layered_map(random: &mut Random) -> Tables {
+    let spec = layered(random);
+    implemented(random, spec)
+}
+
+/// Roots before nodes whose lists of 32 records fill an arena, each with a leaf that sees all
+/// of them; and before a hub of 1,024 records with leaves that see parts of them or gaps.
+pub fn filling_map(random: &mut Random) -> Tables {
+    let mut draft = inner(3, SPAN);
+    let [top, shared, hub] = [0, 1, 2];
+    for base in [0, 7] {
+        let root = draft.root(base, random.pick(&[1, 2, 40]), 8);
+        draft.join(root, top, 0);
+    }
+    let upwards = |offsets: Step| offsets.into_iter().map(|offset| -offset).collect::<Step>();
+    let upwards = |steps: Vec<Step>| steps.into_iter().map(upwards).collect::<Vec<Step>>();
+    lead(&mut draft, top, shared, &upwards(spread(100, 4)));
+    for _ in 0..ARENA / 32 {
+        let filler = draft.node(SEGMENT, 0, SPAN, 8);
+        draft.join(shared, filler, 0);
+        draft.join(shared, filler, -random.between(1, 99));
+        let leaf = draft.leaf(0, SPAN, 8);
+        draft.join(filler, leaf, 0);
+    }
+    let spacing = random.pick(&[2, 3, 5]);
+    let chain = random.between(10, 50) as usize;
+    lead(&mut draft, top, hub, &with_chain(upwards(spread(spacing, 10)), chain));
+    for _ in 0..12 {
+        let range = random.pick(&[1, 1, 9, 900]);
+        let leaf = draft.leaf(random.between(0, 1_024 * spacing), range, 8);
+        draft.join(hub, leaf, 0);
+    }
+    implemented(random, draft)
+}

@@ -1,9 +1,8 @@
 // The calls on tables through C linkage, for the benchmark and the tests of host/: a text holds at most 65,536 bytes, and some of the maps that are
 // measured need more. The library that the design environment links has the text check alone.
 ghost use mathlib.Core.Path.{_≡_};
-ghost use Prim.Native.Nat.{_≤_};
 ghost use lib.IntN.{pos, negℤ};
-ghost use Rattle.model.specs.Answers.{comparisonResult, verdictNumber, refusalOf, checkedAnswer, writtenAnswer};
+ghost use Rattle.model.specs.Answers.{comparisonResult, refusalOf, checkedAnswer, writtenAnswer};
 ghost use Rattle.model.specs.Calls.{checkAnswer, walkGives, walkAfter, listGives, listAfter, compareAnswer};
 ghost use Rattle.pairing.specs.Pairs.{tablesOf};
 ghost use Rattle.benchcalls.specs.Summary.{digits, packed, summary, taken, written};
@@ -15,8 +14,9 @@ use model::Checked;
 use model::Compared;
 use model::Comparison;
 use model::Reason;
-use model::Verdict;
 use model::Written;
+use model::verdict_number;
+use refusals::refusal_numbers;
 
 // The highest count that 20 binary digits hold.
 const MOST_COUNTED: usize = 1048575;
@@ -39,17 +39,6 @@ fn digits_of(count: usize) -> usize
     }
 }
 
-// The number of a verdict.
-fn verdict_number(verdict: Verdict) -> usize
-    ensures { λ r. ⌜ (r ≡ verdictNumber verdict) × (r ≤ 2) ⌝ }
-{
-    match verdict {
-        Verdict::Equal => 0,
-        Verdict::Partial => 1,
-        Verdict::Different => 2,
-    }
-}
-
 // A full result as one number.
 fn packed_of(c: Comparison) -> i64
     ensures { λ r. ⌜ r ≡ pos (packed (comparisonResult c)) ⌝ }
@@ -66,23 +55,8 @@ fn packed_of(c: Comparison) -> i64
 fn refused_number(reason: Reason) -> i64
     ensures { λ r. ⌜ r ≡ negℤ (pos (refusalOf reason .number)) ⌝ }
 {
-    match reason {
-        Reason::Shape { table: _ } => -1,
-        Reason::Node { table: _, row: _ } => -2,
-        Reason::Edge { table: _, row: _ } => -3,
-        Reason::FromBlock { table: _, row: _ } => -4,
-        Reason::Cycle { table: _ } => -5,
-        Reason::LongChain { table: _ } => -6,
-        Reason::NotRootOrLeaf { table: _, row: _ } => -7,
-        Reason::PairedBefore { table: _, row: _ } => -8,
-        Reason::NoPair { table: _ } => -9,
-        Reason::ManyPaths { table: _, row: _ } => -10,
-        Reason::LongOutput => -11,
-        Reason::Characters { line: _ } => -12,
-        Reason::Names { line: _ } => -13,
-        Reason::Values { line: _ } => -14,
-        Reason::NoCaller => -15,
-    }
+    let refusal = refusal_numbers(reason);
+    -(refusal.number as i64)
 }
 
 // The answer of the check of one graph.

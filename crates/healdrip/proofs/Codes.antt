@@ -4,27 +4,15 @@ use Prim.Native.Nat.{ℕ, _+_, _*_, _/_, _%_, _<_, _^_}
 use native.Mathlib.Omega.{arith}
 use lib.IntN.{ℤ, pos, negℤ, _-ℤ_, negℤ-negℤ}
 use mir.Syntax.{w64}
-use mir.Val.{SFits, toZ, ofZ}
-use mir.Facts.{toZ-ofZ, toZ-pos}
-use Rattle.integers.proofs.Linear.{ints, diff, neg}
-use Rattle.integers.proofs.Range.{fits64}
+use mir.Val.{toZ, ofZ}
+use mir.Facts.{toZ-pos}
+use Rattle.integers.proofs.Linear.{ints, neg}
+use Rattle.integers.proofs.Negation.{negated}
 use Rattle.model.specs.Bytes.{Bytes}
 use Rattle.model.specs.Refusals.{Refusal}
 use Rattle.model.specs.Calls.{refused, full}
 use Rattle.model.specs.TextCheck.{coded, textGives}
-use Rattle.refusals.specs.Small.{Small}
 use Rattle.refusals.proofs.Texts.{gives-small}
-
-module _ {n : ℕ} (low : n < 2 ^ 63) where
-  -- its negation fits
-  pub negated-fits : SFits w64 (pos 0 -ℤ toZ w64 n)
-  negated-fits = rw (toZ-pos w64 low) (fits64 (omega (arith, ints, diff (pos 0) (pos n))))
-
-  -- and is what is returned
-  pub negated : toZ w64 (ofZ w64 (pos 0 -ℤ toZ w64 n)) ≡ negℤ (pos n)
-  negated =
-      let same : pos 0 -ℤ pos n ≡ negℤ (pos n) = omega (arith, ints, diff (pos 0) (pos n), neg (pos n)) in
-      toZ-ofZ negated-fits ∙ rw (toZ-pos w64 low) same
 
 -- twice negated
 pub negated-twice : (n : ℕ) → pos n ≡ negℤ (negℤ (pos n))

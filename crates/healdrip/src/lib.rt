@@ -5,7 +5,7 @@ ghost use lib.IntN.{pos, negℤ};
 ghost use Rattle.model.specs.Calls.{refused};
 ghost use Rattle.model.specs.TextCheck.{coded};
 ghost use Rattle.textcheck.specs.Promises.{TextPromise};
-ghost use Rattle.refusals.specs.Small.{refusalNumbers, Small};
+ghost use Rattle.refusals.specs.Small.{refusalNumbers, SmallRefusal};
 use model::Written;
 use refusals::Refusal;
 
@@ -16,7 +16,7 @@ const TABLE_WEIGHT: usize = 10000000;
 
 // A refusal as one number.
 fn refusal_code(refusal: Refusal) -> usize
-    requires { ⌜ Small (refusalNumbers refusal) ⌝ }
+    requires { ⌜ SmallRefusal (refusalNumbers refusal) ⌝ }
     ensures { λ r. ⌜ (pos r ≡ negℤ (coded (refused (refusalNumbers refusal)))) × (r < 2 ^ 63) ⌝ }
 {
     refusal.number * NUMBER_WEIGHT + refusal.table * TABLE_WEIGHT + refusal.row
@@ -24,7 +24,7 @@ fn refusal_code(refusal: Refusal) -> usize
 
 // The same below 0.
 fn negative_code(refusal: Refusal) -> i64
-    requires { ⌜ Small (refusalNumbers refusal) ⌝ }
+    requires { ⌜ SmallRefusal (refusalNumbers refusal) ⌝ }
     ensures { λ r. ⌜ r ≡ coded (refused (refusalNumbers refusal)) ⌝ }
 {
     let code = refusal_code(refusal);

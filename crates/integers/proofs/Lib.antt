@@ -2,3 +2,4 @@ pub mod Linear
 pub mod Tests
 pub mod Products
 pub mod Range
+pub mod Negation

@@ -1,11 +1,10 @@
 -- A product with a number that is not negative, on the parts, and its bounds.
 use mathlib.Core.Path.{_≡_, refl, sym, subst, _∙_}
-use Prim.Native.Nat.{ℕ, zero, suc, _+_, _*_, _≤_, _<_}
-use native.Mathlib.Nat.{mul-le-mul, add-mul}
+use Prim.Native.Nat.{ℕ, suc, _*_, _≤_}
+use native.Mathlib.Nat.{mul-le-mul}
 use native.Mathlib.Omega.{arith}
-use lib.IntN.{ℤ, pos, negsuc, _+ℤ_, _*ℤ_}
-use lib.Signed.{_≤ℤ_, _<ℤ_}
-use Rattle.integers.proofs.Linear.{plus, minus, ints, neg, sum}
+use lib.IntN.{ℤ, pos, negsuc, _*ℤ_}
+use Rattle.integers.proofs.Linear.{plus, minus, neg}
 
 times-pos : (x : ℤ) (u : ℕ) → (plus (x *ℤ pos u) ≡ plus x * u) × (minus (x *ℤ pos u) ≡ minus x * u)
 times-pos (pos a) u = (refl, omega arith)

@@ -1,9 +1,9 @@
 -- Which elements keep, map and flatMap have, and what any, all and a choice say.
 use mathlib.Core.Path.{_≡_, refl, sym, ap, subst}
-use mathlib.Core.Bool.{Bool, true, false, not, cond, _&&_, _||_}
-use mathlib.Core.List.{List, [], _∷_, _++_, map, flatMap, List·Memᴰ, List·Memᴰ·head, List·Memᴰ·tail, List·Memᴰ·not-nil, List·Memᴰ·append-cases, Memᴰ·append-left, Memᴰ·append-right}
+use mathlib.Core.Bool.{Bool, true, false, not, cond}
+use mathlib.Core.List.{List, [], _∷_, map, flatMap, List·Memᴰ, List·Memᴰ·head, List·Memᴰ·tail, List·Memᴰ·not-nil, List·Memᴰ·append-cases, Memᴰ·append-left, Memᴰ·append-right}
 use mathlib.Core.Logic.{_⊎_, inl, inr}
-use lib.Dec.{T, T-not, not-T}
+use lib.Dec.{T}
 use Rattle.integers.proofs.Tests.{Test, passed, failed, test?, or-left, or-right, or-out, and-in, and-out, nand-out}
 use Rattle.lists.specs.Lists.{_∈_, keep, any, all, isNil}
 

@@ -1,7 +1,7 @@
 -- The check of one graph settles its conditions: each test on a table, a node row and an edge row decides its condition, and so do the
 -- tests for a root and for a leaf.
 use mathlib.Core.Path.{_≡_, sym, subst}
-use mathlib.Core.Bool.{Bool, true, false, not, _||_}
+use mathlib.Core.Bool.{not, _||_}
 use mathlib.Core.Logic.{_⊎_, _≢_, inl, inr, ⊎-elim}
 use mathlib.Core.List.{List, flatMap, append-assoc}
 use Prim.Native.Nat.{ℕ, suc, _*_, _%_, _<_}
@@ -12,7 +12,7 @@ use lib.Signed.{_≤ℤ_, _<ℤ_}
 use lib.ListN.{length}
 use Rattle.integers.specs.Integers.{eqZ}
 use Rattle.integers.proofs.Linear.{ints}
-use Rattle.integers.proofs.Tests.{Test, le?, lt?, eqZ?, eq?, ltb?, test-of, of-test}
+use Rattle.integers.proofs.Tests.{le?, lt?, eqZ?, eq?}
 use Rattle.lists.specs.Lists.{_∈_}
 use Rattle.model.specs.Limits.{nodeWidth, edgeWidth, maxNodes, maxEdges, maxUnits}
 use Rattle.model.specs.Rows.{Node, Edge, nodeRows, edgeRows}
@@ -21,7 +21,7 @@ use Rattle.model.specs.Paths.{Root, Leaf, Cycle, LongChain}
 use Rattle.model.specs.Refusals.{Condition, NoneHolds, refuse, _next_, BadShape, broken, tooMany, Kind, AddressUnit, BadNode, unknownKind, unknownUnit, lowBase, lowRange, highEnd, BadEdge, noFrom, noTo, lowOffset, highOffset, shapeConditions, nodeConditions, edgeConditions, rowConditions, graphConditions, checkConditions}
 use Rattle.model.specs.Checks.{when, _then_, firstOf, checkShape, isKind, isUnit, goodNode, checkNode, isRow, goodEdge, checkEdge, cyclic, deep, checkGraph, isRoot, isLeaf}
 use Rattle.model.specs.Calls.{checkAnswer}
-use Rattle.lists.proofs.Decisions.{Decides, test-map, not?, and?, or?, decides-as, decides-and, decides-le, any?, test-stable, decides-not, decides-or, or-regroup, decides-lt}
+use Rattle.lists.proofs.Decisions.{Decides, test-map, not?, and?, decides-as, decides-and, decides-le, any?, test-stable, decides-not, decides-or, or-regroup, decides-lt}
 use Rattle.model.proofs.Settled.{Settled, settled-next, settled-when, settled-each, none-flatMap, Exact, answer-exact}
 use Rattle.model.proofs.Chains.{cyclic?, deep?}
 

@@ -1,5 +1,5 @@
 -- The marked maps P1 to P8 hold of the definitions: computed.
-use mathlib.Core.Path.{_≡_, refl}
+use mathlib.Core.Path.{refl}
 use mathlib.Core.List.{flatMap}
 use Rattle.lists.specs.Lists.{keep, any, all, isNil}
 use Rattle.model.specs.Rows.{nodesFrom, edgesFrom, pairsFrom}

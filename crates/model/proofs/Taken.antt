@@ -12,7 +12,7 @@ use Rattle.integers.proofs.Linear.{plus, minus, ints, sum, diff, neg}
 use Rattle.integers.proofs.Products.{times, times-bound}
 use Rattle.integers.proofs.Tests.{le?, eq?, leb?}
 use Rattle.lists.proofs.Decisions.{test-stable}
-use Rattle.lists.specs.Lists.{_∈_, Distinct}
+use Rattle.lists.specs.Lists.{_∈_}
 use Rattle.model.specs.Limits.{nodeWidth, edgeWidth, maxNodes, maxEdges, maxUnits, lastAddress}
 use Rattle.model.specs.Rows.{Node, Edge, nodeRows, edgeRows}
 use Rattle.model.specs.Graph.{Graph, graphOf, NodeRow, noNode, node, block, firstBit, lastBit, bitOffset}

@@ -187,10 +187,6 @@ runs-within-paths g r l =
 pub reached-address : {g : Graph} {r l x y : ℤ} → Reached g r l x y → StandsOn (node g r) x
 reached-address h = walk-start (h .walk)
 
--- a leaf bit that is reached stands on the leaf
-pub reached-leaf-bit : {g : Graph} {r l x y : ℤ} → Reached g r l x y → StandsOn (node g l) (y +ℤ firstBit (node g l))
-reached-leaf-bit {g} {l} h = subst (λ (b : ℤ). StandsOn (node g l) b) (reached-arrival h) (walk-end (h .walk))
-
 -- ---- the runs, edge by edge
 
 -- the runs along the paths from run r, but for the empty ones

@@ -7,7 +7,7 @@ use lib.IntN.{ℤ, _-ℤ_}
 use lib.Signed.{leZ, ltZ}
 use lib.ListN.{length, drop}
 use Rattle.integers.specs.Integers.{eqZ}
-use Rattle.model.specs.Limits.{maxChain}
+use Rattle.model.specs.Limits.{recordWidth, maxChain}
 use Rattle.model.specs.Rows.{Node}
 use Rattle.model.specs.Graph.{Graph, graphOf, node, firstBit, lastBit, bitOffset}
 use Rattle.model.specs.Bitmapping.{Record}
@@ -106,10 +106,10 @@ listAfter ns es r l buffer = bufferAfter (numbersAnswer (listAnswer ns es r l (l
 
 -- the same for a buffer of records, each of which is room for three numbers
 unfoldable pub recordsGives : List ℤ → List ℤ → ℤ → ℤ → List Record → Answer ℕ
-recordsGives ns es r l buffer = lengthOf (listAnswer ns es r l (3 * length buffer))
+recordsGives ns es r l buffer = lengthOf (listAnswer ns es r l (recordWidth * length buffer))
 
 unfoldable pub recordsAfter : List ℤ → List ℤ → ℤ → ℤ → List Record → List Record
-recordsAfter ns es r l buffer = bufferAfter (listAnswer ns es r l (3 * length buffer)) buffer
+recordsAfter ns es r l buffer = bufferAfter (listAnswer ns es r l (recordWidth * length buffer)) buffer
 
 -- ---- compare
 

@@ -13,7 +13,7 @@ use Rattle.model.specs.Rows.{Pair}
 use Rattle.model.specs.Walk.{Reached}
 use Rattle.model.specs.Bitmapping.{Record, IsBitmappingList}
 use Rattle.model.specs.Verdicts.{Rules}
-use Rattle.model.specs.Compare.{Tables, specGraph, implGraph, rootRows, leafRows, Visit, visits, findingOf, verdictOf, count, largest, Place, nowhere, Result}
+use Rattle.model.specs.Compare.{Tables, specGraph, implGraph, rootRows, leafRows, Visit, visits, findingOf, verdictOf, count, largest, nowhere, Result}
 
 -- a bit address from 0 to 2^55 − 1
 pub record Address (x : ℤ) : Type 0 where

@@ -12,6 +12,10 @@ edgeWidth = 3
 abbrev pub pairWidth : ℕ
 pairWidth = 2
 
+-- numbers of a record in a list
+abbrev pub recordWidth : ℕ
+recordWidth = 3
+
 -- rows of a table at most
 abbrev pub maxNodes : ℕ
 maxNodes = 2000
@@ -29,6 +33,10 @@ maxUnits = 2 ^ 48
 -- the highest bit address of any node that keeps the limits
 abbrev pub lastAddress : ℤ
 lastAddress = pos (2 ^ 55 - 1)
+
+-- bit addresses lie below this, bit offsets and displacements within: a bit address plus or less one of these is a number of 64 bits
+abbrev pub addressRoom : ℕ
+addressRoom = 2 ^ 62
 
 -- edges of a chain at most
 abbrev pub maxChain : ℕ

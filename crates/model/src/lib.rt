@@ -1,8 +1,9 @@
 // The address map graph model: quantities and answers. The definitions that every contract cites are in specs/.
 ghost use mathlib.Core.Path.{_≡_};
-ghost use Prim.Native.Nat.{_+_, _≤_, _^_};
-ghost use lib.IntN.{pos, negℤ, _+ℤ_, _-ℤ_, _*ℤ_};
-ghost use lib.Signed.{_≤ℤ_};
+ghost use Prim.Native.Nat.{_+_, _≤_};
+ghost use lib.IntN.{pos, _+ℤ_, _-ℤ_, _*ℤ_};
+ghost use Rattle.integers.specs.Integers.{minZ, maxZ};
+ghost use Rattle.model.specs.Answers.{verdictNumber};
 ghost use Rattle.model.specs.Quantities.{Addable, Scalable, Movable};
 
 // Numbers of a node row, of an edge row and of a pair.
@@ -11,6 +12,9 @@ pub const NODE_WIDTH: usize = 4;
 pub const EDGE_WIDTH: usize = 3;
 
 pub const PAIR_WIDTH: usize = 2;
+
+// Numbers of a record in a list.
+pub const RECORD_WIDTH: usize = 3;
 
 // Rows of a table at most.
 pub const MAX_NODES: usize = 2000;
@@ -23,6 +27,9 @@ pub const MAX_PAIRS: usize = 1000;
 pub const MAX_CHAIN: usize = 64;
 
 pub const MAX_PATHS: usize = 1024;
+
+// Numbers of a list at most: RECORD_WIDTH for each of MAX_PATHS records.
+pub const MAX_NUMBERS: usize = 3072;
 
 // Base + range of a node, and the size of an offset, in address units, at most: 2^48.
 pub const MAX_UNITS: i64 = 281474976710656;
@@ -47,6 +54,10 @@ pub const IMPL_EDGES: usize = 3;
 pub const ROOT_PAIRS: usize = 4;
 
 pub const LEAF_PAIRS: usize = 5;
+
+pub const TEXT: usize = 6;
+
+pub const OUTPUT: usize = 7;
 
 // Kinds of nodes.
 pub const SPACE: i64 = 0;
@@ -117,6 +128,20 @@ impl Bits {
     {
         Bits(self.0 - 1)
     }
+
+    // The lower of two bit addresses.
+    pub fn lower(self, other: Bits) -> Bits
+        ensures { λ r. ⌜ r .0 ≡ minZ (self .0) (other .0) ⌝ }
+    {
+        if self.0 <= other.0 { self } else { other }
+    }
+
+    // The higher of two bit addresses.
+    pub fn higher(self, other: Bits) -> Bits
+        ensures { λ r. ⌜ r .0 ≡ maxZ (self .0) (other .0) ⌝ }
+    {
+        if self.0 <= other.0 { other } else { self }
+    }
 }
 
 // Why a call refuses its input, in the order of the table of refusals. Tables and rows are those of that table.
@@ -143,6 +168,17 @@ pub enum Verdict {
     Equal,
     Partial,
     Different,
+}
+
+// The number of a verdict.
+pub fn verdict_number(v: Verdict) -> usize
+    ensures { λ r. ⌜ (r ≡ verdictNumber v) × (r ≤ 2) ⌝ }
+{
+    match v {
+        Verdict::Equal => 0,
+        Verdict::Partial => 1,
+        Verdict::Different => 2,
+    }
 }
 
 // The answer of the check of one graph.

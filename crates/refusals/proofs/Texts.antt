@@ -20,7 +20,7 @@ use Rattle.model.specs.Calls.{Answer, refused, full, answer, lengthOf}
 use Rattle.model.specs.Report.{report}
 use Rattle.model.specs.Reader.{allowed, checkBytes, brokenOff, checkText, columns, rowOf, Reading, stopped, rows, withRow, stop, readValues, readTable, readThird, readSecond, readFirst, readMap}
 use Rattle.model.specs.TextCheck.{Reported, reportedOf, checkRead, textAnswer, reportOf, textGives}
-use Rattle.refusals.specs.Small.{Small, SmallCheck, SmallAnswer}
+use Rattle.refusals.specs.Small.{SmallRefusal, SmallCheck, SmallAnswer}
 use Rattle.refusals.proofs.Checks.{when-small, then-small, tables-small}
 
 -- ---- 12
@@ -87,7 +87,7 @@ lines-short (c ∷ text) = go (eqb c lineFeed) (lines-short text)
 
 -- a reading stops with a small refusal, or leaves lines of which none has a number above `last`
 abbrev SmallReading : ℕ → Reading → Type 0
-SmallReading last (stopped r) = Small r
+SmallReading last (stopped r) = SmallRefusal r
 SmallReading last (rows rs ls n) = n + length ls ≤ last
 
 row-reading : (last : ℕ) (row : List ℤ) (reading : Reading) → SmallReading last reading → SmallReading last (withRow row reading)
@@ -169,7 +169,7 @@ length-small (refused r) s = s
 length-small (full c) s = tt
 
 -- the refusals of the text check are small
-pub gives-small : (text buffer : Bytes) {r : Refusal} → refused r ≡ textGives text buffer → Small r
+pub gives-small : (text buffer : Bytes) {r : Refusal} → refused r ≡ textGives text buffer → SmallRefusal r
 unfolding textGives textAnswer
 gives-small text buffer e =
     let small = length-small (textAnswer (length buffer) text) (read-small (length buffer) (readMap text) (map-small text)) in

@@ -11,7 +11,7 @@ abbrev pub refusalNumbers : Refusal → model.Refusal
 refusalNumbers r = record { number = r .number; table = r .table; row = r .row }
 
 -- the number is one of 1 to 14, the table one of eight, and the row has at most seven digits
-pub record Small (r : model.Refusal) : Type 0 where
+pub record SmallRefusal (r : model.Refusal) : Type 0 where
   pub least : 1 ≤ r .number
   pub number : r .number ≤ 14
   pub table : r .table < 8
@@ -20,9 +20,9 @@ pub record Small (r : model.Refusal) : Type 0 where
 -- the refusal of a check, if there is one, is small
 abbrev pub SmallCheck : Option model.Refusal → Type 0
 SmallCheck none = Unit {0}
-SmallCheck (some r) = Small r
+SmallCheck (some r) = SmallRefusal r
 
 -- the refusal of an answer, if it is one, is small
 abbrev pub SmallAnswer : {A : Type 0} → Answer A → Type 0
-SmallAnswer (refused r) = Small r
+SmallAnswer (refused r) = SmallRefusal r
 SmallAnswer (full x) = Unit {0}

@@ -3,7 +3,9 @@ ghost use mathlib.Core.Path.{_≡_};
 ghost use Rattle.model.specs.Answers as model;
 ghost use Rattle.model.specs.Answers.{refusalOf};
 ghost use Rattle.refusals.specs.Small.{refusalNumbers};
+use model::OUTPUT;
 use model::Reason;
+use model::TEXT;
 
 // Number, table and row of a refusal.
 pub struct Refusal {
@@ -22,11 +24,6 @@ fn numbered(number: usize, table: usize, row: usize) -> Refusal
         row: row,
     }
 }
-
-// The table of a text, and that of an output.
-const TEXT: usize = 6;
-
-const OUTPUT: usize = 7;
 
 // Number, table and row of a reason.
 pub fn refusal_numbers(reason: Reason) -> Refusal

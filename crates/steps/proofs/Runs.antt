@@ -10,10 +10,10 @@ use lib.Signed.{_≤ℤ_, _<ℤ_}
 use Rattle.integers.specs.Integers.{minZ, maxZ}
 use Rattle.integers.proofs.Linear.{ints, sum, diff, neg}
 use Rattle.integers.proofs.Tests.{is-true, is-false, min-is, max-is}
-use Rattle.model.specs.Rows.{Node}
-use Rattle.model.specs.Graph.{firstBit, lastBit}
+use Rattle.model.specs.Rows.{Node, Edge}
+use Rattle.model.specs.Graph.{Graph, node, firstBit, lastBit, bitOffset}
 use Rattle.model.specs.Quantities.{Addable, Movable}
-use Rattle.model.specs.Runs.{Run, empty, shift, clip}
+use Rattle.model.specs.Runs.{Run, empty, shift, clip, across}
 use Rattle.model.proofs.Steps.{empty-none, empty-not, empty-in}
 use Rattle.steps.specs.Steps.{living, SmallRun, SmallOffset, Clippable, SmallExtent}
 
@@ -114,6 +114,11 @@ module _ {r : Run} {first last low high : ℤ} (fits : Clippable r) (extent : Sm
           low = omega (arith, ints, fits .root, neg (pos (2 ^ 62)));
           high = omega (arith, ints, fits .last);
         }
+
+-- clipped at the node entered, the shifted run is the run over the edge
+pub clip-across : (g : Graph) (e : Edge) (r : Run) {s : Run} {o : ℤ} → s ≡ shift o r → o ≡ bitOffset g e → clip (node g (e .to)) s ≡ across g e r
+unfolding across
+clip-across g e r p q = cc
 
 -- what is left of a run that can be clipped is small
 pub clip-small : (n : Node) {r : Run} → Clippable r → SmallExtent (firstBit n) (lastBit n) → T (not (empty (clip n r))) → SmallRun (clip n r)

@@ -4,11 +4,11 @@ use mathlib.Core.Path.{_≡_}
 use mathlib.Core.Bool.{cond}
 use mathlib.Core.List.{List}
 use mathlib.Core.Option.{Option, none, some}
-use Prim.Native.Nat.{ℕ, _+_, _*_, _≤_, _^_}
+use Prim.Native.Nat.{ℕ, _+_, _*_, _≤_}
 use lib.IntN.{ℤ, pos, negℤ, _+ℤ_, _-ℤ_}
 use lib.Signed.{_≤ℤ_, _<ℤ_}
 use lib.ListN.{length}
-use Rattle.model.specs.Limits.{nodeWidth}
+use Rattle.model.specs.Limits.{nodeWidth, addressRoom}
 use Rattle.model.specs.Rows.{Node}
 use Rattle.model.specs.Graph.{firstBit, lastBit}
 use Rattle.model.specs.Refusals.{BadNode}
@@ -36,29 +36,29 @@ pub record SmallRun (r : Run) : Type 0 where
   pub root : pos 0 ≤ℤ r .root
   pub low : pos 0 ≤ℤ r .low
   pub full : r .low ≤ℤ r .high
-  pub high : r .high <ℤ pos (2 ^ 62)
-  pub last : (r .root +ℤ (r .high -ℤ r .low)) <ℤ pos (2 ^ 62)
+  pub high : r .high <ℤ pos addressRoom
+  pub last : (r .root +ℤ (r .high -ℤ r .low)) <ℤ pos addressRoom
 
 -- a bit address below 2^62
 pub record SmallAddress (a : ℤ) : Type 0 where
   pub low : pos 0 ≤ℤ a
-  pub high : a <ℤ pos (2 ^ 62)
+  pub high : a <ℤ pos addressRoom
 
 -- a bit offset within ±2^62
 pub record SmallOffset (offset : ℤ) : Type 0 where
-  pub low : negℤ (pos (2 ^ 62)) ≤ℤ offset
-  pub high : offset ≤ℤ pos (2 ^ 62)
+  pub low : negℤ (pos addressRoom) ≤ℤ offset
+  pub high : offset ≤ℤ pos addressRoom
 
 -- what clip asks of a run: small runs, shifted by a small offset, have it
 pub record Clippable (r : Run) : Type 0 where
   pub root : pos 0 ≤ℤ r .root
-  pub low : negℤ (pos (2 ^ 62)) ≤ℤ r .low
-  pub last : (r .root +ℤ (r .high -ℤ r .low)) <ℤ pos (2 ^ 62)
+  pub low : negℤ (pos addressRoom) ≤ℤ r .low
+  pub last : (r .root +ℤ (r .high -ℤ r .low)) <ℤ pos addressRoom
 
 -- the first and the last bit of a node, below 2^62
 pub record SmallExtent (first last : ℤ) : Type 0 where
   pub low : pos 0 ≤ℤ first
-  pub high : last <ℤ pos (2 ^ 62)
+  pub high : last <ℤ pos addressRoom
 
 -- low and high are the first and the last bit of the node
 pub record ExtentOf (n : Node) (low high : ℤ) : Type 0 where

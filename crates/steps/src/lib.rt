@@ -4,10 +4,10 @@ ghost use mathlib.Core.List.{List};
 ghost use Prim.Native.Nat.{_+_, _*_, _≤_};
 ghost use lib.IntN.{ℤ, pos, _-ℤ_};
 ghost use lib.ListN.{length};
-ghost use Rattle.integers.specs.Integers.{minZ, maxZ};
+ghost use Rattle.model.specs.Limits.{edgeWidth};
 ghost use Rattle.model.specs.Rows.{Node};
 ghost use Rattle.model.specs.Graph.{graphOf, node, firstBit, lastBit, bitOffset};
-ghost use Rattle.model.specs.Runs.{whole, shift, clip};
+ghost use Rattle.model.specs.Runs.{whole, shift, clip, across};
 ghost use Rattle.model.specs.Calls.{standsOn};
 ghost use Rattle.model.specs.Taken.{TakenTables};
 ghost use Rattle.tables.specs.Tables.{edgeAt};
@@ -42,20 +42,6 @@ pub fn shift(run: Run, offset: Bits) -> Run
     }
 }
 
-// The lower of two bit addresses.
-fn lower(a: Bits, b: Bits) -> Bits
-    ensures { λ r. ⌜ r .0 ≡ minZ (a .0) (b .0) ⌝ }
-{
-    if a.0 <= b.0 { a } else { b }
-}
-
-// The higher of two bit addresses.
-fn higher(a: Bits, b: Bits) -> Bits
-    ensures { λ r. ⌜ r .0 ≡ maxZ (a .0) (b .0) ⌝ }
-{
-    if a.0 <= b.0 { b } else { a }
-}
-
 // Those bits of a run that lie between the first and the last bit of a node. A run that has none is found before its root bit is computed:
 // the sum might not fit.
 pub fn clip(run: Run, first: Bits, last: Bits) -> Clipped
@@ -64,8 +50,8 @@ pub fn clip(run: Run, first: Bits, last: Bits) -> Clipped
 {
     let root = run.root;
     let start = run.low;
-    let low = higher(first, start);
-    let high = lower(last, run.high);
+    let low = first.higher(start);
+    let high = last.lower(run.high);
     if high.0 < low.0 {
         return Clipped::Nothing;
     }
@@ -97,7 +83,7 @@ fn extent_of(nodes: &[i64], v: usize) -> Extent
 
 // The bit offset of edge e: its offset in units of the node that it enters.
 pub fn offset_of(nodes: &[i64], edges: &[i64], e: usize) -> Bits
-    requires { ⌜ TakenTables (now nodes) (now edges) × (3 * e + 3 ≤ length (now edges)) ⌝ }
+    requires { ⌜ TakenTables (now nodes) (now edges) × (edgeWidth * e + edgeWidth ≤ length (now edges)) ⌝ }
     ensures { λ r. ⌜ r .0 ≡ bitOffset (graphOf (now (nodes .entry)) (now (edges .entry))) (edgeAt (now (edges .entry)) e) ⌝ }
 {
     let row = tables::edge_at(edges, e);
@@ -105,6 +91,18 @@ pub fn offset_of(nodes: &[i64], edges: &[i64], e: usize) -> Bits
     let entered = tables::node_at(nodes, to);
     let offset = row.offset;
     tables::edge_bit_offset(offset, entered.unit)
+}
+
+// What is left of a run over edge e: shifted by the bit offset, then clipped at the node entered.
+pub fn cross(nodes: &[i64], edges: &[i64], e: usize, run: Run) -> Clipped
+    requires { ⌜ TakenTables (now nodes) (now edges) × (edgeWidth * e + edgeWidth ≤ length (now edges)) × SmallRun (runOf run) ⌝ }
+    ensures { λ r. ⌜ livingOf r ≡ living (across (graphOf (now (nodes .entry)) (now (edges .entry))) (edgeAt (now (edges .entry)) e) (runOf run)) ⌝ }
+{
+    let shifted = shift(run, offset_of(nodes, edges, e));
+    let entered = extent_of(nodes, tables::edge_to(edges, e));
+    let first = entered.first;
+    let last = entered.last;
+    clip(shifted, first, last)
 }
 
 // All bits of node v.
@@ -138,7 +136,7 @@ pub fn stands(nodes: &[i64], v: usize, a: Bits) -> bool
 
 // The bit address that a becomes over edge e.
 pub fn moved(nodes: &[i64], edges: &[i64], e: usize, a: Bits) -> Bits
-    requires { ⌜ TakenTables (now nodes) (now edges) × (3 * e + 3 ≤ length (now edges)) × SmallAddress (a .0) ⌝ }
+    requires { ⌜ TakenTables (now nodes) (now edges) × (edgeWidth * e + edgeWidth ≤ length (now edges)) × SmallAddress (a .0) ⌝ }
     ensures { λ r. ⌜ r .0 ≡ a .0 -ℤ bitOffset (graphOf (now (nodes .entry)) (now (edges .entry))) (edgeAt (now (edges .entry)) e) ⌝ }
 {
     let offset = offset_of(nodes, edges, e);

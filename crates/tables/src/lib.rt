@@ -4,7 +4,7 @@ ghost use Prim.Native.Nat.{_+_, _*_, _≤_, _<_, _^_};
 ghost use lib.IntN.{pos, negℤ, _*ℤ_};
 ghost use lib.Signed.{_≤ℤ_};
 ghost use lib.ListN.{length};
-ghost use Rattle.model.specs.Limits.{maxUnits};
+ghost use Rattle.model.specs.Limits.{nodeWidth, edgeWidth, maxUnits};
 ghost use Rattle.model.specs.Rows.{nodeRows, edgeRows};
 ghost use Rattle.model.specs.Graph.{Graph, graphOf, firstBit, lastBit};
 ghost use Rattle.model.specs.Refusals.{BadNode, AddressUnit};
@@ -42,7 +42,7 @@ pub struct EdgeRow {
 
 // Row v of a node table.
 pub fn node_at(nodes: &[i64], v: usize) -> NodeRow
-    requires { ⌜ 4 * v + 4 ≤ length (now nodes) ⌝ }
+    requires { ⌜ nodeWidth * v + nodeWidth ≤ length (now nodes) ⌝ }
     ensures { λ r. ⌜ nodeOf v r ≡ nodeAt (now (nodes .entry)) v ⌝ }
 {
     let kind = nodes[NODE_WIDTH * v];
@@ -59,7 +59,7 @@ pub fn node_at(nodes: &[i64], v: usize) -> NodeRow
 
 // Row e of an edge table.
 pub fn edge_at(edges: &[i64], e: usize) -> EdgeRow
-    requires { ⌜ 3 * e + 3 ≤ length (now edges) ⌝ }
+    requires { ⌜ edgeWidth * e + edgeWidth ≤ length (now edges) ⌝ }
     ensures { λ r. ⌜ edgeOf e r ≡ edgeAt (now (edges .entry)) e ⌝ }
 {
     let from = edges[EDGE_WIDTH * e];
@@ -74,7 +74,7 @@ pub fn edge_at(edges: &[i64], e: usize) -> EdgeRow
 
 // The node that edge e leaves, as an index.
 pub fn edge_from(edges: &[i64], e: usize) -> usize
-    requires { ⌜ (3 * e + 3 ≤ length (now edges)) × (pos 0 ≤ℤ edgeAt (now edges) e .from) ⌝ }
+    requires { ⌜ (edgeWidth * e + edgeWidth ≤ length (now edges)) × (pos 0 ≤ℤ edgeAt (now edges) e .from) ⌝ }
     ensures { λ r. ⌜ pos r ≡ edgeAt (now (edges .entry)) e .from ⌝ }
 {
     edges[EDGE_WIDTH * e] as usize
@@ -82,7 +82,7 @@ pub fn edge_from(edges: &[i64], e: usize) -> usize
 
 // The node that edge e enters, as an index.
 pub fn edge_to(edges: &[i64], e: usize) -> usize
-    requires { ⌜ (3 * e + 3 ≤ length (now edges)) × (pos 0 ≤ℤ edgeAt (now edges) e .to) ⌝ }
+    requires { ⌜ (edgeWidth * e + edgeWidth ≤ length (now edges)) × (pos 0 ≤ℤ edgeAt (now edges) e .to) ⌝ }
     ensures { λ r. ⌜ pos r ≡ edgeAt (now (edges .entry)) e .to ⌝ }
 {
     edges[EDGE_WIDTH * e + 1] as usize
@@ -174,7 +174,7 @@ pub fn good_node(n: NodeRow) -> bool
 
 // Refusal 2 of row v of a node table.
 fn check_node(nodes: &[i64], v: usize, table: usize) -> Checked
-    requires { ⌜ 4 * v + 4 ≤ length (now nodes) ⌝ }
+    requires { ⌜ nodeWidth * v + nodeWidth ≤ length (now nodes) ⌝ }
     ensures { λ r. ⌜ checkedAnswer r ≡ answer (checkNode table (nodeAt (now (nodes .entry)) v)) tt ⌝ }
 {
     let n = node_at(nodes, v);
@@ -239,7 +239,7 @@ pub fn good_edge(e: EdgeRow, count: usize) -> bool
 
 // Refusals 3 and 4 of row e of an edge table.
 fn check_edge(nodes: &[i64], edges: &[i64], e: usize, table: usize) -> Checked
-    requires { ⌜ 3 * e + 3 ≤ length (now edges) ⌝ }
+    requires { ⌜ edgeWidth * e + edgeWidth ≤ length (now edges) ⌝ }
     ensures { λ r. ⌜ checkedAnswer r ≡ answer (checkEdge table (graphOf (now (nodes .entry)) (now (edges .entry))) (edgeAt (now (edges .entry)) e)) tt ⌝ }
 {
     let row = edge_at(edges, e);

@@ -8,16 +8,10 @@ use borrow.Author.Needs.{needs}
 use Rattle.benchcalls.proofs.benchcalls_check.Statement.{statement}
 use Rattle.benchcalls.proofs.benchcalls_check.Tie as tie
 
-check-graph-requires : tie.Need-check-graph-requires
-check-graph-requires c κs = search needs
-
-checked-number-requires : tie.Need-checked-number-requires
-checked-number-requires c κs = search needs
-
 returns : tie.Need-returns
 returns c =
     let fits : SFits w64 (c .checked-number .result) = search needs in
     toZ-ofZ fits ∙ c .checked-number .ensures ∙ ap taken (c .before .check-graph .ensures)
 
 pub benchcalls-check-spec : {M : Type 1} → statement M
-benchcalls-check-spec = tie.close (tie.spec check-graph-requires checked-number-requires returns)
+benchcalls-check-spec = tie.close (tie.spec (λ c κs. search needs) (λ c κs. search needs) returns)

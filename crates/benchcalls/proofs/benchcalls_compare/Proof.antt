@@ -19,21 +19,6 @@ promised : (t : Tables) (answer case : Compared) {n : ℤ} → n ≡ summary (co
     → n ≡ summary (compareAnswer t)
 promised t answer case told is p = told ∙ ap (λ a. summary (comparedAnswer a)) (sym is) ∙ ap summary (p .answer)
 
-compare-requires : tie.Need-compare-requires
-compare-requires c κs = search needs
-
-enum-known-answer : tie.Need-enum-known-answer
-enum-known-answer c = search needs
-
-packed-of-requires : tie.Need-packed-of-requires
-packed-of-requires c κs = search needs
-
-enum-known-answer-2 : tie.Need-enum-known-answer-2
-enum-known-answer-2 c = search needs
-
-refused-number-requires : tie.Need-refused-number-requires
-refused-number-requires c κs = search needs
-
 returns : tie.Need-returns
 unfolding signed
 returns c =
@@ -52,10 +37,10 @@ pub benchcalls-compare-spec : {M : Type 1} → statement M
 benchcalls-compare-spec =
     tie.close
     (tie.spec
-    compare-requires
-    enum-known-answer
-    packed-of-requires
-    enum-known-answer-2
-    refused-number-requires
+    (λ c κs. search needs)
+    (λ c. search needs)
+    (λ c κs. search needs)
+    (λ c. search needs)
+    (λ c κs. search needs)
     returns
     returns-2)

@@ -8,15 +8,6 @@ use borrow.Author.Needs.{needs}
 use Rattle.benchcalls.proofs.benchcalls_walk.Statement.{statement}
 use Rattle.benchcalls.proofs.benchcalls_walk.Tie as tie
 
-walk-requires : tie.Need-walk-requires
-walk-requires c κs = search needs
-
-written-number-requires : tie.Need-written-number-requires
-written-number-requires c κs = search needs
-
-same-length : tie.Need-same-length
-same-length c = search needs
-
 returns : tie.Need-returns
 returns c =
     let s = c .before .before .before .before in
@@ -27,4 +18,4 @@ returns c =
     )
 
 pub benchcalls-walk-spec : {M : Type 1} → statement M
-benchcalls-walk-spec = tie.close (tie.spec walk-requires written-number-requires same-length returns)
+benchcalls-walk-spec = tie.close (tie.spec (λ c κs. search needs) (λ c κs. search needs) (λ c. search needs) returns)

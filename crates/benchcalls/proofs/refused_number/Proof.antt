@@ -1,136 +1,26 @@
--- Each case of the reason has its number.
-use mathlib.Core.Path.{sym, ap}
+-- The number is at most 15, so that it fits, and its negation too.
+use mathlib.Core.Path.{ap, _∙_}
+use Prim.Native.Nat.{_<_, _^_}
+use native.Mathlib.Omega.{arith}
 use borrow.Author.Needs.{needs}
-use lib.IntN.{ℤ, pos, negℤ}
-use Rattle.model.specs.declared.Reason.{Reason}
-use Rattle.model.specs.Answers.{refusalOf}
+use lib.IntN.{negℤ, pos}
+use Rattle.integers.proofs.Range.{fits64}
+use Rattle.integers.proofs.Negation.{negated-fits, negated}
+use Rattle.refusals.proofs.Numbers.{number-few}
 use Rattle.benchcalls.proofs.refused_number.Statement.{statement}
 use Rattle.benchcalls.proofs.refused_number.Tie as tie
 
-abbrev numberOf : Reason → ℤ
-numberOf r = negℤ (pos (refusalOf r .number))
+few : (c : tie.After-refusal-numbers) → c .refusal-numbers .result .number < 2 ^ 63
+few c = let e = ap (λ r. r .number) (c .refusal-numbers .ensures) in omega (arith, e, number-few (c .before .args .reason))
 
-enum-told : tie.Need-enum-told
-enum-told c = search needs
+cast-result : tie.Need-cast-result
+cast-result c = fits64 (omega (arith, few (c .before)))
 
-enum-told-2 : tie.Need-enum-told-2
-enum-told-2 c = search needs
-
-enum-told-3 : tie.Need-enum-told-3
-enum-told-3 c = search needs
-
-enum-told-4 : tie.Need-enum-told-4
-enum-told-4 c = search needs
-
-enum-told-5 : tie.Need-enum-told-5
-enum-told-5 c = search needs
-
-enum-told-6 : tie.Need-enum-told-6
-enum-told-6 c = search needs
-
-enum-told-7 : tie.Need-enum-told-7
-enum-told-7 c = search needs
-
-enum-told-8 : tie.Need-enum-told-8
-enum-told-8 c = search needs
-
-enum-told-9 : tie.Need-enum-told-9
-enum-told-9 c = search needs
-
-enum-told-10 : tie.Need-enum-told-10
-enum-told-10 c = search needs
-
-enum-told-11 : tie.Need-enum-told-11
-enum-told-11 c = search needs
-
-enum-told-12 : tie.Need-enum-told-12
-enum-told-12 c = search needs
-
-enum-told-13 : tie.Need-enum-told-13
-enum-told-13 c = search needs
-
-enum-told-14 : tie.Need-enum-told-14
-enum-told-14 c = search needs
-
-enum-told-15 : tie.Need-enum-told-15
-enum-told-15 c = search needs
+sub-result : tie.Need-sub-result
+sub-result c = negated-fits (few (c .before))
 
 returns : tie.Need-returns
-returns c = ap numberOf (sym (c .enum-told .given .1))
-
-returns-2 : tie.Need-returns-2
-returns-2 c = ap numberOf (sym (c .enum-told2 .given .1))
-
-returns-3 : tie.Need-returns-3
-returns-3 c = ap numberOf (sym (c .enum-told3 .given .1))
-
-returns-4 : tie.Need-returns-4
-returns-4 c = ap numberOf (sym (c .enum-told4 .given .1))
-
-returns-5 : tie.Need-returns-5
-returns-5 c = ap numberOf (sym (c .enum-told5 .given .1))
-
-returns-6 : tie.Need-returns-6
-returns-6 c = ap numberOf (sym (c .enum-told6 .given .1))
-
-returns-7 : tie.Need-returns-7
-returns-7 c = ap numberOf (sym (c .enum-told7 .given .1))
-
-returns-8 : tie.Need-returns-8
-returns-8 c = ap numberOf (sym (c .enum-told8 .given .1))
-
-returns-9 : tie.Need-returns-9
-returns-9 c = ap numberOf (sym (c .enum-told9 .given .1))
-
-returns-10 : tie.Need-returns-10
-returns-10 c = ap numberOf (sym (c .enum-told10 .given .1))
-
-returns-11 : tie.Need-returns-11
-returns-11 c = ap numberOf (sym (c .enum-told11 .given .1))
-
-returns-12 : tie.Need-returns-12
-returns-12 c = ap numberOf (sym (c .enum-told12 .given .1))
-
-returns-13 : tie.Need-returns-13
-returns-13 c = ap numberOf (sym (c .enum-told13 .given .1))
-
-returns-14 : tie.Need-returns-14
-returns-14 c = ap numberOf (sym (c .enum-told14 .given .1))
-
-returns-15 : tie.Need-returns-15
-returns-15 c = ap numberOf (sym (c .enum-told15 .given .1))
+returns c = negated (few (c .before)) ∙ ap (λ r. negℤ (pos (r .number))) (c .before .refusal-numbers .ensures)
 
 pub refused-number-spec : {M : Type 1} → statement M
-refused-number-spec =
-    tie.close
-    (tie.spec
-    enum-told
-    enum-told-2
-    enum-told-3
-    enum-told-4
-    enum-told-5
-    enum-told-6
-    enum-told-7
-    enum-told-8
-    enum-told-9
-    enum-told-10
-    enum-told-11
-    enum-told-12
-    enum-told-13
-    enum-told-14
-    enum-told-15
-    returns
-    returns-2
-    returns-3
-    returns-4
-    returns-5
-    returns-6
-    returns-7
-    returns-8
-    returns-9
-    returns-10
-    returns-11
-    returns-12
-    returns-13
-    returns-14
-    returns-15)
+refused-number-spec = tie.close (tie.spec (λ c κs. search needs) cast-result sub-result returns)

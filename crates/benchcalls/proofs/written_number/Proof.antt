@@ -1,5 +1,5 @@
 -- Each case of the answer has its number; a count of 20 binary digits fits.
-use mathlib.Core.Path.{_≡_, sym, ap, _∙_}
+use mathlib.Core.Path.{sym, ap, _∙_}
 use lib.IntN.{pos}
 use mir.Syntax.{w64}
 use mir.Val.{SFits}
@@ -10,21 +10,6 @@ use Rattle.benchcalls.specs.Summary.{signed, written}
 use borrow.Author.Needs.{needs}
 use Rattle.benchcalls.proofs.written_number.Statement.{statement}
 use Rattle.benchcalls.proofs.written_number.Tie as tie
-
-enum-known-given : tie.Need-enum-known-given
-enum-known-given c = search needs
-
-digits-of-requires : tie.Need-digits-of-requires
-digits-of-requires c κs = search needs
-
-cast-result : tie.Need-cast-result
-cast-result c = omega arith
-
-enum-known-given-2 : tie.Need-enum-known-given-2
-enum-known-given-2 c = search needs
-
-refused-number-requires : tie.Need-refused-number-requires
-refused-number-requires c κs = search needs
 
 returns : tie.Need-returns
 unfolding signed
@@ -42,10 +27,10 @@ pub written-number-spec : {M : Type 1} → statement M
 written-number-spec =
     tie.close
     (tie.spec
-    enum-known-given
-    digits-of-requires
-    cast-result
-    enum-known-given-2
-    refused-number-requires
+    (λ c. search needs)
+    (λ c κs. search needs)
+    (λ c. omega arith)
+    (λ c. search needs)
+    (λ c κs. search needs)
     returns
     returns-2)

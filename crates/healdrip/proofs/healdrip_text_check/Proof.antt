@@ -40,34 +40,16 @@ module _ (c : tie.After-refusal-numbers) where
   told : refused (refusalOf (c .before .before .written2 .given .0 .0)) ≡ textGives (start refused-of .args .text .now) (start refused-of .args .report .now)
   told = ap writtenAnswer (sym (c .before .before .written2 .given .1)) ∙ refused-of .text-check .ensures .answer
 
-text-check-requires : tie.Need-text-check-requires
-text-check-requires c κs = search needs
-
-enum-known-written : tie.Need-enum-known-written
-enum-known-written c = search needs
-
 cast-result : tie.Need-cast-result
 cast-result c = fits64 (omega (arith, low c))
 
-enum-known-written-2 : tie.Need-enum-known-written-2
-enum-known-written-2 c = search needs
-
-refusal-numbers-requires : tie.Need-refusal-numbers-requires
-refusal-numbers-requires c κs = search needs
-
 negative-code-requires : tie.Need-negative-code-requires
 negative-code-requires c κs = let s = start (refused-of c) in rw (c .refusal-numbers .ensures) (gives-small (s .args .text .now) (s .args .report .now) (told c))
-
-same-length : tie.Need-same-length
-same-length c = search needs
 
 returns : tie.Need-returns
 returns c = let s = start (checked c) in
     let text = s .args .text .now in
     text-promise coded text (s .args .report .now) (coded-length text (s .args .report .now) (low c) (counted c)) (checked c .text-check .ensures .buffer)
-
-same-length-2 : tie.Need-same-length-2
-same-length-2 c = search needs
 
 returns-2 : tie.Need-returns-2
 returns-2 c = let r = c .before in
@@ -82,13 +64,13 @@ pub healdrip-text-check-spec : {M : Type 1} → statement M
 healdrip-text-check-spec =
     tie.close
     (tie.spec
-    text-check-requires
-    enum-known-written
+    (λ c κs. search needs)
+    (λ c. search needs)
     cast-result
-    enum-known-written-2
-    refusal-numbers-requires
+    (λ c. search needs)
+    (λ c κs. search needs)
     negative-code-requires
-    same-length
+    (λ c. search needs)
     returns
-    same-length-2
+    (λ c. search needs)
     returns-2)

@@ -12,12 +12,6 @@ use Rattle.steps.proofs.Runs.{living-empty, living-full, clip-ends, cli
 use Rattle.steps.proofs.clip.Statement.{statement}
 use Rattle.steps.proofs.clip.Tie as tie
 
-higher-requires : tie.Need-higher-requires
-higher-requires c κs = search needs
-
-lower-requires : tie.Need-lower-requires
-lower-requires c κs = search needs
-
 -- the ends, where they have not crossed
 ordered : (c : tie.Else1) → c .before .before .before .before .before .before .higher .result .0 ≤ℤ c .before .before .before .before .before .lower .result .0
 ordered c =
@@ -60,4 +54,4 @@ returns-2 c n first last =
 pub clip-spec : {M : Type 1} → statement M
 clip-spec =
     tie.close
-    (tie.spec higher-requires lower-requires returns less-requires plus-requires returns-2)
+    (tie.spec (λ c κs. search needs) (λ c κs. search needs) returns less-requires plus-requires returns-2)

@@ -55,12 +55,6 @@ kind-fits : (c : tie.After-kind)
     → SFits w64 (getD (c .before .before .before .before .before .args .nodes .now) (4 * c .before .edge-from .result) (pos 0))
 kind-fits c = sfits-of {w = w64} (c .kind .given)
 
-edge-at-requires : tie.Need-edge-at-requires
-edge-at-requires c κs = search needs
-
-good-edge-requires : tie.Need-good-edge-requires
-good-edge-requires c κs = search needs
-
 returns : tie.Need-returns
 returns c = edge-refused _ _ _ (row-test (c .before) ∙ not-true _ (c .if1 .taken))
 
@@ -90,8 +84,8 @@ pub check-edge-spec : {M : Type 1} → statement M
 check-edge-spec =
     tie.close
     (tie.spec
-    edge-at-requires
-    good-edge-requires
+    (λ c κs. search needs)
+    (λ c κs. search needs)
     returns
     edge-from-requires
     mul-kind

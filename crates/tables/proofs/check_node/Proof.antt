@@ -11,12 +11,6 @@ row-test : (c : tie.After-good-node) → goodNode (nodeAt (c .before .before .ar
 unfolding goodNode
 row-test c = sym (c .good-node .ensures ∙ ap goodNode (c .before .node-at .ensures))
 
-node-at-requires : tie.Need-node-at-requires
-node-at-requires c κs = search needs
-
-good-node-requires : tie.Need-good-node-requires
-good-node-requires c κs = search needs
-
 returns : tie.Need-returns
 returns c = node-taken _ _ (row-test (c .before) ∙ c .if1 .taken)
 
@@ -24,4 +18,4 @@ returns-2 : tie.Need-returns-2
 returns-2 c = node-refused _ _ (row-test (c .before) ∙ c .if1 .left)
 
 pub check-node-spec : {M : Type 1} → statement M
-check-node-spec = tie.close (tie.spec node-at-requires good-node-requires returns returns-2)
+check-node-spec = tie.close (tie.spec (λ c κs. search needs) (λ c κs. search needs) returns returns-2)

@@ -51,55 +51,19 @@ nodes-taken c =
     let k = c .before .before in
     shapes-taken (k .before) ∙ then-on _ _ (ap checkedAnswer (sym (c .enum-told3 .given .1)) ∙ k .check-nodes .ensures)
 
-check-shape-requires : tie.Need-check-shape-requires
-check-shape-requires c κs = search needs
-
-enum-known-c : tie.Need-enum-known-c
-enum-known-c c = search needs
-
 returns : tie.Need-returns
 unfolding checkRows
 returns c = then-stops _ _ (ap checkedAnswer (sym (c .before .c .given .1)) ∙ c .before .before .before .check-shape .ensures)
-
-enum-told : tie.Need-enum-told
-enum-told c = search needs
-
-add-check-shape : tie.Need-add-check-shape
-add-check-shape c = search needs
-
-check-shape-requires-2 : tie.Need-check-shape-requires-2
-check-shape-requires-2 c κs = search needs
-
-enum-known-c-2 : tie.Need-enum-known-c-2
-enum-known-c-2 c = search needs
 
 returns-2 : tie.Need-returns-2
 returns-2 c =
     let k = c .before .before .before in
     then-stops _ _ (ap checkedAnswer (sym (c .before .c2 .given .1)) ∙ edge-shape-test k) ∙ sym (shape-taken (k .before))
 
-enum-told-2 : tie.Need-enum-told-2
-enum-told-2 c = search needs
-
-check-nodes-requires : tie.Need-check-nodes-requires
-check-nodes-requires c κs = search needs
-
-enum-known-c-3 : tie.Need-enum-known-c-3
-enum-known-c-3 c = search needs
-
 returns-3 : tie.Need-returns-3
 returns-3 c =
     let k = c .before .before .before in
     then-stops _ _ (ap checkedAnswer (sym (c .before .c3 .given .1)) ∙ k .check-nodes .ensures) ∙ sym (shapes-taken (k .before))
-
-enum-told-3 : tie.Need-enum-told-3
-enum-told-3 c = search needs
-
-add-check-edges : tie.Need-add-check-edges
-add-check-edges c = search needs
-
-check-edges-requires : tie.Need-check-edges-requires
-check-edges-requires c κs = search needs
 
 returns-4 : tie.Need-returns-4
 returns-4 c = rw add-one at (c .check-edges .ensures) ∙ sym (nodes-taken (c .before))
@@ -108,19 +72,19 @@ pub check-rows-spec : {M : Type 1} → statement M
 check-rows-spec =
     tie.close
     (tie.spec
-    check-shape-requires
-    enum-known-c
+    (λ c κs. search needs)
+    (λ c. search needs)
     returns
-    enum-told
-    add-check-shape
-    check-shape-requires-2
-    enum-known-c-2
+    (λ c. search needs)
+    (λ c. search needs)
+    (λ c κs. search needs)
+    (λ c. search needs)
     returns-2
-    enum-told-2
-    check-nodes-requires
-    enum-known-c-3
+    (λ c. search needs)
+    (λ c κs. search needs)
+    (λ c. search needs)
     returns-3
-    enum-told-3
-    add-check-edges
-    check-edges-requires
+    (λ c. search needs)
+    (λ c. search needs)
+    (λ c κs. search needs)
     returns-4)

@@ -6,15 +6,9 @@ use borrow.Author.Needs.{needs}
 use Rattle.tables.proofs.check_shape.Statement.{statement}
 use Rattle.tables.proofs.check_shape.Tie as tie
 
-rem-if1 : tie.Need-rem-if1
-rem-if1 c = search needs
-
 returns : tie.Need-returns
 unfolding answer when checkShape
 returns c = simp (ne-eqb _ _ (c .if1 .taken))
-
-mul-if2 : tie.Need-mul-if2
-mul-if2 c = search needs
 
 returns-2 : tie.Need-returns-2
 unfolding answer when checkShape
@@ -25,4 +19,4 @@ unfolding answer when checkShape
 returns-3 c = simp (eq-eqb _ _ (c .before .if1 .left), le-ltb _ _ (c .if2 .left))
 
 pub check-shape-spec : {M : Type 1} → statement M
-check-shape-spec = tie.close (tie.spec rem-if1 returns mul-if2 returns-2 returns-3)
+check-shape-spec = tie.close (tie.spec (λ c. search needs) returns (λ c. search needs) returns-2 returns-3)

@@ -29,22 +29,13 @@ offset-test : (c : tie.After-good-offset)
     → goodOffset (c .before .before .before .before .before .before .before .before .args .e .offset .0) ≡ c .good-offset .result
 offset-test c = sym (c .good-offset .ensures)
 
-is-row-requires : tie.Need-is-row-requires
-is-row-requires c κs = search needs
-
 returns : tie.Need-returns
 returns c g e = simp (edge-parts, from-test (c .before) g e ∙ not-true _ (c .if1 .taken))
-
-is-row-requires-2 : tie.Need-is-row-requires-2
-is-row-requires-2 c κs = search needs
 
 returns-2 : tie.Need-returns-2
 returns-2 c g e =
     let s = c .before .before .before in
     simp (edge-parts, from-test (s .before) g e ∙ not-false _ (s .if1 .left), to-test (c .before) g e ∙ not-true _ (c .if2 .taken))
-
-good-offset-requires : tie.Need-good-offset-requires
-good-offset-requires c κs = search needs
 
 returns-3 : tie.Need-returns-3
 returns-3 c g e =
@@ -55,4 +46,4 @@ returns-3 c g e =
 pub good-edge-spec : {M : Type 1} → statement M
 good-edge-spec =
     tie.close
-    (tie.spec is-row-requires returns is-row-requires-2 returns-2 good-offset-requires returns-3)
+    (tie.spec (λ c κs. search needs) returns (λ c κs. search needs) returns-2 (λ c κs. search needs) returns-3)

@@ -33,20 +33,11 @@ extent-test : (c : tie.After-good-extent)
     (c .before .before .before .before .before .before .before .before .before .args .n .range .0) ≡ c .good-extent .result
 extent-test c = sym (c .good-extent .ensures)
 
-is-kind-requires : tie.Need-is-kind-requires
-is-kind-requires c κs = search needs
-
 returns : tie.Need-returns
 returns c = simp (node-parts, kind-test (c .before) ∙ not-true _ (c .if1 .taken))
 
-is-unit-requires : tie.Need-is-unit-requires
-is-unit-requires c κs = search needs
-
 returns-2 : tie.Need-returns-2
 returns-2 c = simp (node-parts, kind-good (c .before .before .before), unit-test (c .before) ∙ not-true _ (c .if2 .taken))
-
-good-extent-requires : tie.Need-good-extent-requires
-good-extent-requires c κs = search needs
 
 returns-3 : tie.Need-returns-3
 returns-3 c =
@@ -62,10 +53,10 @@ pub good-node-spec : {M : Type 1} → statement M
 good-node-spec =
     tie.close
     (tie.spec
-    is-kind-requires
+    (λ c κs. search needs)
     returns
-    is-unit-requires
+    (λ c κs. search needs)
     returns-2
-    good-extent-requires
+    (λ c κs. search needs)
     returns-3
     returns-4)

@@ -14,9 +14,6 @@ use Rattle.tables.proofs.Limits.{decides-false, decides-same, offset?}
 use Rattle.tables.proofs.good_offset.Statement.{statement}
 use Rattle.tables.proofs.good_offset.Tie as tie
 
-sub-if1 : tie.Need-sub-if1
-sub-if1 c = search needs
-
 returns : tie.Need-returns
 returns c =
     let s = c .before .before .before in
@@ -36,4 +33,4 @@ returns-2 c =
     (decides-same (decides-as (λ h. (low, h), λ h. h .1) (decides-le o (pos maxUnits))) (offset? o))
 
 pub good-offset-spec : {M : Type 1} → statement M
-good-offset-spec = tie.close (tie.spec sub-if1 returns returns-2)
+good-offset-spec = tie.close (tie.spec (λ c. search needs) returns returns-2)

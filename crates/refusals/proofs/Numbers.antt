@@ -1,0 +1,24 @@
+-- The numbers of refusals.
+use Prim.Native.Nat.{_≤_}
+use native.Mathlib.Omega.{arith}
+use Rattle.model.specs.Answers.{refusalOf}
+use Rattle.model.specs.declared.Reason.{Reason}
+use Rattle.model.specs.declared.Reason.the-variants.{Shape, Node, Edge, FromBlock, Cycle, LongChain, NotRootOrLeaf, PairedBefore, NoPair, ManyPaths, LongOutput, Characters, Names, Values, NoCaller}
+
+-- none is higher than 15
+pub number-few : (r : Reason) → refusalOf r .number ≤ 15
+number-few (Shape t) = omega arith
+number-few (Node t r) = omega arith
+number-few (Edge t r) = omega arith
+number-few (FromBlock t r) = omega arith
+number-few (Cycle t) = omega arith
+number-few (LongChain t) = omega arith
+number-few (NotRootOrLeaf t r) = omega arith
+number-few (PairedBefore t r) = omega arith
+number-few (NoPair t) = omega arith
+number-few (ManyPaths t r) = omega arith
+number-few LongOutput = omega arith
+number-few (Characters l) = omega arith
+number-few (Names l) = omega arith
+number-few (Values l) = omega arith
+number-few NoCaller = omega arith

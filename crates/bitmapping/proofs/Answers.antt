@@ -104,15 +104,19 @@ module _ {A : Type 0} (a : A) where
     pub single-refused : {x : Refusal} → refused x ≡ checked (checkAsked ns es r l) → answer (checkSingle ns es r l size room) a ≡ refused x
     single-refused e = single-asked ∙ answer-stops (checkAsked ns es r l) (checkOutput size room) e
 
+    -- what it is asked for is taken: the rest is up to its output
+    pub single-passes : full tt ≡ checked (checkAsked ns es r l) → answer (checkSingle ns es r l size room) a ≡ answer (checkOutput size room) a
+    single-passes e = single-asked ∙ answer-passes (checkAsked ns es r l) (checkOutput size room) e
+
     -- its output is too long
     pub single-long : full tt ≡ checked (checkAsked ns es r l) → room < size → answer (checkSingle ns es r l size room) a ≡ refused (numbered 11 7 0)
     unfolding answer checkOutput when
-    single-long e h = single-asked ∙ answer-passes (checkAsked ns es r l) (checkOutput size room) e ∙ rw (lt-ltb room size h)
+    single-long e h = single-passes e ∙ rw (lt-ltb room size h)
 
     -- its output fits
     pub single-full : full tt ≡ checked (checkAsked ns es r l) → size ≤ room → answer (checkSingle ns es r l size room) a ≡ full a
     unfolding answer checkOutput when
-    single-full e h = single-asked ∙ answer-passes (checkAsked ns es r l) (checkOutput size room) e ∙ rw (le-ltb room size h)
+    single-full e h = single-passes e ∙ rw (le-ltb room size h)
 
     -- where it gives a result, what it is asked for is taken, and the result is its own
     pub single-given : {x : A} → answer (checkSingle ns es r l size room) a ≡ full x → (full tt ≡ checked (checkAsked ns es r l)) × (a ≡ x)

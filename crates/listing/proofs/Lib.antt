@@ -1,8 +1,7 @@
 pub mod Appending
 pub mod Passing
-pub mod Windowed
 pub mod Runs
 pub mod Arrivals
-pub mod Once
+pub mod Bits
 pub mod Small
 pub mod Pairs

@@ -6,19 +6,18 @@ use mathlib.Core.Logic.{_≢_}
 use mathlib.Core.Option.{none, some}
 use Prim.Native.Nat.{ℕ, zero, suc, _-_, _≤_}
 use native.Mathlib.Omega.{arith}
-use lib.Dec.{T}
+use lib.Dec.{T, T-not}
 use lib.IntN.{ℤ}
 use lib.ListN.{length, length-map}
 use Rattle.integers.specs.Integers.{eqZ}
-use Rattle.integers.proofs.Tests.{Test, passed, failed, test?, eqZ?, is-true, is-false, of-test, test-of}
-use Rattle.lists.specs.Lists.{_∈_, keep}
+use Rattle.integers.proofs.Tests.{eqZ?, is-true, is-false, of-test, test-of}
+use Rattle.lists.specs.Lists.{keep}
 use Rattle.lists.proofs.Kept.{keep-length}
 use Rattle.model.specs.Rows.{Edge}
-use Rattle.model.specs.Graph.{Graph, node, bitOffset}
-use Rattle.model.specs.Runs.{Run, empty, shift, across, along, leaving, pathsWithin}
-use Rattle.model.specs.Taken.{Taken}
+use Rattle.model.specs.Graph.{Graph, node}
+use Rattle.model.specs.Runs.{Run, empty, across, along, leaving, pathsWithin}
 use Rattle.model.proofs.Paths.{Fit}
-use Rattle.model.proofs.Walks.{runsFrom, runs-empty, runs-stay, runs-step}
+use Rattle.model.proofs.Walks.{runsFrom, runs-stay, runs-step}
 use Rattle.sorting.specs.declared.Row.{Row}
 use Rattle.reach.specs.Counting.{pathCount}
 use Rattle.reach.proofs.Reaching.{within-none}
@@ -27,9 +26,6 @@ use Rattle.steps.specs.declared.Clipped.{Clipped}
 use Rattle.steps.specs.declared.Clipped.the-variants.{Left, Nothing}
 use Rattle.steps.specs.Steps.{runOf, living, livingOf}
 use Rattle.steps.proofs.Runs.{living-none, living-some}
-use Rattle.windows.specs.Windows.{extent, cut, window}
-use Rattle.windows.proofs.Spans.{Inside}
-use Rattle.windows.proofs.Covering.{windows-cover, windows-over}
 use Rattle.listing.specs.Listing.{runRow, runRows}
 
 -- what an edge gives: nothing where no bit of the run enters, else the rows from the node entered
@@ -101,41 +97,16 @@ crossed-left r e p = ap livingOf (sym e) ∙ p
 pub crossed-nothing : (r : Run) {x : Clipped} → x ≡ Nothing → livingOf x ≡ living r → none ≡ living r
 crossed-nothing r e p = ap livingOf (sym e) ∙ p
 
--- from an empty run there is no row
-pub rows-empty : (k : ℕ) (g : Graph) (v l : ℤ) (r : Run) → T (empty r) → runRows k g v l r ≡ []
-unfolding runRows runsFrom
-rows-empty k g v l r t = ap (map (runRow (node g l))) (runs-empty k g v l r t)
+-- an edge that some bit of the run crosses gives the rows from the node entered, with what is left of the run
+pub over-left : (k : ℕ) (g : Graph) (l : ℤ) (r : Run) (e : Edge) {s : Run} {to : ℤ} → some s ≡ living (across g e r) → to ≡ e .to
+    → runRows k g to l s ≡ runsOver k g l r e
+over-left k g l r e {s} {to} p q =
+    let w = living-some (across g e r) s p in
+    rw (q, w .0, is-false (empty (across g e r)) (T-not (empty (across g e r)) (w .1))) refl
 
-module _ {g : Graph} {l : ℤ} (taken : Taken g) (f : Fit g l) where
-  -- the rows of a run that lies in the extent of v are those of what the window of v leaves of it
-  pub rows-cut : (k : ℕ) (v : ℤ) (r : Run) → Inside r (extent (node g v)) → runRows k g v l r ≡ runRows k g v l (cut (window g v l) r)
-  unfolding runRows runsFrom
-  rows-cut k v r h = ap (map (runRow (node g l))) (windows-cover taken f k v r h)
-
-  -- what an edge gives: the rows from the node entered, with the shifted run cut by the window of that node
-  rows-over : (k : ℕ) (r : Run) (e : Edge) → e ∈ g .edges
-      → runsOver k g l r e ≡ runRows k g (e .to) l (cut (window g (e .to) l) (shift (bitOffset g e) r))
-  unfolding runRows runsFrom
-  rows-over k r e m = go (empty (across g e r)) (test? (empty (across g e r))) ∙ ap (map (runRow (node g l))) (windows-over taken f k e r m)
-    where
-      go : (b : Bool) → Test (T (empty (across g e r))) (T (not (empty (across g e r)))) b
-          → cond b [] (runRows k g (e .to) l (across g e r)) ≡ runRows k g (e .to) l (across g e r)
-      go true (passed t) = sym (rows-empty k g (e .to) l (across g e r) t)
-      go false (failed t) = refl
-
-  module _ (k : ℕ) (r : Run) (e : Edge) (m : e ∈ g .edges) where
-    -- an edge over which bits of the run enter the window gives the rows from the node entered, with what is left of the run
-    pub over-left : {s : Run} {to : ℤ} → some s ≡ living (cut (window g (e .to) l) (shift (bitOffset g e) r)) → to ≡ e .to
-        → runRows k g to l s ≡ runsOver k g l r e
-    over-left {s} {to} p q =
-        let w = living-some (cut (window g (e .to) l) (shift (bitOffset g e) r)) s p in
-        rw (q, w .0) (sym (rows-over k r e m))
-
-    -- one over which none enters gives no row
-    pub over-nothing : none ≡ living (cut (window g (e .to) l) (shift (bitOffset g e) r)) → [] ≡ runsOver k g l r e
-    over-nothing p =
-        let run = cut (window g (e .to) l) (shift (bitOffset g e) r) in
-        sym (rows-over k r e m ∙ rows-empty k g (e .to) l run (living-none run p))
+-- one that no bit crosses gives no row
+pub over-nothing : (k : ℕ) (g : Graph) (l : ℤ) (r : Run) (e : Edge) → none ≡ living (across g e r) → [] ≡ runsOver k g l r e
+over-nothing k g l r e p = rw (is-true (empty (across g e r)) (living-none (across g e r) p)) refl
 
 -- an edge that enters a node with no path to the leaf gives no row
 pub over-dead : {g : Graph} {l : ℤ} → Fit g l → (k : ℕ) (r : Run) (e : Edge) → pathCount g (e .to) l ≡ 0 → runsOver k g l r e ≡ []

@@ -21,7 +21,7 @@ use Rattle.model.proofs.Paths.{paths-sound}
 use Rattle.model.proofs.Walks.{runs-out}
 use Rattle.normalisation.specs.Merging.{Small, AllSmall}
 use Rattle.tables.proofs.Limits.{first-address}
-use Rattle.steps.specs.Steps.{SmallRun, SmallAddress, Clippable}
+use Rattle.steps.specs.Steps.{SmallRun, SmallAddress}
 use Rattle.steps.proofs.Bounds.{across-small, whole-small}
 use Rattle.listing.specs.Listing.{runRow}
 
@@ -31,10 +31,6 @@ module _ {r : Run} (s : SmallRun r) where
   -- it has a bit
   pub small-some : T (not (empty r))
   small-some = not-T (empty r) (λ t. empty-none r (r .low) t (record { above = omega (arith, ints); below = s .full }))
-
-  -- it can be clipped
-  pub small-clippable : Clippable r
-  small-clippable = record { root = s .root; low = omega (arith, ints, s .low, neg (pos (2 ^ 62))); last = s .last }
 
   -- its low end is a small address
   pub low-small : SmallAddress (r .low)

@@ -1,26 +1,27 @@
 // The walk of one bit address and the listing of the runs of all paths, from a root to a leaf. Both recurse over the edges that can still reach the
 // leaf, with the remaining chain length falling at each call.
 ghost use mathlib.Core.Path.{_≡_};
-ghost use mathlib.Core.List.{List, [], _∷_};
+ghost use mathlib.Core.List.{List, [], _∷_, map};
 ghost use Prim.Native.Nat.{_+_, _*_, _≤_, _<_};
 ghost use lib.IntN.{ℤ, pos};
 ghost use lib.ListN.{length, getD, take};
 ghost use Rattle.model.specs.Graph.{graphOf, NodeRow, node};
 ghost use Rattle.model.specs.Runs.{listOf};
 ghost use Rattle.model.specs.Calls.{numbersOf, leafBits};
-ghost use Rattle.sorting.specs.Rows.{rowsOf};
-ghost use Rattle.reach.specs.Links.{Linked};
 ghost use Rattle.steps.specs.Steps.{runOf, SmallRun, SmallAddress, GoodRow};
-ghost use Rattle.listing.specs.Listing.{LinkedTo, Windowed, Ready, Listable, Appended, runRow, runRows, arrivalRow, arrivalRows, once, firstsOf};
+ghost use Rattle.listing.specs.Listing.{LinkedTo, Ready, Appended, runRow, runRows, bitRecord, arrivalRow, arrivalRows};
 use model::Bits;
 use model::EDGE_WIDTH;
 use model::MAX_CHAIN;
+use model::MAX_EDGES;
+use model::MAX_NODES;
+use model::MAX_NUMBERS;
 use sorting::Row;
 use steps::Clipped;
 use steps::Run;
 
 // The row of a run at the leaf: displacement, first and last bit of its record.
-pub fn run_row(nodes: &[i64], leaf: usize, run: Run) -> Row
+fn run_row(nodes: &[i64], leaf: usize, run: Run) -> Row
     requires { ⌜ GoodRow (now nodes) leaf × SmallRun (runOf run) ⌝ }
     ensures { λ r. ⌜ ((es : List ℤ) → r ≡ runRow (node (graphOf (now (nodes .entry)) es) (pos leaf)) (runOf run)) ⌝ }
 {
@@ -60,7 +61,7 @@ pub fn append_row(out: &mut [i64], n: usize, row: Row) -> usize
 }
 
 // The edge that a pass along the links goes on with behind edge e.
-pub fn edge_behind(next: &[usize], e: usize) -> usize
+fn edge_behind(next: &[usize], e: usize) -> usize
     requires { ⌜ e < length (now next) ⌝ }
     ensures { λ r. ⌜ r ≡ getD (now (next .entry)) e 0 ⌝ }
 {
@@ -69,14 +70,12 @@ pub fn edge_behind(next: &[usize], e: usize) -> usize
 }
 
 // Lists the runs at the leaf of a run at node v, over at most `left` edges: a row each, behind the first n rows of `out`. Returns how many rows
-// stand there then. Goes over the linked edges alone, and over those that some bit of the run crosses into the window of the node entered.
-pub fn list_from(
+// stand there then. Goes over the linked edges alone, and over those that some bit of the run crosses.
+fn list_from(
     nodes: &[i64],
     edges: &[i64],
     head: &[usize],
     next: &[usize],
-    offsets: &[i64],
-    windows: &[i64],
     leaf: usize,
     v: usize,
     run: Run,
@@ -86,7 +85,6 @@ pub fn list_from(
 ) -> usize
     requires { ⌜
         LinkedTo (now nodes) (now edges) leaf (now head) (now next)
-        × Windowed (now nodes) (now edges) leaf (now offsets) (now windows)
         × NodeRow (graphOf (now nodes) (now edges)) (pos v)
         × SmallRun (runOf run)
         × (3 * (n + length (runRows left (graphOf (now nodes) (now edges)) (pos v) (pos leaf) (runOf run))) ≤ length (now out)) ⌝ }
@@ -100,31 +98,24 @@ pub fn list_from(
     if left == 0 {
         return n;
     }
-    let count = edges.len() / EDGE_WIDTH;
     let mut m = n;
     let mut e = head[v];
-    while e < count {
-        let to = tables::edge_to(edges, e);
-        let crossed = windows::cross(offsets, windows, e, to, run);
+    while e < edges.len() / EDGE_WIDTH {
+        let crossed = steps::cross(nodes, edges, e, run);
         if let Clipped::Left(entered) = crossed {
-            if to == leaf {
-                m = append_row(out, m, run_row(nodes, leaf, entered));
-            } else {
-                m = list_from(
-                    nodes,
-                    edges,
-                    head,
-                    next,
-                    offsets,
-                    windows,
-                    leaf,
-                    to,
-                    entered,
-                    left - 1,
-                    out,
-                    m,
-                );
-            }
+            let to = tables::edge_to(edges, e);
+            m = list_from(
+                nodes,
+                edges,
+                head,
+                next,
+                leaf,
+                to,
+                entered,
+                left - 1,
+                out,
+                m,
+            );
         }
         e = edge_behind(next, e);
     }
@@ -133,7 +124,7 @@ pub fn list_from(
 
 // Walks bit address a at node v to the leaf, over at most `left` edges: a row for each arrival, its leaf bit and 0 twice, behind the first n rows
 // of `out`. Returns how many rows stand there then. From an address outside the node there is none.
-pub fn walk_from(
+fn walk_from(
     nodes: &[i64],
     edges: &[i64],
     head: &[usize],
@@ -173,113 +164,32 @@ pub fn walk_from(
     m
 }
 
-// Lists the bitmapping list of a root and the leaf that the edges are linked for, in n log n steps for n paths, each of at most MAX_CHAIN edges:
-// its records stand in front of `work`, first, last and displacement of each. Returns how many they are: none, without more work, where no bit of
-// the root lies in its window. What stands behind them, and in `spare`, is space that was worked in.
-pub fn list_linked(
-    nodes: &[i64],
-    edges: &[i64],
-    root: usize,
-    leaf: usize,
-    head: &[usize],
-    next: &[usize],
-    offsets: &[i64],
-    windows: &[i64],
-    work: &mut [i64],
-    spare: &mut [i64],
-) -> usize
-    requires { ⌜
-        Listable (now nodes) (now edges) root leaf (now head) (now next) (now work) (now spare)
-        × Windowed (now nodes) (now edges) leaf (now offsets) (now windows) ⌝ }
-    ensures { λ r. ⌜ r ≡ length (listOf (graphOf (now (nodes .entry)) (now (edges .entry))) (pos root) (pos leaf)) ⌝ }
-    ensures { λ r. ⌜ take (3 * r) (now (work .exit)) ≡ numbersOf (listOf (graphOf (now (nodes .entry)) (now (edges .entry))) (pos root) (pos leaf)) ⌝ }
-{
-    let reaching = windows::cut(windows, root, steps::whole(nodes, root));
-    if let Clipped::Left(run) = reaching {
-        let n = list_from(
-            nodes,
-            edges,
-            head,
-            next,
-            offsets,
-            windows,
-            leaf,
-            root,
-            run,
-            MAX_CHAIN,
-            work,
-            0,
-        );
-        return normalisation::normalise(work, n, spare);
-    }
-    0
-}
-
-// Links the edges for a leaf, and lists the bitmapping list of a root and this leaf as list_linked does.
+// Lists the bitmapping list of a root and a leaf, in n log n steps for n paths, each of at most MAX_CHAIN edges: its records stand in front of
+// `work`, first, last and displacement of each. Returns how many they are. What stands behind them is space that was worked in.
 pub fn list_pair(
     nodes: &[i64],
     edges: &[i64],
     root: usize,
     leaf: usize,
     counts: &[usize],
-    offsets: &[i64],
-    windows: &[i64],
-    head: &mut [usize],
-    next: &mut [usize],
     work: &mut [i64],
-    spare: &mut [i64],
 ) -> usize
-    requires { ⌜
-        Ready (now nodes) (now edges) root leaf (now counts) (now head) (now next) (now work) (now spare)
-        × Windowed (now nodes) (now edges) leaf (now offsets) (now windows) ⌝ }
+    requires { ⌜ Ready (now nodes) (now edges) root leaf (now counts) (now work) ⌝ }
     ensures { λ r. ⌜ r ≡ length (listOf (graphOf (now (nodes .entry)) (now (edges .entry))) (pos root) (pos leaf)) ⌝ }
     ensures { λ r. ⌜ take (3 * r) (now (work .exit)) ≡ numbersOf (listOf (graphOf (now (nodes .entry)) (now (edges .entry))) (pos root) (pos leaf)) ⌝ }
-    ensures { λ _. ⌜
-        Linked (now (counts .entry)) (graphOf (now (nodes .entry)) (now (edges .entry)))
-        (now (head .entry)) (now (next .entry)) (now (head .exit)) (now (next .exit)) ⌝ }
 {
-    reach::link_edges(nodes, edges, counts, head, next);
-    list_linked(
-        nodes,
-        edges,
-        root,
-        leaf,
-        head,
-        next,
-        offsets,
-        windows,
-        work,
-        spare,
-    )
+    let mut head = [0usize; MAX_NODES];
+    let mut next = [0usize; MAX_EDGES];
+    let mut spare = [0i64; MAX_NUMBERS];
+    reach::link_edges(nodes, edges, counts, &mut head, &mut next);
+    let run = steps::whole(nodes, root);
+    let left = MAX_CHAIN;
+    let n = list_from(nodes, edges, &head, &next, leaf, root, run, left, work, 0);
+    normalisation::normalise(work, n, &mut spare)
 }
 
-// Keeps the first number of each of n rows once, where equal ones stand next to each other: in front of `work`. Returns how many they are.
-fn keep_once(work: &mut [i64], n: usize) -> usize
-    requires { ⌜ 3 * n ≤ length (now work) ⌝ }
-    ensures { λ r. ⌜ r ≡ length (once (firstsOf (rowsOf (now (work .entry)) n))) ⌝ }
-    ensures { λ r. ⌜ take r (now (work .exit)) ≡ once (firstsOf (rowsOf (now (work .entry)) n)) ⌝ }
-{
-    if n == 0 {
-        return 0;
-    }
-    let mut last = sorting::row_at(work, 0);
-    let mut k: usize = 1;
-    let mut i: usize = 1;
-    while i < n {
-        let row = sorting::row_at(work, i);
-        i += 1;
-        if row.first != last.first {
-            let bit = row.first;
-            work[k] = bit;
-            k += 1;
-            last = row;
-        }
-    }
-    k
-}
-
-// Walks a bit address from a root to a leaf: the distinct leaf bits, ascending, stand in front of `work`. Returns how many they are. What stands
-// behind them, and in `spare`, is space that was worked in.
+// Walks a bit address from a root to a leaf: the distinct leaf bits, ascending, stand in front of `work`, each as the displacement of a record of
+// bit 0. Returns how many they are. What stands behind them is space that was worked in.
 pub fn walk_pair(
     nodes: &[i64],
     edges: &[i64],
@@ -287,24 +197,23 @@ pub fn walk_pair(
     leaf: usize,
     address: i64,
     counts: &[usize],
-    head: &mut [usize],
-    next: &mut [usize],
     work: &mut [i64],
-    spare: &mut [i64],
 ) -> usize
-    requires { ⌜ Ready (now nodes) (now edges) root leaf (now counts) (now head) (now next) (now work) (now spare) ⌝ }
+    requires { ⌜ Ready (now nodes) (now edges) root leaf (now counts) (now work) ⌝ }
     ensures { λ r. ⌜ r ≡ length (leafBits (graphOf (now (nodes .entry)) (now (edges .entry))) (pos root) (pos leaf) address) ⌝ }
-    ensures { λ r. ⌜ take r (now (work .exit)) ≡ leafBits (graphOf (now (nodes .entry)) (now (edges .entry))) (pos root) (pos leaf) address ⌝ }
-    ensures { λ _. ⌜
-        Linked (now (counts .entry)) (graphOf (now (nodes .entry)) (now (edges .entry)))
-        (now (head .entry)) (now (next .entry)) (now (head .exit)) (now (next .exit)) ⌝ }
+    ensures { λ r. ⌜
+        take (3 * r) (now (work .exit))
+        ≡ numbersOf (map bitRecord (leafBits (graphOf (now (nodes .entry)) (now (edges .entry))) (pos root) (pos leaf) address)) ⌝ }
 {
-    reach::link_edges(nodes, edges, counts, head, next);
+    let mut head = [0usize; MAX_NODES];
+    let mut next = [0usize; MAX_EDGES];
+    let mut spare = [0i64; MAX_NUMBERS];
+    reach::link_edges(nodes, edges, counts, &mut head, &mut next);
     let n = walk_from(
         nodes,
         edges,
-        head,
-        next,
+        &head,
+        &next,
         leaf,
         root,
         Bits::of(address),
@@ -312,6 +221,5 @@ pub fn walk_pair(
         work,
         0,
     );
-    sorting::sort_rows(work, n, spare);
-    keep_once(work, n)
+    normalisation::normalise(work, n, &mut spare)
 }

@@ -25,7 +25,7 @@ use Rattle.depth.specs.Order.{edgeOrder}
 use Rattle.depth.specs.Passes.{orderOf}
 use Rattle.depth.specs.Check.{orderAfter}
 use Rattle.depth.proofs.GraphCheck.{checked-taken, checked-order}
-use Rattle.reach.proofs.Pass.{order-front}
+use Rattle.reach.proofs.Turns.{order-front}
 use Rattle.named.specs.Naming.{Nameable}
 
 -- the root and the leaf of a graph that is taken can be checked

@@ -26,7 +26,8 @@ use Rattle.model.proofs.Walks.{runs-within-paths}
 use Rattle.tables.proofs.Checks.{checked}
 use Rattle.bitmapping.specs.Checking.{checkAsked}
 use Rattle.bitmapping.proofs.Answers.{asked-few, single-refused, single-long, single-full, single-given}
-use Rattle.bitmapping.proofs.Promises.{numbers-length, list-given}
+use Rattle.bitmapping.proofs.Copying.{numbers-length}
+use Rattle.bitmapping.proofs.Promises.{list-given}
 use Rattle.records.specs.declared.Record.{Record as Stored}
 use Rattle.sorting.specs.Rows.{rowsOf}
 use Rattle.records.specs.Promises.{storedRecord, storedRecords, lentNumbers, workAfter, RecordsStand, RecordsPromise}

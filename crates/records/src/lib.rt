@@ -8,14 +8,10 @@ ghost use Rattle.model.specs.Calls.{listGives, listAfter};
 ghost use Rattle.model.specs.Answers.{writtenAnswer};
 ghost use Rattle.records.specs.Promises.{RecordsPromise};
 ghost use Rattle.records.specs.Putting.{recordAt, recordsIn, countOf, Listed};
+use model::MAX_NUMBERS;
+use model::MAX_PATHS;
+use model::RECORD_WIDTH;
 use model::Written;
-
-// Numbers of a record, and the most records of a list with their numbers: a path gives one at most.
-const RECORD_WIDTH: usize = 3;
-
-const MAX_RECORDS: usize = 1024;
-
-const MAX_NUMBERS: usize = 3072;
 
 // Places of the last bit and of the displacement in a record, behind its first bit.
 const LAST: usize = 1;
@@ -71,7 +67,7 @@ fn list_front(
     bitmapping::list(nodes, edges, root, leaf, &mut work[..numbers])
 }
 
-// The list into the front of `work`: three numbers for each of `room` records, of which the longest list needs MAX_RECORDS.
+// The list into the front of `work`: three numbers for each of `room` records, of which the longest list needs MAX_PATHS.
 fn list_within(
     nodes: &[i64],
     edges: &[i64],
@@ -83,8 +79,8 @@ fn list_within(
     ensures { λ r. ⌜
         Listed (now (nodes .entry)) (now (edges .entry)) root leaf room (now (work .entry)) r (now (work .exit)) ⌝ }
 {
-    let mut records = MAX_RECORDS;
-    if room < MAX_RECORDS {
+    let mut records = MAX_PATHS;
+    if room < MAX_PATHS {
         records = room;
     }
     list_front(nodes, edges, root, leaf, RECORD_WIDTH * records, work)

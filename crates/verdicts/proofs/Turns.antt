@@ -3,15 +3,13 @@ use mathlib.Core.Path.{_≡_, refl, sym, ap, _∙_}
 use mathlib.Core.Bool.{Bool, true, false}
 use mathlib.Core.Logic.{_≢_}
 use mathlib.Core.List.{List, [], _∷_, _++_}
-use Prim.Native.Nat.{ℕ, zero, suc, _+_, _≤_, _<_}
+use Prim.Native.Nat.{ℕ, _+_, _≤_, _<_}
 use lib.Dec.{ltb}
 use lib.ListN.{length}
 use lib.IntN.{ℤ}
 use Rattle.integers.proofs.Tests.{Test, passed, failed, ltb?, is-false, T-true}
-use Rattle.lists.specs.Lists.{isNil}
-use Rattle.sorting.specs.Rows.{rowsOf}
 use Rattle.model.specs.Bitmapping.{Record}
-use Rattle.model.specs.Verdicts.{sameRecord, sameList, allContained, verdict}
+use Rattle.model.specs.Verdicts.{sameRecord, sameList}
 use Rattle.model.proofs.Verdicts.{same-list}
 use Rattle.normalisation.specs.Records.{recordAt, recordsOf, recordsFrom}
 use Rattle.verdicts.specs.OnePass.{aligned, ends, candidates, headsAligned, starts, lower, lowestFrom}
@@ -87,38 +85,3 @@ module _ (a b : List ℤ) (m n i : ℕ) where
   lowest-last least e =
       ap (lowestFrom least) (candidates-last (recordsFrom a i m) (recordsFrom b i n) e)
       ∙ lowestFrom-append least (starts (recordsFrom a i m)) (starts (recordsFrom b i n))
-
--- ---- the verdict
-
-module _ (l m : List Record) where
-  -- lists that are the same are equal
-  pub verdict-same : sameList l m ≡ true → verdict l m ≡ 0
-  unfolding verdict
-  verdict-same e = rw e refl
-
-  module _ (e : sameList l m ≡ false) where
-    -- others are different where the implementation's is empty
-    pub verdict-empty : isNil m ≡ true → verdict l m ≡ 2
-    unfolding verdict
-    verdict-empty h = rw (e, h) refl
-
-    -- partial where it is not, and each of its records is contained in one of the specification's
-    pub verdict-within : isNil m ≡ false → allContained l m ≡ true → verdict l m ≡ 1
-    unfolding verdict
-    verdict-within h k = rw (e, h, k) refl
-
-    -- and different where some record is not
-    pub verdict-beyond : isNil m ≡ false → allContained l m ≡ false → verdict l m ≡ 2
-    unfolding verdict
-    verdict-beyond h k = rw (e, h, k) refl
-
--- no records are an empty list
-pub recordsOf-empty : (t : List ℤ) (n : ℕ) → n ≡ 0 → isNil (recordsOf t n) ≡ true
-unfolding rowsOf isNil
-recordsOf-empty t n e = rw e refl
-
--- some records are not
-pub recordsOf-some : (t : List ℤ) (n : ℕ) → n ≢ 0 → isNil (recordsOf t n) ≡ false
-unfolding rowsOf isNil
-recordsOf-some t zero h = absurd (h refl)
-recordsOf-some t (suc n) h = refl

@@ -1,9 +1,10 @@
 -- Records as the code holds them, and what is asked of them where the lowest differing address is found. Assumes nothing.
 use mathlib.Core.List.{List}
-use Prim.Native.Nat.{ℕ, _^_}
+use Prim.Native.Nat.{ℕ}
 use lib.IntN.{ℤ, pos}
 use lib.Signed.{_≤ℤ_, _<ℤ_}
 use Rattle.lists.specs.Lists.{_∈_}
+use Rattle.model.specs.Limits.{addressRoom}
 use Rattle.model.specs.Bitmapping.{Record}
 use Rattle.normalisation.specs.Records.{recordsOf, NormalList}
 use Rattle.verdicts.specs.declared.Record as code
@@ -16,7 +17,7 @@ asRecord r = record { first = r .first; last = r .last; displacement = r .displa
 pub record SmallRecord (r : Record) : Type 0 where
   pub low : pos 0 ≤ℤ r .first
   pub full : r .first ≤ℤ r .last
-  pub high : r .last <ℤ pos (2 ^ 62)
+  pub high : r .last <ℤ pos addressRoom
 
 -- every record of the list is small
 abbrev pub SmallRecords : List Record → Type 0

@@ -1,15 +1,12 @@
-// The verdict on two lists of records, and the lowest address at which they differ. A list is a flat slice of numbers, three a record: first,
+// Whether two lists of records are the same, and the lowest address at which they differ. A list is a flat slice of numbers, three a record: first,
 // last, displacement.
 ghost use mathlib.Core.Path.{_≡_};
 ghost use Prim.Native.Nat.{_+_, _*_, _≤_};
 ghost use lib.ListN.{length};
-ghost use Rattle.model.specs.Verdicts.{sameRecord, sameList, verdict, lowest};
-ghost use Rattle.model.specs.Answers.{verdictNumber};
-ghost use Rattle.normalisation.specs.Records.{recordAt, recordsOf, recordsFrom, NormalList};
+ghost use Rattle.model.specs.Verdicts.{sameRecord, sameList, lowest};
+ghost use Rattle.normalisation.specs.Records.{recordAt, recordsOf, recordsFrom};
 ghost use Rattle.verdicts.specs.Records.{asRecord, SmallRecord, SmallList};
 ghost use Rattle.verdicts.specs.OnePass as pass;
-use containment::all_contained;
-use model::Verdict;
 
 // Root bits first .. last reach leaf bits that stand displacement below them.
 pub struct Record {
@@ -71,30 +68,6 @@ pub fn same_lists(a: &[i64], na: usize, b: &[i64], nb: usize) -> bool
         }
     }
     true
-}
-
-// The verdict on the ns records of the specification and the ni records of the implementation. Lists that are not the same are sorted by displacement:
-// what stands in the three slices afterwards is space that was worked in.
-pub fn verdict_of(
-    spec: &mut [i64],
-    ns: usize,
-    imp: &mut [i64],
-    ni: usize,
-    spare: &mut [i64],
-) -> Verdict
-    requires { ⌜ NormalList (now spec) ns × NormalList (now imp) ni × (3 * ns ≤ length (now spare)) × (3 * ni ≤ length (now spare)) ⌝ }
-    ensures { λ v. ⌜ verdictNumber v ≡ verdict (recordsOf (now (spec .entry)) ns) (recordsOf (now (imp .entry)) ni) ⌝ }
-{
-    if same_lists(spec, ns, imp, ni) {
-        return Verdict::Equal;
-    }
-    if ni == 0 {
-        return Verdict::Different;
-    }
-    if all_contained(spec, ns, imp, ni, spare) {
-        return Verdict::Partial;
-    }
-    Verdict::Different
 }
 
 // The lower of an address found before, -1 where there is none, and the next.

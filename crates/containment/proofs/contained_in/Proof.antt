@@ -17,18 +17,6 @@ displacement-test c =
     let s = c .before .before in
     c .same-displacement .ensures ∙ ap (λ (q : Row). eqZ (s .args .r .first) (q .first)) (c .before .row-at .ensures)
 
-row-at-requires : tie.Need-row-at-requires
-row-at-requires c κs = search needs
-
-same-displacement-requires : tie.Need-same-displacement-requires
-same-displacement-requires c κs = search needs
-
-row-at-requires-2 : tie.Need-row-at-requires-2
-row-at-requires-2 c κs = search needs
-
-root-bits-within-requires : tie.Need-root-bits-within-requires
-root-bits-within-requires c κs = search needs
-
 returns : tie.Need-returns
 returns c =
     let t = c .before .before in
@@ -47,9 +35,9 @@ pub contained-in-spec : {M : Type 1} → statement M
 contained-in-spec =
     tie.close
     (tie.spec
-    row-at-requires
-    same-displacement-requires
-    row-at-requires-2
-    root-bits-within-requires
+    (λ c κs. search needs)
+    (λ c κs. search needs)
+    (λ c κs. search needs)
+    (λ c κs. search needs)
     returns
     returns-2)

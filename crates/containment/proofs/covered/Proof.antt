@@ -37,18 +37,6 @@ returns c =
     sym (l .loop .inv
     ∙ covered-none (s .args .spec .now) (s .args .imp .now) (s .args .ns) (s .args .ni) (l .loop .i) (l .loop .j) (c .if1 .taken) (c .before .loop-test .taken))
 
-row-at-requires : tie.Need-row-at-requires Inv-loop μ-loop
-row-at-requires c κs = omega arith
-
-contained-in-requires : tie.Need-contained-in-requires Inv-loop μ-loop
-contained-in-requires c κs = omega arith
-
-add-j : tie.Need-add-j Inv-loop μ-loop
-add-j c = omega arith
-
-loop-less : tie.Need-loop-less Inv-loop μ-loop
-loop-less c = omega arith
-
 loop-again : tie.Need-loop-again Inv-loop μ-loop
 loop-again c =
     let e = c .before .before .before in
@@ -57,12 +45,6 @@ loop-again c =
     l .loop .inv
     ∙ covered-inside (s .args .spec .now) (s .args .imp .now) (s .args .ns) (s .args .ni) (l .loop .i) (l .loop .j) (e .if1 .left) (e .before .loop-test .taken)
     (sym (test (c .before)) ∙ c .if2 .taken)
-
-add-i : tie.Need-add-i Inv-loop μ-loop
-add-i c = omega arith
-
-loop-less-2 : tie.Need-loop-less-2 Inv-loop μ-loop
-loop-less-2 c = omega arith
 
 loop-again-2 : tie.Need-loop-again-2 Inv-loop μ-loop
 loop-again-2 c =
@@ -87,12 +69,12 @@ covered-spec =
     μ-loop
     loop-holds
     returns
-    row-at-requires
-    contained-in-requires
-    add-j
-    loop-less
+    (λ c κs. omega arith)
+    (λ c κs. omega arith)
+    (λ c. omega arith)
+    (λ c. omega arith)
     loop-again
-    add-i
-    loop-less-2
+    (λ c. omega arith)
+    (λ c. omega arith)
     loop-again-2
     returns-2)

@@ -148,9 +148,6 @@ module _ (t : ℕ) where
   append-row-requires : lts.Need-append-row-requires (claims t) (at t) reads.Post Inv-loop μ-loop
   append-row-requires c κs = let l = c .before .before in omega (arith, l .before .before .before .before .before .pre .1 .2, ap length (at-leaf l))
 
-  same-length : lts.Need-same-length (claims t) (at t) reads.Post Inv-loop μ-loop
-  same-length c = search needs
-
   returns-2 : lts.Need-returns-2 (claims t) (at t) reads.Post Inv-loop μ-loop
   returns-2 c =
       let w = c .before in
@@ -189,9 +186,6 @@ module _ (t : ℕ) where
   moved-requires c κs =
       let l = c .before .before in
       (l .before .before .before .before .before .before .before .before .pre .1 .0 .tables, omega arith, small (l .before .before .before .before))
-
-  sub-walk-from : lts.Need-sub-walk-from (claims t) (at t) reads.Post Inv-loop μ-loop
-  sub-walk-from c = omega arith
 
   walk-from-requires : lts.Need-walk-from-requires (claims t) (at t) reads.Post Inv-loop μ-loop
   walk-from-requires c κs =
@@ -241,7 +235,7 @@ pub +walk-from-spec : {M : Type 1} → statement M
     (returns t)
     (arrival-row-requires t)
     (append-row-requires t)
-    (same-length t)
+    (λ c. search needs)
     (returns-2 t)
     (returns-3 t)
     (mul-e t)
@@ -249,7 +243,7 @@ pub +walk-from-spec : {M : Type 1} → statement M
     (loop-holds t)
     (edge-to-requires t)
     (moved-requires t)
-    (sub-walk-from t)
+    (λ c. omega arith)
     (walk-from-requires t)
     (edge-behind-requires t)
     (loop-less t)

@@ -7,13 +7,10 @@ use mir.Facts.{toZ-ofZ}
 use Rattle.listing.proofs.arrival_row.Statement.{statement}
 use Rattle.listing.proofs.arrival_row.Tie as tie
 
-leaf-bit-requires : tie.Need-leaf-bit-requires
-leaf-bit-requires c κs = search needs
-
 returns : tie.Need-returns
 returns c es =
     let f : SFits w64 (c .before .leaf-bit .result .0) = search needs in
     rw (toZ-ofZ f, c .before .leaf-bit .ensures es) refl
 
 pub arrival-row-spec : {M : Type 1} → statement M
-arrival-row-spec = tie.close (tie.spec leaf-bit-requires returns)
+arrival-row-spec = tie.close (tie.spec (λ c κs. search needs) returns)

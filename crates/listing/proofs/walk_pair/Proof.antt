@@ -1,99 +1,67 @@
--- The rows of all arrivals, sorted, give the leaf bits, each once.
+-- The rows of all arrivals, normalised, are the records of the leaf bits.
 use mathlib.Core.Path.{_≡_, ap, _∙_}
-use native.Mathlib.Omega.{arith}
 use borrow.Author.Needs.{needs}
 use lib.IntN.{pos}
-use lib.ListN.{length}
+use lib.ListN.{length, length-map}
 use mir.Facts.{toZ-ofZ}
 use Rattle.model.specs.Limits.{maxChain}
 use Rattle.model.specs.Graph.{graphOf}
-use Rattle.listing.specs.Listing.{Listable, Appended, arrivalRows}
-use Rattle.listing.proofs.Pairs.{pair-linkable, pair-listable, pair-room, arrivals-few, arrivals-sortable, arrivals-once}
+use Rattle.model.specs.Calls.{numbersOf, leafBits}
+use Rattle.listing.specs.Listing.{Appended, bitRecord, arrivalRows}
+use Rattle.listing.proofs.Pairs.{pair-linkable, pair-linked, arrivals-room, arrivals-normalisable, arrivals-normal}
 use Rattle.listing.proofs.walk_pair.Statement.{statement}
 use Rattle.listing.proofs.walk_pair.Tie as tie
 
+-- the entry of the function
+abbrev start : tie.After-of → tie.Start
+start c = c .before .before .before .before .before .before .before .before .before
+
 link-edges-requires : tie.Need-link-edges-requires
-link-edges-requires c κs = pair-linkable (c .before .before .before .before .before .pre)
-
--- the edges are linked, so that the walk can begin
-listable : (c : tie.After-link-edges) → let s = c .before .before .before .before .before .before in
-    Listable (s .args .nodes .now) (s .args .edges .now) (s .args .root) (s .args .leaf) (c .link-edges .last .1 .1 .1 .0) (c .link-edges .last .1 .1 .1 .1 .0)
-    (s .args .work .now) (s .args .spare .now)
-listable c = pair-listable (c .before .before .before .before .before .before .pre) (c .link-edges .ensures)
-
-of-requires : tie.Need-of-requires
-of-requires c κs = search needs
+link-edges-requires c κs = pair-linkable (c .before .before .before .pre)
 
 -- the address is the one given
-address : (c : tie.After-of) → c .of .result .0 ≡ c .before .before .before .before .before .before .before .before .before .before .before .before .before .args .address
-address c = simp (toZ-ofZ, c .before .before .before .before .before .before .before .before .before .before .before .before .before .fits .address) at (c .of .ensures)
+address : (c : tie.After-of) → c .of .result .0 ≡ start c .args .address
+address c = simp (toZ-ofZ, start c .fits .address) at (c .of .ensures)
+
+-- the rows of all arrivals are written
+walked : (c : tie.After-walk-from) → let s = start (c .before .before) .args in
+    Appended (arrivalRows maxChain (graphOf (s .nodes .now) (s .edges .now)) (pos (s .root)) (pos (s .leaf)) (s .address)) (s .work .now)
+    (c .walk-from .last .1 .1 .1 .1 .1 .1 .1 .1 .0) 0 (c .walk-from .result)
+walked c = rw (address (c .before .before)) at (c .walk-from .ensures)
 
 walk-from-requires : tie.Need-walk-from-requires
 walk-from-requires c κs =
     let a = c .before in
-    let s = a .before .before .before .before .before .before .before .before .before .before .before .before .before in
-    let g = graphOf (s .args .nodes .now) (s .args .edges .now) in
-    let x = s .args .address in
-    let p = listable (a .before .before .before .before .before .before .before) in (
-      p .linked,
-      p .row,
-      rw (address a) (pair-room p (arrivalRows maxChain g (pos (s .args .root)) (pos (s .args .leaf)) x) (arrivals-few p x)),
-    )
+    let p = start a .pre in
+    (pair-linked p (a .before .before .before .before .before .link-edges .ensures), p .row, rw (address a) (arrivals-room p (start a .args .address)))
 
--- the rows of all arrivals are written
-walked : (c : tie.After-walk-from) → let s = c .before .before .before .before .before .before .before .before .before .before .before .before .before .before .before in
-    let g = graphOf (s .args .nodes .now) (s .args .edges .now) in
-    Appended (arrivalRows maxChain g (pos (s .args .root)) (pos (s .args .leaf)) (s .args .address)) (s .args .work .now)
-    (c .walk-from .last .1 .1 .1 .1 .1 .1 .1 .1 .0) 0 (c .walk-from .result)
-walked c = rw (address (c .before .before)) at (c .walk-from .ensures)
-
-sort-rows-requires : tie.Need-sort-rows-requires
-sort-rows-requires c κs =
+normalise-requires : tie.Need-normalise-requires
+normalise-requires c κs =
     let w = c .before .before .before in
-    let s = w .before .before .before .before .before .before .before .before .before .before .before .before .before .before .before in
-    arrivals-sortable (listable (w .before .before .before .before .before .before .before .before .before)) (s .args .address) (walked w)
-
-keep-once-requires : tie.Need-keep-once-requires
-keep-once-requires c κs =
-    let o = c .before .before .before in
-    let w = o .before .before .before .before in
-    let s = w .before .before .before .before .before .before .before .before .before .before .before .before .before .before .before in
-    let l = w .before .before .before .before .before .before .before .before .before in
-    omega (arith, arrivals-sortable (listable l) (s .args .address) (walked w) .0, o .sort-rows .kept .0)
-
-same-length : tie.Need-same-length
-same-length c = search needs
-
-same-length-2 : tie.Need-same-length-2
-same-length-2 c = search needs
-
-same-length-3 : tie.Need-same-length-3
-same-length-3 c = search needs
-
-same-length-4 : tie.Need-same-length-4
-same-length-4 c = search needs
+    let s = start (w .before .before) in
+    arrivals-normalisable (s .pre) (s .args .address) (walked w)
 
 returns : tie.Need-returns
 returns c =
-    let k = c .before in
-    let o = k .before .before .before .before in
-    let w = o .before .before .before .before in
-    let s = w .before .before .before .before .before .before .before .before .before .before .before .before .before .before .before in
-    let l = w .before .before .before .before .before .before .before .before .before in
-    let bits = arrivals-once (listable l) (s .args .address) (walked w) (o .sort-rows .ensures .0) in
-    (k .keep-once .ensures .0 ∙ ap length bits, (k .keep-once .ensures .1 ∙ bits, l .link-edges .ensures))
+    let n = c .before .before in
+    let w = n .before .before .before .before in
+    let s = start (w .before .before) in
+    let bits = leafBits (graphOf (s .args .nodes .now) (s .args .edges .now)) (pos (s .args .root)) (pos (s .args .leaf)) (s .args .address) in
+    let list = arrivals-normal (s .pre) (s .args .address) (walked w) in
+    (n .normalise .ensures .0 ∙ ap length list ∙ length-map bits bitRecord, n .normalise .ensures .1 .0 ∙ ap numbersOf list)
 
 pub walk-pair-spec : {M : Type 1} → statement M
 walk-pair-spec =
     tie.close
     (tie.spec
+    (λ c. search needs)
+    (λ c. search needs)
     link-edges-requires
-    of-requires
+    (λ c. search needs)
+    (λ c. search needs)
+    (λ c κs. search needs)
     walk-from-requires
-    sort-rows-requires
-    keep-once-requires
-    same-length
-    same-length-2
-    same-length-3
-    same-length-4
+    (λ c. search needs)
+    normalise-requires
+    (λ c. search needs)
     returns)

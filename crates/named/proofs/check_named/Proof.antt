@@ -75,18 +75,12 @@ root-counted c =
     let a = k .before .before .before .before .before .before .args in
     root-count (a .nodes .now) (a .edges .now) _ (root-same k) (root-here k .row) (a .leaf) (a .counts .now) (counts-told c)
 
-is-root-requires : tie.Need-is-root-requires
-is-root-requires c κs = search needs
-
 returns : tie.Need-returns
 returns c =
     record {
       answers = named-rootless _ _ _ (sym (root-told (c .before)) ∙ not-true _ (c .if1 .taken));
       counted = λ e. absurd (let z : _≡_ {A = ℕ} 0 1 = cc in omega arith);
     }
-
-is-leaf-requires : tie.Need-is-leaf-requires
-is-leaf-requires c κs = search needs
 
 returns-2 : tie.Need-returns-2
 returns-2 c =
@@ -116,9 +110,6 @@ mul-paths c = omega (arith, root-within (c .before .before .before .before))
 slice-read-paths : tie.Need-slice-read-paths
 slice-read-paths c = omega (arith, root-within (c .before .before .before .before .before), c .before .before .before .count-paths .kept .1 .1 .1 .1 .0)
 
-same-length : tie.Need-same-length
-same-length c = search needs
-
 returns-3 : tie.Need-returns-3
 returns-3 c =
     let p = c .before .before .before .before in
@@ -127,9 +118,6 @@ returns-3 c =
       answers = named-many _ _ _ (root-passes (k .before .before)) (leaf-passes k) (omega (arith, root-counted p, c .if3 .taken));
       counted = λ e. absurd (let z : _≡_ {A = ℕ} 0 1 = cc in omega arith);
     }
-
-same-length-2 : tie.Need-same-length-2
-same-length-2 c = search needs
 
 returns-4 : tie.Need-returns-4
 returns-4 c =
@@ -144,16 +132,16 @@ pub check-named-spec : {M : Type 1} → statement M
 check-named-spec =
     tie.close
     (tie.spec
-    is-root-requires
+    (λ c κs. search needs)
     returns
-    is-leaf-requires
+    (λ c κs. search needs)
     returns-2
     cast-count-paths
     count-paths-requires
     cast-from
     mul-paths
     slice-read-paths
-    same-length
+    (λ c. search needs)
     returns-3
-    same-length-2
+    (λ c. search needs)
     returns-4)

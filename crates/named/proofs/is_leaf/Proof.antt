@@ -15,9 +15,6 @@ use Rattle.named.proofs.is_leaf.Tie as tie
 kind-fits : (c : tie.After-kind-at) → SFits w64 (c .kind-at .result)
 kind-fits c = sfits-of {w = w64} (c .kind-at .ok)
 
-kind-at-requires : tie.Need-kind-at-requires
-kind-at-requires c κs = search needs
-
 returns : tie.Need-returns
 returns c es =
     let s = c .before in
@@ -26,4 +23,4 @@ returns c es =
     ∙ sym (leaf-kind (graphOf (s .args .nodes .now) es) (s .args .v))
 
 pub is-leaf-spec : {M : Type 1} → statement M
-is-leaf-spec = tie.close (tie.spec kind-at-requires returns)
+is-leaf-spec = tie.close (tie.spec (λ c κs. search needs) returns)

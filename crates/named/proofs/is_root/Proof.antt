@@ -39,16 +39,10 @@ kinds-pass c =
       | inr w ↦ rw (bits-same f (lit< tt) (w .left))
     ]
 
-kind-at-requires : tie.Need-kind-at-requires
-kind-at-requires c κs = search needs
-
 returns : tie.Need-returns
 returns c =
     let k = c .before .before in
     sym (kind-told k ∙ rw (bits-other (kind-fits k) (lit< tt) (c .before .if1 .taken), bits-other (kind-fits k) (lit< tt) (c .if2 .taken)))
-
-entered-requires : tie.Need-entered-requires
-entered-requires c κs = search needs
 
 returns-2 : tie.Need-returns-2
 unfolding graphOf
@@ -58,4 +52,4 @@ returns-2 c =
     sym (kind-told k ∙ rw (kinds-pass (c .before), simp (toZ-ofZ, s .fits .v) at (c .entered .ensures)))
 
 pub is-root-spec : {M : Type 1} → statement M
-is-root-spec = tie.close (tie.spec kind-at-requires returns entered-requires returns-2)
+is-root-spec = tie.close (tie.spec (λ c κs. search needs) returns (λ c κs. search needs) returns-2)

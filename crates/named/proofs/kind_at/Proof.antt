@@ -45,9 +45,6 @@ row-passes c es =
 there : (c : tie.Then1) → let a = c .before .before .args in 4 * natAbs (toZ w64 (ofZ w64 (a .v))) + 4 ≤ length (a .nodes .now)
 there c = let a = c .before .before .args in row-there (a .nodes .now) [] (natAbs (toZ w64 (ofZ w64 (a .v)))) (row-passes c [])
 
-is-row-requires : tie.Need-is-row-requires
-is-row-requires c κs = search needs
-
 cast-row : tie.Need-cast-row
 cast-row c = index-fits (c .before .before .fits .v) (row-low c)
 
@@ -75,7 +72,7 @@ pub kind-at-spec : {M : Type 1} → statement M
 kind-at-spec =
     tie.close
     (tie.spec
-    is-row-requires
+    (λ c κs. search needs)
     cast-row
     mul-result
     mul-result-2

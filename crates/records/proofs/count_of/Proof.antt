@@ -6,12 +6,6 @@ use Rattle.records.specs.Putting.{countOf}
 use Rattle.records.proofs.count_of.Statement.{statement}
 use Rattle.records.proofs.count_of.Tie as tie
 
-enum-known-given : tie.Need-enum-known-given
-enum-known-given c = search needs
-
-enum-told : tie.Need-enum-told
-enum-told c = search needs
-
 returns : tie.Need-returns
 returns c = omega (arith, ap countOf (c .before .given .given .1))
 
@@ -19,4 +13,4 @@ returns-2 : tie.Need-returns-2
 returns-2 c = omega (arith, ap countOf (c .enum-told .given .1))
 
 pub count-of-spec : {M : Type 1} → statement M
-count-of-spec = tie.close (tie.spec enum-known-given enum-told returns returns-2)
+count-of-spec = tie.close (tie.spec (λ c. search needs) (λ c. search needs) returns returns-2)

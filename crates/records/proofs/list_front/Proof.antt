@@ -9,17 +9,8 @@ use mir.Facts.{toZ-ofZ}
 use Rattle.records.proofs.list_front.Statement.{statement}
 use Rattle.records.proofs.list_front.Tie as tie
 
-slice-relend-prefix-list : tie.Need-slice-relend-prefix-list
-slice-relend-prefix-list c = search needs
-
 slice-aggregate-list : tie.Need-slice-aggregate-list
 slice-aggregate-list c = let a = c .before .args in sym (length-take-le (a .numbers) (a .work .now) (omega arith))
-
-list-requires : tie.Need-list-requires
-list-requires c κs = search needs
-
-same-length : tie.Need-same-length
-same-length c = search needs
 
 returns : tie.Need-returns
 returns c =
@@ -30,4 +21,4 @@ returns c =
     )
 
 pub list-front-spec : {M : Type 1} → statement M
-list-front-spec = tie.close (tie.spec slice-relend-prefix-list slice-aggregate-list list-requires same-length returns)
+list-front-spec = tie.close (tie.spec (λ c. search needs) slice-aggregate-list (λ c κs. search needs) (λ c. search needs) returns)

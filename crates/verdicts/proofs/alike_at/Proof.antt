@@ -18,15 +18,6 @@ returns-2 c =
     let a = c .before .before .args in
     rw (recordsFrom-more (a .spec .now) (a .i) (a .ns) (c .before .if1 .left), recordsFrom-none (a .imp .now) (a .i) (a .ni) (c .if2 .taken)) refl
 
-record-at-requires : tie.Need-record-at-requires
-record-at-requires c κs = search needs
-
-record-at-requires-2 : tie.Need-record-at-requires-2
-record-at-requires-2 c κs = search needs
-
-begin-alike-requires : tie.Need-begin-alike-requires
-begin-alike-requires c κs = search needs
-
 returns-3 : tie.Need-returns-3
 unfolding headsAligned
 returns-3 c =
@@ -41,7 +32,7 @@ alike-at-spec =
     (tie.spec
     returns
     returns-2
-    record-at-requires
-    record-at-requires-2
-    begin-alike-requires
+    (λ c κs. search needs)
+    (λ c κs. search needs)
+    (λ c κs. search needs)
     returns-3)

@@ -27,9 +27,6 @@ add-lower c =
     let q = past (s .pre .1) in
     simp toZ-ofZ (search needs)
 
-lower-requires : tie.Need-lower-requires
-lower-requires c κs = search needs
-
 returns : tie.Need-returns
 unfolding ends lowestFrom
 returns c =
@@ -51,9 +48,6 @@ add-lower-2 c =
     let p = past (s .pre .0) in
     let q = past (s .pre .1) in
     simp toZ-ofZ (search needs)
-
-lower-requires-2 : tie.Need-lower-requires-2
-lower-requires-2 c κs = search needs
 
 returns-2 : tie.Need-returns-2
 unfolding ends lowestFrom
@@ -83,4 +77,4 @@ returns-3 c =
 pub lower-end-spec : {M : Type 1} → statement M
 lower-end-spec =
     tie.close
-    (tie.spec add-lower lower-requires returns add-lower-2 lower-requires-2 returns-2 returns-3)
+    (tie.spec add-lower (λ c κs. search needs) returns add-lower-2 (λ c κs. search needs) returns-2 returns-3)

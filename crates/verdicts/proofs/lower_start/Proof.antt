@@ -10,12 +10,6 @@ use Rattle.normalisation.proofs.Records.{recordsFrom-more, recordsFrom-none}
 use Rattle.verdicts.proofs.lower_start.Statement.{statement}
 use Rattle.verdicts.proofs.lower_start.Tie as tie
 
-record-at-requires : tie.Need-record-at-requires
-record-at-requires c κs = search needs
-
-lower-requires : tie.Need-lower-requires
-lower-requires c κs = search needs
-
 returns : tie.Need-returns
 unfolding starts lowestFrom
 returns c =
@@ -31,4 +25,4 @@ returns-2 c =
     rw (recordsFrom-none (s .args .t .now) (s .args .i) (s .args .n) (c .if1 .left)) refl
 
 pub lower-start-spec : {M : Type 1} → statement M
-lower-start-spec = tie.close (tie.spec record-at-requires lower-requires returns returns-2)
+lower-start-spec = tie.close (tie.spec (λ c κs. search needs) (λ c κs. search needs) returns returns-2)

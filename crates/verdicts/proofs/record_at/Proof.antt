@@ -6,9 +6,6 @@ use borrow.Author.Needs.{needs}
 use Rattle.verdicts.proofs.record_at.Statement.{statement}
 use Rattle.verdicts.proofs.record_at.Tie as tie
 
-row-at-requires : tie.Need-row-at-requires
-row-at-requires c κs = search needs
-
 returns : tie.Need-returns
 returns c =
     let row = c .before .row-at .result in
@@ -18,4 +15,4 @@ returns c =
     rw (toZ-ofZ f, toZ-ofZ g, toZ-ofZ h) (cc (c .before .row-at .ensures))
 
 pub record-at-spec : {M : Type 1} → statement M
-record-at-spec = tie.close (tie.spec row-at-requires returns)
+record-at-spec = tie.close (tie.spec (λ c κs. search needs) returns)

@@ -29,21 +29,6 @@ loop-holds c =
     let s = c .before in
     rw (recordsFrom-start (s .args .a .now) (s .args .na), recordsFrom-start (s .args .b .now) (s .args .na), c .if1 .left) refl
 
-record-at-requires : tie.Need-record-at-requires Inv-loop μ-loop
-record-at-requires c κs = omega arith
-
-record-at-requires-2 : tie.Need-record-at-requires-2 Inv-loop μ-loop
-record-at-requires-2 c κs = omega arith
-
-same-records-requires : tie.Need-same-records-requires Inv-loop μ-loop
-same-records-requires c κs = search needs
-
-add-i : tie.Need-add-i Inv-loop μ-loop
-add-i c = omega arith
-
-loop-less : tie.Need-loop-less Inv-loop μ-loop
-loop-less c = omega arith
-
 loop-again : tie.Need-loop-again Inv-loop μ-loop
 loop-again c =
     let l = c .before .before .before .before .before in
@@ -72,11 +57,11 @@ same-lists-spec =
     μ-loop
     returns
     loop-holds
-    record-at-requires
-    record-at-requires-2
-    same-records-requires
-    add-i
-    loop-less
+    (λ c κs. omega arith)
+    (λ c κs. omega arith)
+    (λ c κs. search needs)
+    (λ c. omega arith)
+    (λ c. omega arith)
     loop-again
     returns-2
     returns-3)

@@ -7,9 +7,6 @@ use Rattle.verdicts.proofs.Tests.{same-unlike, same-like}
 use Rattle.verdicts.proofs.same_records.Statement.{statement}
 use Rattle.verdicts.proofs.same_records.Tie as tie
 
-begin-alike-requires : tie.Need-begin-alike-requires
-begin-alike-requires c κs = search needs
-
 returns : tie.Need-returns
 returns c =
     let t = c .before .before .before .before in
@@ -23,4 +20,4 @@ returns-2 c =
     sym (same-unlike (asRecord (s .args .r)) (asRecord (s .args .s)) (sym (c .before .begin-alike .ensures) ∙ c .if1 .left))
 
 pub same-records-spec : {M : Type 1} → statement M
-same-records-spec = tie.close (tie.spec begin-alike-requires returns returns-2)
+same-records-spec = tie.close (tie.spec (λ c κs. search needs) returns returns-2)

@@ -11,7 +11,7 @@ use lib.ListN.{List·getD-append}
 use Rattle.integers.proofs.Linear.{ints}
 use Rattle.model.specs.Limits.{maxNodes}
 use Rattle.model.specs.Rows.{nodeRows}
-use Rattle.model.specs.Graph.{Graph, graphOf, NodeRow, node}
+use Rattle.model.specs.Graph.{Graph, graphOf, NodeRow}
 use Rattle.model.specs.Taken.{TakenTables}
 use Rattle.tables.proofs.Rows.{nodes-length}
 use Rattle.sorting.specs.declared.Row.{Row}
@@ -20,14 +20,9 @@ use Rattle.normalisation.specs.Merging.{ofDisplacement}
 use Rattle.listing.specs.Listing.{Appended}
 use Rattle.listing.proofs.Appending.{append-length}
 use Rattle.references.specs.References.{recordsAt}
-use Rattle.arrivals.specs.State.{usedAt, arenaRow, markNumber, isMet, referenceAt, isListed, placeOf, countOf, usedIn, rootIn}
+use Rattle.arrivals.specs.State.{usedAt, arenaRow, markNumber, isMet, referenceAt, isListed, placeOf, countOf, usedIn, rootIn, Agree}
 use Rattle.arrivals.specs.Sweep.{Listed, Sweeping}
 use Rattle.arrivals.proofs.Relisting.{listed-moved, relisted-sweeping}
-
--- two states of one length that have the same numbers in front of row n
-pub record Agree (n : ℕ) (s t : List ℤ) : Type 0 where
-  pub long : length t ≡ length s
-  pub same : (j : ℕ) → j < 3 * n → getD t j (pos 0) ≡ getD s j (pos 0)
 
 -- what agrees in front of a row agrees in front of a row before
 pub agree-less : {n m : ℕ} {s t : List ℤ} → m ≤ n → Agree n s t → Agree m s t
@@ -35,6 +30,15 @@ agree-less h a = record { long = a .long; same = λ j k. a .same j (omega (arith
 
 pub agree-trans : {n : ℕ} {s t u : List ℤ} → Agree n s t → Agree n t u → Agree n s u
 agree-trans a b = record { long = b .long ∙ a .long; same = λ j k. b .same j k ∙ a .same j k }
+
+-- states of one length with the same front agree
+pub agree-front : (n : ℕ) {s t : List ℤ} → length t ≡ length s → take (3 * n) t ≡ take (3 * n) s → Agree n s t
+agree-front n {s} {t} long front =
+    record {
+      long = long;
+      same = λ j h.
+          sym (getD-take (3 * n) t j (pos 0) h) ∙ ap (λ (l : List ℤ). getD l j (pos 0)) front ∙ getD-take (3 * n) s j (pos 0) h;
+    }
 
 -- the root and the used part are the same
 pub agree-root : {n : ℕ} {s t : List ℤ} → arenaRow ≤ n → Agree n s t → rootIn t ≡ rootIn s

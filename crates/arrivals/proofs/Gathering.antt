@@ -2,35 +2,35 @@
 use mathlib.Core.Path.{_≡_, refl, sym, ap, _∙_, subst}
 use mathlib.Core.Bool.{Bool, true, false, not, cond}
 use mathlib.Core.List.{List, [], _∷_, _++_, map, map-append, append-nil, append-assoc, List·Memᴰ·head, List·Memᴰ·append-cases, List·Memᴰ·not-nil, List·Memᴰ·eq-of-singleton, Memᴰ·append-left, Memᴰ·append-right}
-use mathlib.Core.Logic.{_↔_, _⊎_, _≢_, inl, inr, ⊎-elim, Iff·trans, Iff·symm}
+use mathlib.Core.Logic.{_↔_, _⊎_, _≢_, inl, inr, ⊎-elim, Iff·trans}
 use mathlib.Core.Option.{Option, none, some}
-use Prim.Native.Nat.{ℕ, zero, suc, _+_, _-_, _*_, _/_, _≤_, _<_, _^_}
+use Prim.Native.Nat.{ℕ, suc, _+_, _-_, _*_, _≤_, _<_}
 use native.Mathlib.Omega.{arith}
 use lib.Dec.{T}
 use lib.IntN.{ℤ, pos, natAbs, _+ℤ_, _-ℤ_}
-use lib.Signed.{_≤ℤ_, _<ℤ_, yes-nonNeg, pos-natAbs}
-use lib.ListN.{length, getD, take, drop, length-append, length-map}
-use Rattle.integers.proofs.Linear.{ints, sum, diff}
+use lib.Signed.{_≤ℤ_, yes-nonNeg, pos-natAbs}
+use lib.ListN.{length, getD, drop, length-append, length-map}
+use Rattle.integers.proofs.Linear.{ints, sum}
 use Rattle.integers.proofs.Tests.{eqZ?, test-of}
+use Rattle.integers.proofs.Range.{leZ-true}
 use Rattle.lists.specs.Lists.{_∈_, keep}
 use Rattle.model.specs.Limits.{maxNodes}
 use Rattle.model.specs.Rows.{Edge, nodeRows, edgeRows}
-use Rattle.model.specs.Graph.{Graph, graphOf, NodeRow, node, firstBit, lastBit, bitOffset}
+use Rattle.model.specs.Graph.{Graph, graphOf, NodeRow, node, bitOffset}
 use Rattle.model.specs.Walk.{StandsOn, Walk}
 use Rattle.model.specs.Paths.{Way, stay, over}
-use Rattle.model.specs.Bitmapping.{Record, Has}
-use Rattle.model.specs.Taken.{TakenTables}
+use Rattle.model.specs.Bitmapping.{Record}
 use Rattle.model.proofs.Chains.{way-append}
 use Rattle.model.proofs.Walks.{walk-start, walk-end}
 use Rattle.model.proofs.Records.{has-at}
 use Rattle.model.proofs.Taken.{taken-address}
 use Rattle.tables.specs.Tables.{edgeAt}
-use Rattle.tables.proofs.Rows.{nodes-length, edges-length, edges-at}
+use Rattle.tables.proofs.Rows.{edges-length, edges-at}
 use Rattle.reach.specs.Counting.{pathCount}
 use Rattle.reach.specs.Links.{firstRow}
 use Rattle.reach.proofs.Totals.{total}
 use Rattle.reach.proofs.FirstRow.{firstRow-from, firstRow-passes, firstRow-none, firstRow-keep}
-use Rattle.entering.specs.Entering.{enters, entering}
+use Rattle.entering.specs.Entering.{enters, entering, Covered}
 use Rattle.entering.proofs.Walks.{walk-entering, walk-way, entering-in, entering-out}
 use Rattle.steps.proofs.Rows.{edge-in}
 use Rattle.entering.proofs.Ways.{way-onward}
@@ -40,16 +40,16 @@ use Rattle.sorting.specs.Rows.{rowsOf}
 use Rattle.sorting.proofs.Tables.{rowsOf-length}
 use Rattle.normalisation.specs.Merging.{ofDisplacement}
 use Rattle.listing.specs.Listing.{Appended}
-use Rattle.listing.proofs.Appending.{append-none, append-append, append-length}
-use Rattle.forward.specs.Forward.{headAt, nextAt, planRoom}
-use Rattle.references.specs.References.{Reference, Brings, Lying, Small, Within, through, isNone, unlessNone, recordsAt, cutRows, Cuttable}
-use Rattle.references.proofs.Bringing.{lying-small, through-brings, through-lying, none-brings}
+use Rattle.listing.proofs.Appending.{append-none, append-append}
+use Rattle.forward.specs.Forward.{headAt, nextAt}
+use Rattle.references.specs.References.{Reference, own, Brings, InOwner, SmallRecord, through, isNone, recordsAt, cutRows, Cuttable}
+use Rattle.references.proofs.Bringing.{own-lying, lying-small, through-brings, through-lying}
 use Rattle.references.proofs.Cutting.{cut-rows-brings, cut-rows-full, cut-rows-few}
-use Rattle.arrivals.specs.State.{arenaRow, isMet, referenceAt, isListed, placeOf, countOf, usedIn, rootIn}
-use Rattle.arrivals.specs.Sweep.{HasSome, Covered, doneOf, Listed, Marked, Sweeping, Gatherable, Gathered}
+use Rattle.arrivals.specs.State.{markWidth, arenaRow, markNumber, isMet, referenceAt, isListed, placeOf, countOf, rootIn, Agree}
+use Rattle.arrivals.specs.Sweep.{HasSome, doneOf, Listed, RightMark, Sweeping, Gatherable, Gathered}
 use Rattle.arrivals.specs.Moves.{Crossable, crossing}
-use Rattle.arrivals.proofs.Agreeing.{Agree, agree-root, agree-used, agree-less, appended-agrees, sweeping-agrees, row-few}
-use Rattle.arrivals.proofs.Settled.{not-both, done-inside, done-closed, covered-way, settled}
+use Rattle.arrivals.proofs.Agreeing.{agree-root, agree-used, agree-less, appended-agrees, sweeping-agrees, row-few}
+use Rattle.arrivals.proofs.Settled.{not-both, done-closed, covered-way, settled}
 
 -- ---- rows of two lists
 
@@ -59,10 +59,6 @@ some-append k l x y = (
   λ w. ⊎-elim (λ m. inl (w .0, m, w .2)) (λ m. inr (w .0, m, w .2)) (List·Memᴰ·append-cases k (w .1)),
   ⊎-elim (λ w. (w .0, Memᴰ·append-left l (w .1), w .2)) (λ w. (w .0, Memᴰ·append-right k (w .1), w .2)),
 )
-
--- an element of a list and one more
-member-snoc : {A : Type 0} {y : A} (l : List A) (x : A) → y ∈ (l ++ (x ∷ [])) → (y ∈ l) ⊎ (y ≡ x)
-member-snoc l x m = ⊎-elim inl (λ k. inr (List·Memᴰ·eq-of-singleton k)) (List·Memᴰ·append-cases l m)
 
 total-snoc : {A : Type 0} (h : A → ℕ) (l : List A) (x : A) → total h (l ++ (x ∷ [])) ≡ total h l + h x
 total-snoc h [] x = omega arith
@@ -89,7 +85,7 @@ module _ {ns es : List ℤ} {plan : List ℕ} {f : Reference} {left : ℕ} {s : 
   -- the owner as the code has it
   module _ (o : ℕ) (q : pos o ≡ f .owner) where
     owner-row : NodeRow (graphOf ns es) (pos o)
-    owner-row = subst (λ (v : ℤ). NodeRow (graphOf ns es) v) (sym q) (k .lying .row)
+    owner-row = subst (λ (v : ℤ). NodeRow (graphOf ns es) v) (sym q) (k .inOwner .row)
 
     pub owner-few : o < maxNodes
     owner-few = row-few (k .sweeping .tables) owner-row
@@ -98,7 +94,7 @@ module _ {ns es : List ℤ} {plan : List ℕ} {f : Reference} {left : ℕ} {s : 
     unfolding graphOf
     owner-below = omega (arith, ints, owner-row .high)
 
-    owner-mark : Marked (graphOf ns es) (rootIn s) (doneOf es plan (k .passed)) s o
+    owner-mark : RightMark (graphOf ns es) (rootIn s) (doneOf es plan (k .passed)) s o
     owner-mark = k .sweeping .marks o owner-below
 
     -- the first edge that enters the owner
@@ -111,39 +107,57 @@ module _ {ns es : List ℤ} {plan : List ℕ} {f : Reference} {left : ℕ} {s : 
       pub owner-list : Listed (graphOf ns es) (rootIn s) s o
       owner-list = owner-mark .listed (k .met o q) y
 
+      -- where it stands can be read
+      pub list-readable : (markWidth * o + markWidth ≤ length s) × (pos 0 ≤ℤ markNumber s o 4) × (pos 0 ≤ℤ markNumber s o 5)
+      list-readable = (omega (arith, owner-few, k .sweeping .room), leZ-true (pos 0) (markNumber s o 4) y, omega (arith, ints, owner-list .counted))
+
       list-exact : (x b : ℤ) → HasSome (recordsAt s (placeOf s o) (countOf s o)) x b ↔ Walk (graphOf ns es) (rootIn s) x (f .owner) b
       list-exact x b =
           subst (λ (v : ℤ). HasSome (recordsAt s (placeOf s o) (countOf s o)) x b ↔ Walk (graphOf ns es) (rootIn s) x v b) q (owner-list .exact x b)
 
-      -- its records have root bits, and bit addresses at the owner, of taken nodes
-      list-within : (z : Record) → z ∈ recordsAt s (placeOf s o) (countOf s o) → Within z
-      list-within z m =
-          let full = owner-list .full z m in
-          let taken = k .sweeping .tables .graph in
-          let low = z .first -ℤ z .displacement in
-          let high = z .last -ℤ z .displacement in
-          let first = list-exact (z .first) low .0 (z, m, has-at z (z .first) (omega (arith, ints)) full) in
-          let last = list-exact (z .last) high .0 (z, m, has-at z (z .last) full (omega (arith, ints))) in
-          let a = taken-address taken (k .sweeping .root .row) (walk-start first) in
-          let b = taken-address taken (k .sweeping .root .row) (walk-start last) in
-          let c = taken-address taken (k .lying .row) (walk-end first) in
-          let d = taken-address taken (k .lying .row) (walk-end last) in
-          record {
-            full = full;
-            low = a .0;
-            high = omega (arith, ints, b .1);
-            above = c .0;
-            below = omega (arith, ints, d .1);
-          }
+      -- its records have bits of the root, and bit addresses of the owner
+      module _ (z : Record) (m : z ∈ recordsAt s (placeOf s o) (countOf s o)) where
+        first-walks : Walk (graphOf ns es) (rootIn s) (z .first) (f .owner) (z .first -ℤ z .displacement)
+        first-walks = list-exact (z .first) (z .first -ℤ z .displacement) .0 (z, m, has-at z (z .first) (omega (arith, ints)) (owner-list .full z m))
 
-      pub list-cuttable : Cuttable f s (placeOf s o) (countOf s o) n
-      list-cuttable =
-          let few : countOf s o ≤ pathCount (graphOf ns es) (rootIn s) (f .owner) =
-          subst (λ (v : ℤ). countOf s o ≤ pathCount (graphOf ns es) (rootIn s) v) q (owner-list .few) in
+        last-walks : Walk (graphOf ns es) (rootIn s) (z .last) (f .owner) (z .last -ℤ z .displacement)
+        last-walks = list-exact (z .last) (z .last -ℤ z .displacement) .0 (z, m, has-at z (z .last) (owner-list .full z m) (omega (arith, ints)))
+
+        list-inside : (own (graphOf ns es) (rootIn s) .low ≤ℤ z .first) × (z .last ≤ℤ own (graphOf ns es) (rootIn s) .high)
+        list-inside = (walk-start first-walks .above, walk-start last-walks .below)
+
+        list-within : SmallRecord z
+        list-within =
+            let taken = k .sweeping .tables .graph in
+            let last = taken-address taken (k .sweeping .root .row) (walk-start last-walks) in
+            let high = taken-address taken (k .inOwner .row) (walk-end last-walks) in
+            record {
+              full = owner-list .full z m;
+              low = taken-address taken (k .sweeping .root .row) (walk-start first-walks) .0;
+              high = omega (arith, ints, last .1);
+              above = taken-address taken (k .inOwner .row) (walk-end first-walks) .0;
+              below = omega (arith, ints, high .1);
+            }
+
+      -- no more than paths lead to the owner
+      list-few : countOf s o ≤ pathCount (graphOf ns es) (rootIn s) (f .owner)
+      list-few = subst (λ (v : ℤ). countOf s o ≤ pathCount (graphOf ns es) (rootIn s) v) q (owner-list .few)
+
+      -- with the reference to all bits of the root as it is read
+      pub list-cuttable : {all : Reference} → all ≡ own (graphOf ns es) (rootIn s) → Cuttable f (all .low) (all .high) s (placeOf s o) (countOf s o) n
+      list-cuttable e =
+          let root = own-lying (k .sweeping .tables) (k .sweeping .root .row) in
+          rw e
           record {
-            small = lying-small (k .sweeping .tables) (k .lying);
+            small = lying-small (k .sweeping .tables) (k .inOwner);
+            root = (
+              record { low = root .low; high = omega (arith, ints, root .full, root .high) },
+              record { low = omega (arith, ints, root .full, root .low); high = root .high },
+            );
             before = omega (arith, owner-list .within, k .behind);
-            room = omega (arith, few, k .room);
+            room = omega (arith, list-few, k .room);
+            ascending = owner-list .ascending;
+            inside = list-inside;
             within = list-within;
           }
 
@@ -152,14 +166,12 @@ module _ {ns es : List ℤ} {plan : List ℕ} {f : Reference} {left : ℕ} {s : 
           → Gathered (graphOf ns es) (rootIn s) f s t n m
       list-gathered a =
           let l = recordsAt s (placeOf s o) (countOf s o) in
-          let few : countOf s o ≤ pathCount (graphOf ns es) (rootIn s) (f .owner) =
-          subst (λ (v : ℤ). countOf s o ≤ pathCount (graphOf ns es) (rootIn s) v) q (owner-list .few) in
           record {
             rows = cutRows f l;
             appended = a;
             exact = cut-rows-brings (graphOf ns es) (rootIn s) f l list-exact;
             full = cut-rows-full f l;
-            few = omega (arith, few, cut-rows-few f l, records-length s (placeOf s o) (countOf s o));
+            few = omega (arith, list-few, cut-rows-few f l, records-length s (placeOf s o) (countOf s o));
           }
 
     -- ---- through edges
@@ -281,7 +293,7 @@ module _ {ns es : List ℤ} {plan : List ℕ} {f : Reference} {left : ℕ} {s : 
           where
             stands : f .low ≤ℤ b → b ≤ℤ f .high → StandsOn (node (graphOf ns es) (f .owner)) (b +ℤ f .delta)
             stands p q =
-                let l = k .lying in
+                let l = k .inOwner in
                 record {
                   above = omega (arith, ints, l .above, p, sum (f .low) (f .delta), sum b (f .delta));
                   below = omega (arith, ints, l .below, q, sum (f .high) (f .delta), sum b (f .delta));
@@ -361,7 +373,7 @@ module _ {ns es : List ℤ} {plan : List ℕ} {f : Reference} {left : ℕ} {s : 
       unfolding graphOf
       source-below = omega (arith, ints, from-row .high, source-is)
 
-      source-mark : Marked (graphOf ns es) (rootIn t) (doneOf es plan (k .passed)) t source
+      source-mark : RightMark (graphOf ns es) (rootIn t) (doneOf es plan (k .passed)) t source
       source-mark = through-sweeping .marks source source-below
 
       source-covered : Covered es (doneOf es plan (k .passed)) (pos source)
@@ -435,8 +447,8 @@ module _ {ns es : List ℤ} {plan : List ℕ} {f : Reference} {left : ℕ} {s : 
 
       -- where something comes, once its rows are gathered
       module _ (met : isMet t source ≡ true) (full : T (not (isNone part))) where
-        source-lying : Lying (graphOf ns es) (referenceAt t source)
-        source-lying = source-mark .lying met
+        source-lying : InOwner (graphOf ns es) (referenceAt t source)
+        source-lying = source-mark .inOwner met
 
         source-way : (p : List Edge) × Way (graphOf ns es) (referenceAt t source .owner) p (edge .from)
         source-way = subst (λ (v : ℤ). (p : List Edge) × Way (graphOf ns es) (referenceAt t source .owner) p v) source-is (source-mark .way met)
@@ -452,7 +464,7 @@ module _ {ns es : List ℤ} {plan : List ℕ} {f : Reference} {left : ℕ} {s : 
             record {
               passed = k .passed;
               sweeping = through-sweeping;
-              lying = through-lying (bitOffset (graphOf ns es) edge) (lying-small (k .sweeping .tables) (k .lying)) source-lying full;
+              inOwner = through-lying (bitOffset (graphOf ns es) edge) (lying-small (k .sweeping .tables) (k .inOwner)) source-lying full;
               met = source-mark .owner met;
               covered = covered-way through-sweeping (source-way .1) (done-closed through-sweeping edge turn-done);
               deep = λ p y. deeper p (subst (λ (r : ℤ). Way (graphOf ns es) r p (part .owner)) through-root y);
@@ -514,11 +526,11 @@ module _ {ns es : List ℤ} {plan : List ℕ} {f : Reference} {left : ℕ} {s : 
           record {
             tables = k .sweeping .tables;
             there = there;
-            small = lying-small (k .sweeping .tables) (k .lying);
+            small = lying-small (k .sweeping .tables) (k .inOwner);
             marks = omega (arith, through-sweeping .room);
             source = λ u q y.
                 let z : u ≡ source = ap natAbs q in
-                lying-small (k .sweeping .tables) (subst (λ (v : ℕ). Lying (graphOf ns es) (referenceAt t v)) (sym z) (source-mark .lying (subst (λ (v : ℕ). isMet t v ≡ true) z y)));
+                lying-small (k .sweeping .tables) (subst (λ (v : ℕ). InOwner (graphOf ns es) (referenceAt t v)) (sym z) (source-mark .inOwner (subst (λ (v : ℕ). isMet t v ≡ true) z y)));
           }
 
 NoneOf : Option Reference → Type 0

@@ -5,5 +5,6 @@ pub mod Agreeing
 pub mod Settled
 pub mod Gathering
 pub mod Passing
+pub mod Making
 pub mod Keeping
 pub mod Answering

@@ -47,17 +47,17 @@ module _ {ns es : List ℤ} {e : ℕ} {f : Reference} {s : List ℤ} (x : Crossa
 
 -- ---- a reference met
 
-module _ (s : List ℤ) (v : ℕ) (all f : Reference) where
+module _ (s : List ℤ) (v : ℕ) (all f : Reference) (rows : ℤ) where
   -- at a node where nothing had arrived it is kept
-  pub meeting-first : isMet s v ≡ false → meeting s v all f ≡ setMark s v (marked f (negsuc 0) (pos 0))
+  pub meeting-first : isMet s v ≡ false → meeting s v all f rows ≡ setMark s v (marked f (negsuc 0) rows)
   meeting-first n = rw n
 
   -- the same again changes nothing
-  pub meeting-same : isMet s v ≡ true → sameReference (referenceAt s v) f ≡ true → meeting s v all f ≡ s
+  pub meeting-same : isMet s v ≡ true → sameReference (referenceAt s v) f ≡ true → meeting s v all f rows ≡ s
   meeting-same y e = rw (y, e)
 
   -- of another one the node is its own owner
-  pub meeting-other : isMet s v ≡ true → sameReference (referenceAt s v) f ≡ false → meeting s v all f ≡ setMark s v (marked all (negsuc 0) (pos 0))
+  pub meeting-other : isMet s v ≡ true → sameReference (referenceAt s v) f ≡ false → meeting s v all f rows ≡ setMark s v (marked all (negsuc 0) rows)
   meeting-other y n = rw (y, n)
 
 -- ---- rows kept

@@ -25,9 +25,9 @@ use Rattle.model.specs.Walk.{StandsOn, Walk}
 use Rattle.model.specs.Paths.{Root, Way, stay}
 use Rattle.model.specs.Bitmapping.{Record, Has}
 use Rattle.sorting.specs.declared.Row.{Row}
-use Rattle.sorting.specs.Rows.{numbersOf}
+use Rattle.sorting.specs.Rows.{numbersOf, Ascending, none, more}
 use Rattle.sorting.proofs.Tables.{rowsOf-written}
-use Rattle.normalisation.specs.Merging.{ofDisplacement, recordsOf}
+use Rattle.normalisation.specs.Merging.{byDisplacement, ofDisplacement, recordsOf}
 use Rattle.tables.specs.Tables.{edgeAt}
 use Rattle.tables.proofs.Rows.{edges-length}
 use Rattle.steps.proofs.Rows.{edge-in}
@@ -37,10 +37,10 @@ use Rattle.entering.proofs.Counts.{count-edge}
 use Rattle.entering.proofs.Walks.{walk-root}
 use Rattle.entering.proofs.Ways.{way-onward, way-back}
 use Rattle.forward.specs.Forward.{passedCount, passedOf}
-use Rattle.references.specs.References.{Reference, own, Brings, through, isNone, unlessNone, Lying, Small, sameReference, recordsAt}
+use Rattle.references.specs.References.{Reference, own, Brings, through, isNone, unlessNone, InOwner, SmallReference, sameReference, recordsAt}
 use Rattle.references.proofs.Bringing.{through-brings, none-brings, through-lying, through-inside, own-lying, lying-small, same-reference-is}
 use Rattle.arrivals.specs.State.{markWidth, Mark, markNumber, markAt, setMark, marked, usedAt, rootAt, arenaRow, stateRoom, isMet, referenceAt, placeOf, countOf, usedIn, rootIn}
-use Rattle.arrivals.specs.Sweep.{doneOf, Came, HasSome, Listed, Marked, Sweeping, Sweepable}
+use Rattle.arrivals.specs.Sweep.{doneOf, Came, HasSome, Listed, RightMark, Sweeping, Sweepable}
 use Rattle.arrivals.specs.Moves.{Crossable, crossing, meeting, Ownable, Blank, begun}
 use Rattle.arrivals.proofs.Marks.{mark-same, mark-other, mark-behind, mark-length, mark-used, mark-root, met-other, reference-other, listed-other, place-other, number-other, met-same, reference-same, listed-same}
 use Rattle.arrivals.proofs.Agreeing.{row-few, rows-few}
@@ -87,11 +87,11 @@ Inside g v f = (firstBit (node g v) ≤ℤ f .low) × (f .high ≤ℤ lastBit (n
 
 -- a mark says the same after further edges, where nothing comes over them to its node
 marked-further : {g : Graph} {r : ℤ} {done more : List Edge} {s : List ℤ} {v : ℕ} → ((x b : ℤ) → Came g r more (pos v) x b ↔ Came g r done (pos v) x b)
-    → Marked g r done s v → Marked g r more s v
+    → RightMark g r done s v → RightMark g r more s v
 marked-further c m =
     record {
       unmet = λ h x b k. m .unmet h x b (c x b .0 k);
-      lying = m .lying;
+      inOwner = m .inOwner;
       inside = m .inside;
       owner = m .owner;
       way = m .way;
@@ -103,8 +103,8 @@ marked-further c m =
 -- ---- one mark stored
 
 -- a mark without a list
-abbrev bare : Reference → Mark
-bare f = marked f (negsuc 0) (pos 0)
+abbrev bare : Reference → ℤ → Mark
+bare f rows = marked f (negsuc 0) rows
 
 module _ (s : List ℤ) (to : ℕ) (m : Mark) (low : to < maxNodes) (room : length s ≡ stateRoom) where
   -- records in the arena stay
@@ -134,14 +134,14 @@ module _ (s : List ℤ) (to : ℕ) (m : Mark) (low : to < maxNodes) (room : leng
         go false (failed n) = met-other s to k m n ∙ e
 
     -- the marks of other nodes say what they said
-    marked-elsewhere : {g : Graph} {r : ℤ} {done : List Edge} {v : ℕ} → v ≢ to → Marked g r done s v → Marked g r done (setMark s to m) v
+    marked-elsewhere : {g : Graph} {r : ℤ} {done : List Edge} {v : ℕ} → v ≢ to → RightMark g r done s v → RightMark g r done (setMark s to m) v
     marked-elsewhere {g} {r} {done} {v} n k =
         let met : isMet (setMark s to m) v ≡ true → isMet s v ≡ true = λ z. sym (met-other s to v m n) ∙ z in
         let same : referenceAt (setMark s to m) v ≡ referenceAt s v = reference-other s to v m n in
         let same-owner : referenceAt (setMark s to m) v .owner ≡ referenceAt s v .owner = ap (λ (f : Reference). f .owner) same in
         record {
           unmet = λ z. k .unmet (sym (met-other s to v m n) ∙ z);
-          lying = λ z. rw same (k .lying (met z));
+          inOwner = λ z. rw same (k .inOwner (met z));
           inside = λ z. subst (Inside g (pos v)) (sym same) (k .inside (met z));
           owner = λ z j q. met-stays j (k .owner (met z) j (q ∙ same-owner));
           way = λ z. rw same-owner (k .way (met z));
@@ -154,20 +154,20 @@ module _ (s : List ℤ) (to : ℕ) (m : Mark) (low : to < maxNodes) (room : leng
         }
 
 -- such a mark is right where its reference brings what has come, or is all that arrives
-marked-stored : {g : Graph} {r : ℤ} {done : List Edge} (s : List ℤ) (to : ℕ) (f : Reference) → to < maxNodes → length s ≡ stateRoom → Lying g f
+marked-stored : {g : Graph} {r : ℤ} {done : List Edge} (s : List ℤ) (to : ℕ) (f : Reference) (rows : ℤ) → to < maxNodes → length s ≡ stateRoom → InOwner g f
     → Inside g (pos to) f
-    → ((k : ℕ) → pos k ≡ f .owner → isMet (setMark s to (bare f)) k ≡ true)
+    → ((k : ℕ) → pos k ≡ f .owner → isMet (setMark s to (bare f rows)) k ≡ true)
     → (p : List Edge) × Way g (f .owner) p (pos to)
     → (f .owner ≡ pos to → f ≡ own g (pos to))
     → (f .owner ≢ pos to → (x b : ℤ) → Came g r done (pos to) x b ↔ Brings g r f x b)
-    → Marked g r done (setMark s to (bare f)) to
-marked-stored {g} {r} {done} s to f low room lying inside owned way itself other =
-    let m = bare f in
-    let same : referenceAt (setMark s to m) to ≡ f = reference-same s to f (negsuc 0) (pos 0) (omega arith) in
+    → RightMark g r done (setMark s to (bare f rows)) to
+marked-stored {g} {r} {done} s to f rows low room inOwner inside owned way itself other =
+    let m = bare f rows in
+    let same : referenceAt (setMark s to m) to ≡ f = reference-same s to f (negsuc 0) rows (omega arith) in
     let owner : referenceAt (setMark s to m) to .owner ≡ f .owner = ap (λ (k : Reference). k .owner) same in
     record {
-      unmet = λ z. absurd (not-both (met-stored s to m low room (lying .row .low)) z);
-      lying = λ z. subst (Lying g) (sym same) lying;
+      unmet = λ z. absurd (not-both (met-stored s to m low room (inOwner .row .low)) z);
+      inOwner = λ z. subst (InOwner g) (sym same) inOwner;
       inside = λ z. subst (Inside g (pos to)) (sym same) inside;
       owner = λ z k q. owned k (q ∙ owner);
       way = λ z. subst (λ (o : ℤ). (p : List Edge) × Way g o p (pos to)) (sym owner) way;
@@ -233,7 +233,7 @@ module _ {ns es : List ℤ} {plan : List ℕ} {i : ℕ} {s : List ℤ} (w : Swee
   came-elsewhere n x b = (λ c. ⊎-elim (λ k. k) (λ k. absurd (n (k .0))) (came-next c), came-before)
 
   -- a sweep goes on with the same state where its marks say what has come with the next edge
-  sweeping-marks : ((v : ℕ) → v < length (nodeRows ns) → Marked (graphOf ns es) (rootIn s) (doneOf es plan (i + 1)) s v) → Sweeping ns es plan (i + 1) s
+  sweeping-marks : ((v : ℕ) → v < length (nodeRows ns) → RightMark (graphOf ns es) (rootIn s) (doneOf es plan (i + 1)) s v) → Sweeping ns es plan (i + 1) s
   sweeping-marks m =
       record {
         tables = w .tables;
@@ -258,14 +258,14 @@ module _ {ns es : List ℤ} {plan : List ℕ} {i : ℕ} {s : List ℤ} (w : Swee
 
   -- marks of the nodes that it does not enter do
   marked-apart : {to v : ℕ} → pos to ≡ nextEdge es plan i .to → v < length (nodeRows ns) → v ≢ to
-      → Marked (graphOf ns es) (rootIn s) (doneOf es plan (i + 1)) s v
+      → RightMark (graphOf ns es) (rootIn s) (doneOf es plan (i + 1)) s v
   marked-apart {to} {v} enters h n =
       let apart : nextEdge es plan i .to ≢ pos v = λ q. let z : pos to ≡ pos v = enters ∙ q in let y : v ≡ to = cc in n y in
       marked-further (came-elsewhere apart) (w .marks v h)
 
   -- a sweep goes on where a mark is stored of the node that it enters, which says what has come there
   sweeping-stored : (to : ℕ) (m : Mark) → pos to ≡ nextEdge es plan i .to → pos 0 ≤ℤ m .owner
-      → Marked (graphOf ns es) (rootIn s) (doneOf es plan (i + 1)) (setMark s to m) to → Sweeping ns es plan (i + 1) (setMark s to m)
+      → RightMark (graphOf ns es) (rootIn s) (doneOf es plan (i + 1)) (setMark s to m) to → Sweeping ns es plan (i + 1) (setMark s to m)
   sweeping-stored to m enters owner here =
       let g = graphOf ns es in
       let t = setMark s to m in
@@ -287,17 +287,17 @@ module _ {ns es : List ℤ} {plan : List ℕ} {i : ℕ} {s : List ℤ} (w : Swee
         rootOwn = λ r q. ap (λ (k : Mark). k .owner) (stays r q) ∙ w .rootOwn r (q ∙ root);
         rootListed = λ r q. ap (λ (k : Mark). leZ (pos 0) (k .place)) (stays r q) ∙ w .rootListed r (q ∙ root);
         few = λ e k. rw root (w .few e k);
-        marks = λ v h. subst (λ (z : ℤ). Marked g z (doneOf es plan (i + 1)) t v) (sym root) (go v h low (eqb v to) (eq? v to));
+        marks = λ v h. subst (λ (z : ℤ). RightMark g z (doneOf es plan (i + 1)) t v) (sym root) (go v h low (eqb v to) (eq? v to));
       }
     where
       go : (v : ℕ) → v < length (nodeRows ns) → to < maxNodes → (t : Bool) → Test (v ≡ to) (v ≢ to) t
-          → Marked (graphOf ns es) (rootIn s) (doneOf es plan (i + 1)) (setMark s to m) v
+          → RightMark (graphOf ns es) (rootIn s) (doneOf es plan (i + 1)) (setMark s to m) v
       go v h low true (passed q) = rw q here
       go v h low false (failed n) = marked-elsewhere s to m low (w .room) owner n (marked-apart enters h n)
 
   module _ (from : ℕ) (leaves : pos from ≡ nextEdge es plan i .from) where
     -- the mark of the node that it leaves
-    source : Marked (graphOf ns es) (rootIn s) (doneOf es plan i) s from
+    source : RightMark (graphOf ns es) (rootIn s) (doneOf es plan i) s from
     source = w .marks from (row-there (next-from leaves))
 
     -- what arrives there is settled
@@ -346,7 +346,7 @@ module _ {ns es : List ℤ} {plan : List ℕ} {i : ℕ} {s : List ℤ} (w : Swee
           let empty : T (isNone f) = unless-none f (sym (crossing-met g (nextEdge es plan i) all s from leaves met) ∙ e) in
           sweeping-nowhere (λ x b c. none-brings g (rootIn s) f x b empty (comes-brings x b .0 c))
 
-      module _ (to : ℕ) (f : Reference) (enters : pos to ≡ nextEdge es plan i .to)
+      module _ (to : ℕ) (f : Reference) (rows : ℤ) (enters : pos to ≡ nextEdge es plan i .to)
           (brought : crossing (graphOf ns es) (nextEdge es plan i) (own (graphOf ns es) (nextEdge es plan i .to)) s ≡ some f)
         where
           -- what is brought over it
@@ -362,11 +362,11 @@ module _ {ns es : List ℤ} {plan : List ℕ} {i : ℕ} {s : List ℤ} (w : Swee
           brought-owner = ap (λ (k : Reference). k .owner) (brought-is .0)
 
           -- it lies where that reference does
-          pub brought-lying : Lying (graphOf ns es) f
+          pub brought-lying : InOwner (graphOf ns es) f
           brought-lying =
               let g = graphOf ns es in
               let small = lying-small (w .tables) (own-lying (w .tables) (w .tables .graph .ends (nextEdge es plan i) next-in .1)) in
-              subst (Lying g) (sym (brought-is .0)) (through-lying (bitOffset g (nextEdge es plan i)) small (source .lying met) (brought-is .1))
+              subst (InOwner g) (sym (brought-is .0)) (through-lying (bitOffset g (nextEdge es plan i)) small (source .inOwner met) (brought-is .1))
 
           -- and its bit addresses are some of the node entered
           brought-inside : Inside (graphOf ns es) (pos to) f
@@ -402,22 +402,22 @@ module _ {ns es : List ℤ} {plan : List ℕ} {i : ℕ} {s : List ℤ} (w : Swee
 
           -- the first reference that comes to a node is its mark
           marked-first : isMet s to ≡ false
-              → Marked (graphOf ns es) (rootIn s) (doneOf es plan (i + 1)) (setMark s to (bare f)) to
+              → RightMark (graphOf ns es) (rootIn s) (doneOf es plan (i + 1)) (setMark s to (bare f rows)) to
           marked-first e =
-              let m = bare f in
+              let m = bare f rows in
               let low = row-few (w .tables) (next-to enters) in
               let none = w .marks to (row-there (next-to enters)) .unmet e in
-              marked-stored s to f low (w .room) brought-lying brought-inside
+              marked-stored s to f rows low (w .room) brought-lying brought-inside
               (λ k q. met-stays s to m low (w .room) (brought-lying .row .low) k (source .owner met k (q ∙ brought-owner))) brought-way
               (λ q. absurd (brought-apart q)) (λ n. came-brings (λ x b c. absurd (none x b c)))
 
           -- where the same comes again the mark stays
-          marked-again : isMet s to ≡ true → referenceAt s to ≡ f → Marked (graphOf ns es) (rootIn s) (doneOf es plan (i + 1)) s to
+          marked-again : isMet s to ≡ true → referenceAt s to ≡ f → RightMark (graphOf ns es) (rootIn s) (doneOf es plan (i + 1)) s to
           marked-again e same =
               let old = w .marks to (row-there (next-to enters)) in
               record {
                 unmet = λ z. absurd (not-both e z);
-                lying = old .lying;
+                inOwner = old .inOwner;
                 inside = old .inside;
                 owner = old .owner;
                 way = old .way;
@@ -430,42 +430,42 @@ module _ {ns es : List ℤ} {plan : List ℕ} {i : ℕ} {s : List ℤ} (w : Swee
               }
 
           -- where unlike references meet, the node is its own owner
-          marked-owner : Marked (graphOf ns es) (rootIn s) (doneOf es plan (i + 1)) (setMark s to (bare (own (graphOf ns es) (pos to)))) to
+          marked-owner : RightMark (graphOf ns es) (rootIn s) (doneOf es plan (i + 1)) (setMark s to (bare (own (graphOf ns es) (pos to)) rows)) to
           marked-owner =
               let g = graphOf ns es in
               let all = own g (pos to) in
               let row = next-to enters in
-              let m = bare all in
-              marked-stored s to all (row-few (w .tables) row) (w .room) (own-lying (w .tables) row) (omega (arith, ints))
+              let m = bare all rows in
+              marked-stored s to all rows (row-few (w .tables) row) (w .room) (own-lying (w .tables) row) (omega (arith, ints))
               (λ k q. let z : k ≡ to = cc in rw z (met-stored s to m (row-few (w .tables) row) (w .room) (row .low))) ([], stay) (λ q. refl) (λ n. absurd (n refl))
 
           -- what has come over the edge is met with at the node that it enters
-          pub sweeping-met : Sweeping ns es plan (i + 1) (meeting s to (own (graphOf ns es) (pos to)) f)
+          pub sweeping-met : Sweeping ns es plan (i + 1) (meeting s to (own (graphOf ns es) (pos to)) f rows)
           sweeping-met = go (isMet s to) refl (sameReference (referenceAt s to) f) refl
             where
               again : isMet s to ≡ true → referenceAt s to ≡ f → (v : ℕ) → v < length (nodeRows ns) → (t : Bool) → Test (v ≡ to) (v ≢ to) t
-                  → Marked (graphOf ns es) (rootIn s) (doneOf es plan (i + 1)) s v
+                  → RightMark (graphOf ns es) (rootIn s) (doneOf es plan (i + 1)) s v
               again e q v h true (passed z) = rw z (marked-again e q)
               again e q v h false (failed n) = marked-apart enters h n
 
               go : (a : Bool) → isMet s to ≡ a → (c : Bool) → sameReference (referenceAt s to) f ≡ c
                   → Sweeping ns es plan (i + 1)
-                  (cond a (cond c s (setMark s to (bare (own (graphOf ns es) (pos to))))) (setMark s to (bare f)))
+                  (cond a (cond c s (setMark s to (bare (own (graphOf ns es) (pos to)) rows))) (setMark s to (bare f rows)))
               go true e true q =
                   let same = same-reference-is (referenceAt s to) f .0 (T-true (sameReference (referenceAt s to) f) q) in
                   sweeping-marks (λ v h. again e same v h (eqb v to) (eq? v to))
-              go true e false q = sweeping-stored to (bare (own (graphOf ns es) (pos to))) enters (next-to enters .low) marked-owner
-              go false e c q = sweeping-stored to (bare f) enters (brought-lying .row .low) (marked-first e)
+              go true e false q = sweeping-stored to (bare (own (graphOf ns es) (pos to)) rows) enters (next-to enters .low) marked-owner
+              go false e c q = sweeping-stored to (bare f rows) enters (brought-lying .row .low) (marked-first e)
 
 -- the root stays the same
-pub meeting-root : (s : List ℤ) (to : ℕ) (all f : Reference) → to < maxNodes → rootIn (meeting s to all f) ≡ rootIn s
-meeting-root s to all f low = go (isMet s to) (sameReference (referenceAt s to) f)
+pub meeting-root : (s : List ℤ) (to : ℕ) (all f : Reference) (rows : ℤ) → to < maxNodes → rootIn (meeting s to all f rows) ≡ rootIn s
+meeting-root s to all f rows low = go (isMet s to) (sameReference (referenceAt s to) f)
   where
     go : (a c : Bool)
-        → rootIn (cond a (cond c s (setMark s to (bare all))) (setMark s to (bare f))) ≡ rootIn s
+        → rootIn (cond a (cond c s (setMark s to (bare all rows))) (setMark s to (bare f rows))) ≡ rootIn s
     go true true = refl
-    go true false = mark-root s to (bare all) low
-    go false c = mark-root s to (bare f) low
+    go true false = mark-root s to (bare all rows) low
+    go false c = mark-root s to (bare f rows) low
 
 -- ---- the next edge as the code reads it
 
@@ -493,9 +493,9 @@ module _ {ns es : List ℤ} {plan : List ℕ} {i : ℕ} {s : List ℤ} (w : Swee
           record {
             tables = w .tables;
             there = next-readable .0;
-            small = subst Small (sym all) (lying-small (w .tables) (own-lying (w .tables) (next-to w there enters)));
+            small = subst SmallReference (sym all) (lying-small (w .tables) (own-lying (w .tables) (next-to w there enters)));
             marks = omega (arith, w .room);
-            source = λ u q m. lying-small (w .tables) (w .marks u (row-there w there (next-from w there (from-read q))) .lying m);
+            source = λ u q m. lying-small (w .tables) (w .marks u (row-there w there (next-from w there (from-read q))) .inOwner m);
           }
 
       -- what the code says comes over it
@@ -669,10 +669,11 @@ module _ {ns es : List ℤ} {plan : List ℕ} {root : ℕ} {old spare : List ℤ
               let e : q ≡ ofDisplacement (rootRow all) = List·Memᴰ·eq-of-singleton (subst (λ (l : List Record). q ∈ l) records m) in
               rw e (own-lying (a .tables) (a .start .row) .full);
           few = omega (arith, count, count-leaf g (pos root));
+          ascending = subst (λ (l : List Record). Ascending (map byDisplacement l)) (sym records) (more (λ y m. absurd (List·Memᴰ·not-nil m)) none);
         }
 
     -- its mark is right before any edge is passed
-    marked-root : Marked (graphOf ns es) (pos root) (doneOf es plan 0) (begun (own (graphOf ns es) (pos root)) root s) root
+    marked-root : RightMark (graphOf ns es) (pos root) (doneOf es plan 0) (begun (own (graphOf ns es) (pos root)) root s) root
     marked-root =
         let g = graphOf ns es in
         let all = own g (pos root) in
@@ -680,7 +681,7 @@ module _ {ns es : List ℤ} {plan : List ℕ} {root : ℕ} {old spare : List ℤ
         let owner : referenceAt (begun all root s) root .owner ≡ pos root = ap (λ (f : Reference). f .owner) root-reference in
         record {
           unmet = λ z. absurd (not-both root-met z);
-          lying = λ z. subst (Lying g) (sym same) (own-lying (a .tables) (a .start .row));
+          inOwner = λ z. subst (InOwner g) (sym same) (own-lying (a .tables) (a .start .row));
           inside = λ z. subst (Inside g (pos root)) (sym same) (omega (arith, ints));
           owner = λ z k q. let e : pos k ≡ pos root = q ∙ owner in let h : k ≡ root = cc in rw h root-met;
           way = λ z. subst (λ (o : ℤ). (p : List Edge) × Way g o p (pos root)) (sym owner) ([], stay);
@@ -691,7 +692,7 @@ module _ {ns es : List ℤ} {plan : List ℕ} {root : ℕ} {old spare : List ℤ
 
     -- so are the others: nothing has come
     marked-blank : (v : ℕ) → v < length (nodeRows ns) → v ≢ root
-        → Marked (graphOf ns es) (pos root) (doneOf es plan 0) (begun (own (graphOf ns es) (pos root)) root s) v
+        → RightMark (graphOf ns es) (pos root) (doneOf es plan 0) (begun (own (graphOf ns es) (pos root)) root s) v
     marked-blank v h n =
         let all = own (graphOf ns es) (pos root) in
         let m = marked all (pos arenaRow) (pos 1) in
@@ -699,7 +700,7 @@ module _ {ns es : List ℤ} {plan : List ℕ} {root : ℕ} {old spare : List ℤ
         ap (λ (q : Mark). leZ (pos 0) (q .owner)) (begun-mark all root s root-low room v (rows-few (a .tables) h)) ∙ met-other s root v m n ∙ blank v h in
         record {
           unmet = λ z x b c. List·Memᴰ·not-nil (c .among);
-          lying = λ z. absurd (not-both z none);
+          inOwner = λ z. absurd (not-both z none);
           inside = λ z. absurd (not-both z none);
           owner = λ z. absurd (not-both z none);
           way = λ z. absurd (not-both z none);
@@ -729,10 +730,10 @@ module _ {ns es : List ℤ} {plan : List ℕ} {root : ℕ} {old spare : List ℤ
           rootOwn = λ r q. rw (is-root r q) (ap (λ (f : Reference). f .owner) root-reference);
           rootListed = λ r q. rw (is-root r q) (ap (λ (k : Mark). leZ (pos 0) (k .place)) root-mark);
           few = λ e k. rw start-root (a .few e k);
-          marks = λ v h. subst (λ (z : ℤ). Marked g z (doneOf es plan 0) t v) (sym start-root) (go v h (eqb v root) (eq? v root));
+          marks = λ v h. subst (λ (z : ℤ). RightMark g z (doneOf es plan 0) t v) (sym start-root) (go v h (eqb v root) (eq? v root));
         }
       where
         go : (v : ℕ) → v < length (nodeRows ns) → (t : Bool) → Test (v ≡ root) (v ≢ root) t
-            → Marked (graphOf ns es) (pos root) (doneOf es plan 0) (begun (own (graphOf ns es) (pos root)) root s) v
+            → RightMark (graphOf ns es) (pos root) (doneOf es plan 0) (begun (own (graphOf ns es) (pos root)) root s) v
         go v h true (passed q) = rw q marked-root
         go v h false (failed n) = marked-blank v h n

@@ -1,7 +1,7 @@
 -- A state with the references of another is swept as far, whichever lists it keeps.
 use mathlib.Core.Path.{_≡_, sym, ap, _∙_, subst}
 use mathlib.Core.Bool.{true}
-use mathlib.Core.List.{List}
+use mathlib.Core.List.{List, map}
 use mathlib.Core.Logic.{_↔_}
 use Prim.Native.Nat.{ℕ, _+_, _≤_, _<_}
 use native.Mathlib.Omega.{arith}
@@ -17,9 +17,11 @@ use Rattle.model.specs.Walk.{Walk}
 use Rattle.model.specs.Paths.{Root, Way}
 use Rattle.model.specs.Bitmapping.{Record}
 use Rattle.reach.specs.Counting.{pathCount}
-use Rattle.references.specs.References.{Reference, Brings, Lying, recordsAt}
+use Rattle.sorting.specs.Rows.{Ascending}
+use Rattle.normalisation.specs.Merging.{byDisplacement}
+use Rattle.references.specs.References.{Reference, Brings, InOwner, recordsAt}
 use Rattle.arrivals.specs.State.{markNumber, isMet, referenceAt, isListed, placeOf, countOf, usedAt, arenaRow, keptRows, usedIn, rootIn}
-use Rattle.arrivals.specs.Sweep.{HasSome, doneOf, Came, Listed, Marked, Sweeping}
+use Rattle.arrivals.specs.Sweep.{HasSome, doneOf, Came, Listed, RightMark, Sweeping}
 
 -- ---- node rows
 
@@ -45,6 +47,7 @@ listed-moved {g} {r} {s} {t} {v} place number more same h =
       exact = λ x b. subst (λ (l : List Record). HasSome l x b ↔ Walk g r x (pos v) b) (sym records) (h .exact x b);
       full = λ q k. h .full q (subst (λ (l : List Record). q ∈ l) records k);
       few = omega (arith, count, h .few);
+      ascending = subst (λ (l : List Record). Ascending (map byDisplacement l)) (sym records) (h .ascending);
     }
   where
     count : countOf t v ≡ countOf s v
@@ -70,8 +73,8 @@ module _ {ns es s t : List ℤ} (c : Relisted ns es s t) where
   relisted-met v h = ap (λ (f : Reference). leZ (pos 0) (f .owner)) (c .references v h)
 
   -- the mark of a node stays right
-  relisted-marked : {done : List Edge} (v : ℕ) → v < length (nodeRows ns) → Marked (graphOf ns es) (rootIn s) done s v
-      → Marked (graphOf ns es) (rootIn s) done t v
+  relisted-marked : {done : List Edge} (v : ℕ) → v < length (nodeRows ns) → RightMark (graphOf ns es) (rootIn s) done s v
+      → RightMark (graphOf ns es) (rootIn s) done t v
   relisted-marked {done} v h m =
       let g = graphOf ns es in
       let same : referenceAt s v ≡ referenceAt t v = sym (c .references v h) in
@@ -79,12 +82,12 @@ module _ {ns es s t : List ℤ} (c : Relisted ns es s t) where
       let met : isMet t v ≡ true → isMet s v ≡ true = λ q. sym (relisted-met v h) ∙ q in
       record {
         unmet = λ q. m .unmet (sym (relisted-met v h) ∙ q);
-        lying = λ q. subst (λ (f : Reference). Lying g f) same (m .lying (met q));
+        inOwner = λ q. subst (λ (f : Reference). InOwner g f) same (m .inOwner (met q));
         inside = λ q.
             subst (λ (f : Reference). (firstBit (node g (pos v)) ≤ℤ f .low) × (f .high ≤ℤ lastBit (node g (pos v)))) same (m .inside (met q));
         owner = λ q k p.
             let at : pos k ≡ referenceAt s v .owner = p ∙ owners in
-            relisted-met k (row-number ns es (subst (NodeRow g) (sym at) (m .lying (met q) .row))) ∙ m .owner (met q) k at;
+            relisted-met k (row-number ns es (subst (NodeRow g) (sym at) (m .inOwner (met q) .row))) ∙ m .owner (met q) k at;
         way = λ q. subst (λ (f : Reference). (p : List Edge) × Way g (f .owner) p (pos v)) same (m .way (met q));
         itself = λ q p. c .references v h ∙ m .itself (met q) (sym owners ∙ p);
         other = λ q n x b. subst (λ (f : Reference). Came g (rootIn s) done (pos v) x b ↔ Brings g (rootIn s) f x b) same (m .other (met q) (λ p. n (owners ∙ p)) x b);
@@ -110,5 +113,5 @@ module _ {ns es s t : List ℤ} (c : Relisted ns es s t) where
         rootOwn = λ r p. ap (λ (f : Reference). f .owner) (c .references r (number r (start r p))) ∙ w .rootOwn r (start r p);
         rootListed = λ r p. c .rootListed r (start r p);
         few = λ e m. subst (λ (r : ℤ). pathCount g r (e .to) ≤ maxPaths) root (w .few e m);
-        marks = λ v h. subst (λ (r : ℤ). Marked g r (doneOf es plan i) t v) root (relisted-marked v h (w .marks v h));
+        marks = λ v h. subst (λ (r : ℤ). RightMark g r (doneOf es plan i) t v) root (relisted-marked v h (w .marks v h));
       }

@@ -1,31 +1,30 @@
 -- Of a node all of whose entering edges are passed: what arrives there is what its mark brings.
 use mathlib.Core.Path.{_≡_, refl, sym, ap, _∙_, subst}
 use mathlib.Core.Bool.{Bool, true, false}
-use mathlib.Core.List.{List, [], _∷_, _++_, map, List·Memᴰ·head, List·Memᴰ·tail, List·Memᴰ·cases-cons, List·Memᴰ·append-cases, List·Memᴰ·not-nil, List·Memᴰ·eq-of-singleton, Memᴰ·append-left, Memᴰ·append-right, Memᴰ·cast}
+use mathlib.Core.List.{List, [], _∷_, _++_, List·Memᴰ·head, List·Memᴰ·tail, List·Memᴰ·cases-cons, List·Memᴰ·append-cases, List·Memᴰ·not-nil, List·Memᴰ·eq-of-singleton, Memᴰ·append-left, Memᴰ·append-right}
 use mathlib.Core.Logic.{_↔_, _⊎_, _≢_, inl, inr, ⊎-elim}
-use Prim.Native.Nat.{ℕ, zero, suc, _+_, _*_, _≤_, _<_}
+use Prim.Native.Nat.{ℕ, zero, suc, _+_, _≤_, _<_}
 use native.Mathlib.Omega.{arith}
 use lib.Dec.{T, ltb}
-use lib.IntN.{ℤ, pos, _+ℤ_}
+use lib.IntN.{ℤ, pos}
 use lib.ListN.{length, getD, take, drop, length-map, take-append-drop}
 use lib.Seq.{take-suc, take-all, take-take, length-take-le, getD-take}
 use Rattle.integers.specs.Integers.{eqZ}
-use Rattle.integers.proofs.Linear.{ints, sum, diff}
 use Rattle.integers.proofs.Tests.{Test, passed, failed, eqZ?, ltb?}
 use Rattle.lists.specs.Lists.{_∈_}
 use Rattle.model.specs.Rows.{Edge, nodeRows, edgeRows}
-use Rattle.model.specs.Graph.{Graph, graphOf, node, bitOffset}
+use Rattle.model.specs.Graph.{graphOf}
 use Rattle.model.specs.Walk.{Walk}
 use Rattle.model.specs.Paths.{Way, stay, over}
-use Rattle.model.proofs.Walks.{walk-end}
 use Rattle.reach.proofs.Values.{map-at}
 use Rattle.entering.proofs.Walks.{walk-entering}
 use Rattle.tables.specs.Tables.{edgeAt}
-use Rattle.forward.specs.Forward.{Forward, passedCount, passedOf, planRoom}
-use Rattle.references.specs.References.{Reference, own, Brings}
+use Rattle.forward.specs.Forward.{Forward, passedCount, passedOf}
+use Rattle.references.specs.References.{Reference, Brings}
 use Rattle.references.proofs.Bringing.{own-brings}
+use Rattle.entering.specs.Entering.{Covered}
 use Rattle.arrivals.specs.State.{isMet, referenceAt, rootIn}
-use Rattle.arrivals.specs.Sweep.{Covered, doneOf, Came, Marked, Sweeping}
+use Rattle.arrivals.specs.Sweep.{doneOf, Came, RightMark, Sweeping}
 
 -- a test does not pass and fail
 pub not-both : {t : Bool} → t ≡ true → t ≡ false → ⊥
@@ -141,7 +140,7 @@ module _ {ns es : List ℤ} {plan : List ℕ} {i : ℕ} {s : List ℤ} (w : Swee
       → Walk (graphOf ns es) (rootIn s) x (pos v) b ↔ ((isMet s v ≡ true) × Brings (graphOf ns es) (rootIn s) (referenceAt s v) x b)
   settled v h c x b = by-met (isMet s v) refl
     where
-      mark : Marked (graphOf ns es) (rootIn s) (doneOf es plan i) s v
+      mark : RightMark (graphOf ns es) (rootIn s) (doneOf es plan i) s v
       mark = w .marks v h
 
       Here : Type 0

@@ -1,6 +1,6 @@
 -- What the steps of a sweep ask and leave. Assumes nothing.
 use mathlib.Core.Path.{_≡_}
-use mathlib.Core.Bool.{Bool, true, false, cond}
+use mathlib.Core.Bool.{true, false, cond}
 use mathlib.Core.List.{List, [], _∷_, _++_}
 use mathlib.Core.Option.{Option, none}
 use Prim.Native.Nat.{ℕ, _+_, _*_, _≤_, _<_, _^_}
@@ -15,20 +15,21 @@ use Rattle.tables.specs.Tables.{edgeAt}
 use Rattle.reach.specs.Counting.{pathCount}
 use Rattle.steps.specs.Steps.{GoodRow}
 use Rattle.sorting.specs.Rows.{numbersOf}
+use Rattle.entering.specs.Entering.{Covered}
 use Rattle.forward.specs.Forward.{passedCount}
-use Rattle.references.specs.References.{Reference, through, unlessNone, Small, sameReference}
-use Rattle.arrivals.specs.State.{markWidth, usedAt, rootAt, arenaRow, keptRows, stateRoom, setMark, marked, isMet, referenceAt, rootIn}
-use Rattle.arrivals.specs.Sweep.{Covered, doneOf, Sweeping}
+use Rattle.references.specs.References.{Reference, through, unlessNone, SmallReference, sameReference}
+use Rattle.arrivals.specs.State.{markWidth, rowWidth, usedAt, rootAt, arenaRow, keptRows, stateRoom, setMark, marked, isMet, referenceAt, rootIn}
+use Rattle.arrivals.specs.Sweep.{doneOf, Sweeping}
 
 -- ---- over an edge
 
--- an edge row of taken tables and a reference whose bit addresses are small, as are those of the node that the edge leaves, where something has arrived
+-- an edge row of taken tables and a reference whose bit addresses are small, as are those of the reference of the node that the edge leaves, where something has arrived
 pub record Crossable (ns es : List ℤ) (e : ℕ) (f : Reference) (s : List ℤ) : Type 0 where
   pub tables : TakenTables ns es
   pub there : edgeWidth * e + edgeWidth ≤ length es
-  pub small : Small f
+  pub small : SmallReference f
   pub marks : markWidth * maxNodes ≤ length s
-  pub source : (u : ℕ) → pos u ≡ edgeAt es e .from → isMet s u ≡ true → Small (referenceAt s u)
+  pub source : (u : ℕ) → pos u ≡ edgeAt es e .from → isMet s u ≡ true → SmallReference (referenceAt s u)
 
 -- what comes over an edge of what f takes of the node entered: nothing where nothing has arrived at the node left
 abbrev pub crossing : Graph → Edge → Reference → List ℤ → Option Reference
@@ -38,13 +39,12 @@ crossing g e f s =
 -- ---- marks
 
 -- the state once reference f has come to node v, where `all` is the reference to all that arrives at v: kept where v had none or the same, else v is its own
--- owner, without a list
-abbrev pub meeting : List ℤ → ℕ → Reference → Reference → List ℤ
-meeting s v all f =
-    cond (isMet s v) (cond (sameReference (referenceAt s v) f) s (setMark s v (marked all (negsuc 0) (pos 0))))
-    (setMark s v (marked f (negsuc 0) (pos 0)))
+-- owner, not listed yet, with a list of so many rows at most, if its mark tells true
+abbrev pub meeting : List ℤ → ℕ → Reference → Reference → ℤ → List ℤ
+meeting s v all f rows =
+    cond (isMet s v) (cond (sameReference (referenceAt s v) f) s (setMark s v (marked all (negsuc 0) rows))) (setMark s v (marked f (negsuc 0) rows))
 
--- k rows from row `used` on may become the list of node v
+-- k rows from row `used` on may become the list of node v: the number of the row behind them is one of 64 bits
 pub record Storable (ns : List ℤ) (v used k : ℕ) (s : List ℤ) : Type 0 where
   pub good : GoodRow ns v
   pub row : v < maxNodes
@@ -65,10 +65,10 @@ pub record Ownable (ns es : List ℤ) (plan : List ℕ) (v : ℕ) (s spare : Lis
   pub met : isMet s v ≡ true
   pub covered : Covered es (doneOf es plan passed) (pos v)
   pub few : pathCount (graphOf ns es) (rootIn s) (pos v) ≤ maxPaths
-  pub spareRoom : 3 * maxPaths ≤ length spare
+  pub spareRoom : rowWidth * maxPaths ≤ length spare
 
--- a list of v may have been made: v is still marked, and the state is what it was after as many edges
-pub record Kept (ns es : List ℤ) (plan : List ℕ) (v : ℕ) (old new : List ℤ) : Type 0 where
+-- v may have been given a list: it is marked, the root is the same, and the state is swept over as many edges
+pub record ListMade (ns es : List ℤ) (plan : List ℕ) (v : ℕ) (old new : List ℤ) : Type 0 where
   pub met : isMet new v ≡ true
   pub root : rootIn new ≡ rootIn old
   pub sweeping : (i : ℕ) → Sweeping ns es plan i old → Sweeping ns es plan i new
@@ -77,7 +77,7 @@ pub record Kept (ns es : List ℤ) (plan : List ℕ) (v : ℕ) (old new : List �
 pub record Passable (ns es : List ℤ) (plan : List ℕ) (i : ℕ) (s spare : List ℤ) : Type 0 where
   pub sweeping : Sweeping ns es plan i s
   pub there : i < passedCount plan
-  pub spareRoom : 3 * maxPaths ≤ length spare
+  pub spareRoom : rowWidth * maxPaths ≤ length spare
 
 -- nothing has arrived at any of the first n nodes
 abbrev pub Blank : ℕ → List ℤ → Type 0
@@ -87,5 +87,5 @@ Blank n s = (v : ℕ) → v < n → isMet s v ≡ false
 abbrev pub begun : Reference → ℕ → List ℤ → List ℤ
 begun all root s =
     let t = setMark s root (marked all (pos arenaRow) (pos 1)) in
-    set (set (take (3 * arenaRow) t ++ (numbersOf (record { first = pos 0; second = all .low; third = all .high } ∷ []) ++ drop (3 * arenaRow + 3) t))
+    set (set (take (rowWidth * arenaRow) t ++ (numbersOf (record { first = pos 0; second = all .low; third = all .high } ∷ []) ++ drop (rowWidth * arenaRow + rowWidth) t))
     usedAt (pos (arenaRow + 1))) rootAt (pos root)

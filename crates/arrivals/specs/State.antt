@@ -1,16 +1,20 @@
 -- The work space of a sweep, one slice of numbers: a mark for each node, and the arena, in which the lists of owners are kept. Assumes nothing.
+use mathlib.Core.Path.{_≡_}
 use mathlib.Core.Bool.{Bool}
 use mathlib.Core.List.{List}
-use Prim.Native.Nat.{ℕ, _+_, _*_}
+use Prim.Native.Nat.{ℕ, _+_, _*_, _/_, _<_}
 use lib.IntN.{ℤ, pos, natAbs}
 use lib.Signed.{leZ}
-use lib.ListN.{getD, set}
+use lib.ListN.{length, getD, set}
 use Rattle.model.specs.Limits.{maxNodes, maxPaths}
 use Rattle.references.specs.References.{Reference}
 
--- numbers of a mark
+-- numbers of a mark, and of a row
 abbrev pub markWidth : ℕ
 markWidth = 6
+
+abbrev pub rowWidth : ℕ
+rowWidth = 3
 
 -- behind the marks: from which row on the arena is free, and the root
 abbrev pub usedAt : ℕ
@@ -19,19 +23,18 @@ usedAt = markWidth * maxNodes
 abbrev pub rootAt : ℕ
 rootAt = markWidth * maxNodes + 1
 
--- rows are counted from the front of the slice, three numbers a row: the first of the arena, and how many are kept at most. Behind these there is room for
--- the rows of one list
+-- rows are counted from the front of the slice: the first of the arena, and how many are kept at most. Behind these there is room for the rows of one list
 abbrev pub arenaRow : ℕ
-arenaRow = 4001
+arenaRow = rootAt / rowWidth + 1
 
 abbrev pub keptRows : ℕ
-keptRows = 2048
+keptRows = 2560
 
 abbrev pub stateRoom : ℕ
-stateRoom = 3 * (arenaRow + keptRows + maxPaths)
+stateRoom = rowWidth * (arenaRow + keptRows + maxPaths)
 
 -- the mark of a node: its reference, and the first row and the number of records of its list. The owner is −1 where nothing has arrived, and the row
--- below 0 where no list is kept
+-- below 0 where no list is kept; the number is then a guess at how many records it would have
 pub record Mark : Type 0 where
   pub owner : ℤ
   pub delta : ℤ
@@ -92,3 +95,8 @@ usedIn s = natAbs (getD s usedAt (pos 0))
 -- the root
 abbrev pub rootIn : List ℤ → ℤ
 rootIn s = getD s rootAt (pos 0)
+
+-- two states of one length that have the same numbers in front of row n
+pub record Agree (n : ℕ) (s t : List ℤ) : Type 0 where
+  pub long : length t ≡ length s
+  pub same : (j : ℕ) → j < rowWidth * n → getD t j (pos 0) ≡ getD s j (pos 0)

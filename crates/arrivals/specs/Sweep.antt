@@ -8,29 +8,28 @@ use lib.IntN.{ℤ, pos, _+ℤ_}
 use lib.Signed.{_≤ℤ_}
 use lib.ListN.{length, getD, take}
 use Rattle.lists.specs.Lists.{_∈_}
-use Rattle.model.specs.Limits.{maxPaths}
-use Rattle.model.specs.Rows.{Edge, nodeRows, edgeRows}
+use Rattle.model.specs.Limits.{maxChain, maxPaths}
+use Rattle.model.specs.Rows.{Edge, nodeRows}
 use Rattle.model.specs.Graph.{Graph, graphOf, node, firstBit, lastBit, bitOffset}
 use Rattle.model.specs.Walk.{StandsOn, Walk}
 use Rattle.model.specs.Paths.{Root, Leaf, Way}
 use Rattle.model.specs.Bitmapping.{Record, Has}
-use Rattle.model.specs.Runs.{listOf}
+use Rattle.model.specs.Runs.{normal, listOf}
 use Rattle.model.specs.Taken.{TakenTables}
 use Rattle.reach.specs.Counting.{pathCount}
 use Rattle.sorting.specs.declared.Row.{Row}
-use Rattle.normalisation.specs.Merging.{ofDisplacement, sortedByDisplacement}
+use Rattle.sorting.specs.Rows.{Ascending}
+use Rattle.normalisation.specs.Merging.{byDisplacement, ofDisplacement, sortedByDisplacement}
 use Rattle.listing.specs.Listing.{Appended}
+use Rattle.entering.specs.Entering.{Covered}
 use Rattle.forward.specs.Forward.{passedCount, passedOf, Planned}
-use Rattle.references.specs.References.{Reference, own, Brings, Lying, recordsAt}
-use Rattle.arrivals.specs.State.{stateRoom, usedAt, arenaRow, keptRows, isMet, referenceAt, isListed, placeOf, countOf, usedIn, rootIn, markNumber}
+use Rattle.references.specs.References.{Reference, own, Brings, InOwner, recordsAt}
+use Rattle.arrivals.specs.declared.Placed.{Placed}
+use Rattle.arrivals.specs.State.{rowWidth, stateRoom, usedAt, arenaRow, keptRows, isMet, referenceAt, isListed, placeOf, countOf, usedIn, rootIn, markNumber, Agree}
 
 -- some record of the list has x with y
 abbrev pub HasSome : List Record → ℤ → ℤ → Type 0
 HasSome l x y = (s : Record) × (s ∈ l) × Has s x y
-
--- every edge that enters v is among these
-abbrev pub Covered : List ℤ → List Edge → ℤ → Type 0
-Covered es done v = (f : Edge) → f ∈ edgeRows es → f .to ≡ v → f ∈ done
 
 -- the first i edges of a plan
 abbrev pub doneOf : List ℤ → List ℕ → ℕ → List Edge
@@ -44,7 +43,8 @@ pub record Came (g : Graph) (r : ℤ) (done : List Edge) (v x b : ℤ) : Type 0 
   pub enters : over .to ≡ v
   pub walk : Walk g r x (over .from) (b +ℤ bitOffset g over)
 
--- the list kept of v lies in the used part of the arena, has exactly what arrives at v, no empty record, and no more records than paths lead to v
+-- the list kept of v lies in the used part of the arena, has exactly what arrives at v, no empty record, and no more records than paths lead to v, and is
+-- sorted by displacement
 pub record Listed (g : Graph) (r : ℤ) (s : List ℤ) (v : ℕ) : Type 0 where
   pub counted : pos (countOf s v) ≡ markNumber s v 5
   pub behind : arenaRow ≤ placeOf s v
@@ -52,12 +52,13 @@ pub record Listed (g : Graph) (r : ℤ) (s : List ℤ) (v : ℕ) : Type 0 where
   pub exact : (x b : ℤ) → HasSome (recordsAt s (placeOf s v) (countOf s v)) x b ↔ Walk g r x (pos v) b
   pub full : (q : Record) → q ∈ recordsAt s (placeOf s v) (countOf s v) → q .first ≤ℤ q .last
   pub few : countOf s v ≤ pathCount g r (pos v)
+  pub ascending : Ascending (map byDisplacement (recordsAt s (placeOf s v) (countOf s v)))
 
 -- the mark of v once these edges are passed: where nothing is marked nothing has come; else the owner is marked and leads to v, the reference brings exactly
 -- what has come, or is all that arrives at v where v is its own owner, its bit addresses are some of v's, and a list kept of v is the list of what arrives
-pub record Marked (g : Graph) (r : ℤ) (done : List Edge) (s : List ℤ) (v : ℕ) : Type 0 where
+pub record RightMark (g : Graph) (r : ℤ) (done : List Edge) (s : List ℤ) (v : ℕ) : Type 0 where
   pub unmet : isMet s v ≡ false → (x b : ℤ) → Came g r done (pos v) x b → ⊥
-  pub lying : isMet s v ≡ true → Lying g (referenceAt s v)
+  pub inOwner : isMet s v ≡ true → InOwner g (referenceAt s v)
   pub inside : isMet s v ≡ true → (firstBit (node g (pos v)) ≤ℤ referenceAt s v .low) × (referenceAt s v .high ≤ℤ lastBit (node g (pos v)))
   pub owner : isMet s v ≡ true → (k : ℕ) → pos k ≡ referenceAt s v .owner → isMet s k ≡ true
   pub way : isMet s v ≡ true → (p : List Edge) × Way g (referenceAt s v .owner) p (pos v)
@@ -79,21 +80,21 @@ pub record Sweeping (ns es : List ℤ) (plan : List ℕ) (i : ℕ) (s : List ℤ
   pub rootOwn : (r : ℕ) → pos r ≡ rootIn s → referenceAt s r .owner ≡ pos r
   pub rootListed : (r : ℕ) → pos r ≡ rootIn s → isListed s r ≡ true
   pub few : (e : Edge) → e ∈ passedOf es plan → pathCount (graphOf ns es) (rootIn s) (e .to) ≤ maxPaths
-  pub marks : (v : ℕ) → v < length (nodeRows ns) → Marked (graphOf ns es) (rootIn s) (doneOf es plan i) s v
+  pub marks : (v : ℕ) → v < length (nodeRows ns) → RightMark (graphOf ns es) (rootIn s) (doneOf es plan i) s v
 
 -- ---- gathering the rows of a reference
 
--- what gathering starts from: some edges of the plan passed, all those among them that enter the owner, whose mark is made; no way from the root to the owner
+-- what gathering starts from: some edges of the plan passed, among them all edges that enter the owner, which is marked; no way from the root to the owner
 -- longer than `left`; and behind the used part of the arena, from row n on, room for a row a path
 pub record Gatherable (ns es : List ℤ) (plan : List ℕ) (f : Reference) (left : ℕ) (s : List ℤ) (n : ℕ) : Type 0 where
   pub passed : ℕ
   pub sweeping : Sweeping ns es plan passed s
-  pub lying : Lying (graphOf ns es) f
+  pub inOwner : InOwner (graphOf ns es) f
   pub met : (k : ℕ) → pos k ≡ f .owner → isMet s k ≡ true
   pub covered : Covered es (doneOf es plan passed) (f .owner)
   pub deep : (p : List Edge) → Way (graphOf ns es) (rootIn s) p (f .owner) → length p ≤ left
   pub behind : usedIn s ≤ n
-  pub room : 3 * (n + pathCount (graphOf ns es) (rootIn s) (f .owner)) ≤ length s
+  pub room : rowWidth * (n + pathCount (graphOf ns es) (rootIn s) (f .owner)) ≤ length s
 
 -- rows behind the first n: their records have exactly what the reference brings, none is empty, and they are no more than paths lead to the owner
 pub record Gathered (g : Graph) (r : ℤ) (f : Reference) (old new : List ℤ) (n m : ℕ) : Type 0 where
@@ -102,6 +103,24 @@ pub record Gathered (g : Graph) (r : ℤ) (f : Reference) (old new : List ℤ) (
   pub exact : (x b : ℤ) → HasSome (map ofDisplacement rows) x b ↔ Brings g r f x b
   pub full : (q : Record) → q ∈ map ofDisplacement rows → q .first ≤ℤ q .last
   pub few : length rows ≤ pathCount g r (f .owner)
+
+-- what the list of a reference is made from: its rows can be gathered behind the used part of the arena, there are at most 1,024, and room to sort them
+pub record Makeable (ns es : List ℤ) (plan : List ℕ) (f : Reference) (s spare : List ℤ) : Type 0 where
+  pub gatherable : Gatherable ns es plan f maxChain s (usedIn s)
+  pub few : pathCount (graphOf ns es) (rootIn s) (f .owner) ≤ maxPaths
+  pub spareRoom : rowWidth * maxPaths ≤ length spare
+
+-- behind the used part of the arena stands the normal list, as rows by displacement, sorted, of records that have exactly what the reference brings, none
+-- empty, and no more than paths lead to the owner
+pub record Made (g : Graph) (r : ℤ) (f : Reference) (old new : List ℤ) (p : Placed) : Type 0 where
+  pub at : p .row ≡ usedIn old
+  pub agrees : Agree (p .row) old new
+  pub made : List Record
+  pub exact : (x b : ℤ) → HasSome made x b ↔ Brings g r f x b
+  pub full : (q : Record) → q ∈ made → q .first ≤ℤ q .last
+  pub few : length made ≤ pathCount g r (f .owner)
+  pub count : p .count ≡ length (normal made)
+  pub records : recordsAt new (p .row) (p .count) ≡ sortedByDisplacement (normal made)
 
 -- ---- the sweep and its lists
 
@@ -112,25 +131,25 @@ pub record Sweepable (ns es : List ℤ) (plan : List ℕ) (root : ℕ) (s spare 
   pub start : Root (graphOf ns es) (pos root)
   pub few : (e : Edge) → e ∈ passedOf es plan → pathCount (graphOf ns es) (pos root) (e .to) ≤ maxPaths
   pub room : length s ≡ stateRoom
-  pub spareRoom : 3 * maxPaths ≤ length spare
+  pub spareRoom : rowWidth * maxPaths ≤ length spare
 
 -- the state after the sweep from a root
 pub record Swept (ns es : List ℤ) (plan : List ℕ) (root : ℕ) (s : List ℤ) : Type 0 where
   pub from : rootIn s ≡ pos root
   pub state : Sweeping ns es plan (passedCount plan) s
 
--- what the list of a leaf starts from: a swept state, a leaf all of whose entering edges the plan has, at most 1,024 paths to it, and room
+-- what the list of a leaf starts from: a state swept from a root, a leaf all of whose entering edges the plan has, at most 1,024 paths to it, and room
 pub record Askable (ns es : List ℤ) (plan : List ℕ) (leaf : ℕ) (s spare : List ℤ) : Type 0 where
-  pub state : Sweeping ns es plan (passedCount plan) s
+  pub root : ℕ
+  pub state : Swept ns es plan root s
   pub block : Leaf (graphOf ns es) (pos leaf)
   pub covered : Covered es (passedOf es plan) (pos leaf)
-  pub few : pathCount (graphOf ns es) (rootIn s) (pos leaf) ≤ maxPaths
-  pub spareRoom : 3 * maxPaths ≤ length spare
+  pub few : pathCount (graphOf ns es) (pos root) (pos leaf) ≤ maxPaths
+  pub spareRoom : rowWidth * maxPaths ≤ length spare
 
--- the bitmapping list of the root and a leaf stands behind the used part of the arena, as rows by displacement, sorted: m records. The state is swept from
--- the same root as before
-pub record Answered (ns es : List ℤ) (plan : List ℕ) (leaf : ℕ) (old new : List ℤ) (m : ℕ) : Type 0 where
-  pub root : rootIn new ≡ rootIn old
-  pub state : Sweeping ns es plan (passedCount plan) new
-  pub count : m ≡ length (listOf (graphOf ns es) (rootIn old) (pos leaf))
-  pub rows : recordsAt new (usedIn new) m ≡ sortedByDisplacement (listOf (graphOf ns es) (rootIn old) (pos leaf))
+-- the bitmapping list of the root and a leaf stands in the state, as rows by displacement, sorted. From its first row on the state is free to be worked in
+pub record Answered (ns es : List ℤ) (plan : List ℕ) (root leaf : ℕ) (new : List ℤ) (r : Placed) : Type 0 where
+  pub free : (s : List ℤ) → length s ≡ length new → take (rowWidth * r .row) s ≡ take (rowWidth * r .row) new → Swept ns es plan root s
+  pub within : rowWidth * (r .row + r .count) ≤ length new
+  pub count : r .count ≡ length (listOf (graphOf ns es) (pos root) (pos leaf))
+  pub rows : recordsAt new (r .row) (r .count) ≡ sortedByDisplacement (listOf (graphOf ns es) (pos root) (pos leaf))

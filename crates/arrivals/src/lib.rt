@@ -4,18 +4,18 @@
 ghost use mathlib.Core.Path.{_≡_};
 ghost use mathlib.Core.List.{List};
 ghost use mathlib.Core.Bool.{true};
-ghost use Prim.Native.Nat.{_+_, _*_, _≤_, _<_};
+ghost use Prim.Native.Nat.{ℕ, _+_, _*_, _≤_, _<_};
 ghost use lib.IntN.{ℤ, pos};
 ghost use lib.Signed.{_≤ℤ_};
 ghost use lib.ListN.{length, getD};
-ghost use Rattle.model.specs.Limits.{maxNodes};
+ghost use Rattle.model.specs.Limits.{maxNodes, maxPaths};
 ghost use Rattle.model.specs.Graph.{graphOf};
 ghost use Rattle.tables.specs.Tables.{edgeAt};
 ghost use Rattle.steps.specs.Steps.{GoodRow};
 ghost use Rattle.references.specs.References.{referenceOf, own, broughtOf};
-ghost use Rattle.arrivals.specs.State.{usedAt, stateRoom, setMark, marked, markNumber, isMet, referenceAt, isListed, placeOf, usedIn, rootIn};
-ghost use Rattle.arrivals.specs.Sweep.{Sweeping, Gatherable, Gathered, Sweepable, Swept, Askable, Answered};
-ghost use Rattle.arrivals.specs.Moves.{Crossable, crossing, meeting, Storable, storing, Ownable, Kept, Passable, Blank, begun};
+ghost use Rattle.arrivals.specs.State.{markWidth, arenaRow, keptRows, usedAt, stateRoom, setMark, marked, markNumber, isMet, referenceAt, isListed, usedIn, rootIn};
+ghost use Rattle.arrivals.specs.Sweep.{Sweeping, Gatherable, Gathered, Makeable, Made, Sweepable, Swept, Askable, Answered};
+ghost use Rattle.arrivals.specs.Moves.{Crossable, crossing, meeting, Storable, storing, Ownable, ListMade, Passable, Blank, begun};
 use forward::first_entering;
 use forward::next_entering;
 use forward::passed_count;
@@ -24,6 +24,7 @@ use listing::append_row;
 use model::Bits;
 use model::EDGE_WIDTH;
 use model::MAX_CHAIN;
+use model::MAX_PATHS;
 use model::NODE_WIDTH;
 use normalisation::merge_rows;
 use references::Brought;
@@ -47,13 +48,23 @@ const USED_AT: usize = 12000;
 
 const ROOT_AT: usize = 12001;
 
-// The first row of the arena, and the row behind those that are kept.
+// The first row of the arena; the row up to which any list is kept, and the row up to which those are that take at most a quarter of what is left.
 const ARENA_ROW: usize = 4001;
 
-const KEPT_END: usize = 6049;
+const OPEN_END: usize = 6049;
+
+const KEPT_END: usize = 6561;
+
+const SHARE: usize = 4;
 
 // The numbers of a state.
-pub const STATE_ROOM: usize = 21219;
+pub const STATE_ROOM: usize = 22755;
+
+// Where a list stands in a state: its first row, and how many records it has.
+pub struct Placed {
+    pub row: usize,
+    pub count: usize,
+}
 
 // No node; no list yet; no list, since there is no room for it.
 const NO_OWNER: i64 = -1;
@@ -64,7 +75,7 @@ const NO_ROOM: i64 = -2;
 
 // Whether anything has arrived at node v.
 fn is_met(state: &[i64], v: usize) -> bool
-    requires { ⌜ 6 * v + 6 ≤ length (now state) ⌝ }
+    requires { ⌜ markWidth * v + markWidth ≤ length (now state) ⌝ }
     ensures { λ r. ⌜ r ≡ isMet (now (state .entry)) v ⌝ }
 {
     let owner = state[MARK_WIDTH * v];
@@ -73,7 +84,7 @@ fn is_met(state: &[i64], v: usize) -> bool
 
 // The reference of node v.
 fn reference_at(state: &[i64], v: usize) -> Reference
-    requires { ⌜ (6 * v + 6 ≤ length (now state)) × (isMet (now state) v ≡ true) ⌝ }
+    requires { ⌜ (markWidth * v + markWidth ≤ length (now state)) × (isMet (now state) v ≡ true) ⌝ }
     ensures { λ r. ⌜ referenceOf r ≡ referenceAt (now (state .entry)) v ⌝ }
 {
     let owner = state[MARK_WIDTH * v];
@@ -90,7 +101,7 @@ fn reference_at(state: &[i64], v: usize) -> Reference
 
 // The first row of the list of node v: below 0 where none is kept.
 fn place_at(state: &[i64], v: usize) -> i64
-    requires { ⌜ 6 * v + 6 ≤ length (now state) ⌝ }
+    requires { ⌜ markWidth * v + markWidth ≤ length (now state) ⌝ }
     ensures { λ r. ⌜ r ≡ markNumber (now (state .entry)) v 4 ⌝ }
 {
     let place = state[MARK_WIDTH * v + 4];
@@ -99,34 +110,79 @@ fn place_at(state: &[i64], v: usize) -> i64
 
 // Whether a list is kept of node v.
 fn is_listed(state: &[i64], v: usize) -> bool
-    requires { ⌜ 6 * v + 6 ≤ length (now state) ⌝ }
+    requires { ⌜ markWidth * v + markWidth ≤ length (now state) ⌝ }
     ensures { λ r. ⌜ r ≡ isListed (now (state .entry)) v ⌝ }
 {
     let place = state[MARK_WIDTH * v + 4];
     0 <= place
 }
 
-// The first row of the list that is kept of node v.
-fn first_row(state: &[i64], v: usize) -> usize
-    requires { ⌜ (6 * v + 6 ≤ length (now state)) × (isListed (now state) v ≡ true) ⌝ }
-    ensures { λ r. ⌜ r ≡ placeOf (now (state .entry)) v ⌝ }
+// Number `at` of a state, where it is not negative.
+fn number_at(state: &[i64], at: usize) -> usize
+    requires { ⌜ (at < length (now state)) × (pos 0 ≤ℤ getD (now state) at (pos 0)) ⌝ }
+    ensures { λ r. ⌜ pos r ≡ getD (now (state .entry)) at (pos 0) ⌝ }
 {
-    let place = state[MARK_WIDTH * v + 4];
-    place as usize
+    let number = state[at];
+    number as usize
 }
 
-// How many records the list of node v has.
-fn count_at(state: &[i64], v: usize) -> usize
-    requires { ⌜ (6 * v + 6 ≤ length (now state)) × (pos 0 ≤ℤ markNumber (now state) v 5) ⌝ }
-    ensures { λ r. ⌜ pos r ≡ markNumber (now (state .entry)) v 5 ⌝ }
+// Where the list that is kept of node v stands.
+fn kept_at(state: &[i64], v: usize) -> Placed
+    requires { ⌜
+        (markWidth * v + markWidth ≤ length (now state)) × (pos 0 ≤ℤ markNumber (now state) v 4) × (pos 0 ≤ℤ markNumber (now state) v 5) ⌝ }
+    ensures { λ r. ⌜ (pos (r .row) ≡ markNumber (now (state .entry)) v 4) × (pos (r .count) ≡ markNumber (now (state .entry)) v 5) ⌝ }
 {
-    let count = state[MARK_WIDTH * v + 5];
-    count as usize
+    Placed {
+        row: number_at(state, MARK_WIDTH * v + 4),
+        count: number_at(state, MARK_WIDTH * v + 5),
+    }
+}
+
+// How many records the list of node v has or may have, as its mark tells: those of its list, or of the lists that its rows come from, together; 0 of a node without
+// room for its list. Nothing is promised of it, but that it is no more than 1,024: it tells which lists to keep.
+fn rows_at(state: &[i64], v: usize) -> usize
+    requires { ⌜ markWidth * v + markWidth ≤ length (now state) ⌝ }
+    ensures { λ r. ⌜ r ≤ maxPaths ⌝ }
+{
+    let rows = state[MARK_WIDTH * v + 5];
+    if rows < 0 {
+        return MAX_PATHS;
+    }
+    let count = rows as usize;
+    if MAX_PATHS < count {
+        return MAX_PATHS;
+    }
+    count
+}
+
+// The same of node v once something comes to it from this owner.
+fn rows_met(state: &[i64], v: usize, owner: usize) -> i64
+    requires { ⌜ (markWidth * v + markWidth ≤ length (now state)) × (markWidth * owner + markWidth ≤ length (now state)) ⌝ }
+{
+    let rows = rows_at(state, owner);
+    if !is_met(state, v) {
+        return rows as i64;
+    }
+    (rows + rows_at(state, v)) as i64
+}
+
+// Whether the list of node v would take too much of the arena: past the rows that are open to any list, one may take a quarter of what is left. So where
+// nodes that need lists follow each other, the small lists among them are still kept, and what is gathered through edges comes from few lists.
+fn crowded(state: &[i64], v: usize) -> bool
+    requires { ⌜
+        (length (now state) ≡ stateRoom) × (v < maxNodes) × (pos 0 ≤ℤ getD (now state) usedAt (pos 0)) × (usedIn (now state) ≤ arenaRow + keptRows) ⌝ }
+{
+    let used = number_at(state, USED_AT);
+    let rows = rows_at(state, v);
+    if used + rows <= OPEN_END {
+        return false;
+    }
+    KEPT_END - used < SHARE * rows
 }
 
 // Stores the mark of node v.
 fn put_mark(state: &mut [i64], v: usize, f: Reference, place: i64, count: i64)
-    requires { ⌜ (6 * v + 6 ≤ length (now state)) × (f .owner < maxNodes) ⌝ }
+    requires { ⌜ (markWidth * v + markWidth ≤ length (now state)) × (f .owner < maxNodes) ⌝ }
     ensures { λ _. ⌜ now (state .exit) ≡ setMark (now (state .entry)) v (marked (referenceOf f) place count) ⌝ }
 {
     let delta = f.delta;
@@ -141,15 +197,6 @@ fn put_mark(state: &mut [i64], v: usize, f: Reference, place: i64, count: i64)
     state[MARK_WIDTH * v + 3] = last;
     state[MARK_WIDTH * v + 4] = place;
     state[MARK_WIDTH * v + 5] = count;
-}
-
-// The row from which on the arena is free.
-pub fn used_row(state: &[i64]) -> usize
-    requires { ⌜ (usedAt < length (now state)) × (pos 0 ≤ℤ getD (now state) usedAt (pos 0)) ⌝ }
-    ensures { λ r. ⌜ r ≡ usedIn (now (state .entry)) ⌝ }
-{
-    let used = state[USED_AT];
-    used as usize
 }
 
 // What comes over edge e of what f takes of the node that it enters, where something has arrived at the node that it leaves.
@@ -182,7 +229,9 @@ fn gather(
 {
     let owner = f.owner;
     if is_listed(state, owner) {
-        return gather_list(state, first_row(state, owner), count_at(state, owner), f, n);
+        let list = kept_at(state, owner);
+        let all = own_reference(nodes, number_at(state, ROOT_AT));
+        return gather_list(state, list.row, list.count, f, all.low, all.high, n);
     }
     if left == 0 {
         return n;
@@ -198,6 +247,27 @@ fn gather(
         e = next_entering(plan, e);
     }
     m
+}
+
+// Makes the list of what a reference brings, in the free part of the state.
+fn make_list(
+    nodes: &[i64],
+    edges: &[i64],
+    plan: &[usize],
+    f: Reference,
+    state: &mut [i64],
+    spare: &mut [i64],
+) -> Placed
+    requires { ⌜ Makeable (now nodes) (now edges) (now plan) (referenceOf f) (now state) (now spare) ⌝ }
+    ensures { λ r. ⌜
+        Made (graphOf (now (nodes .entry)) (now (edges .entry))) (rootIn (now (state .entry))) (referenceOf f) (now (state .entry)) (now (state .exit)) r ⌝ }
+{
+    let used = number_at(state, USED_AT);
+    let n = gather(nodes, edges, plan, f, MAX_CHAIN, state, used);
+    Placed {
+        row: used,
+        count: merge_rows(&mut state[ROW_WIDTH * used..], n - used, spare),
+    }
 }
 
 // Keeps k rows from row `used` on as the list of node v, where they fit.
@@ -224,7 +294,7 @@ fn keep_list(
     spare: &mut [i64],
 )
     requires { ⌜ Ownable (now nodes) (now edges) (now plan) v (now state) (now spare) ⌝ }
-    ensures { λ _. ⌜ Kept (now (nodes .entry)) (now (edges .entry)) (now (plan .entry)) v (now (state .entry)) (now (state .exit)) ⌝ }
+    ensures { λ _. ⌜ ListMade (now (nodes .entry)) (now (edges .entry)) (now (plan .entry)) v (now (state .entry)) (now (state .exit)) ⌝ }
 {
     let reference = reference_at(state, v);
     if reference.owner != v {
@@ -233,25 +303,28 @@ fn keep_list(
     if place_at(state, v) != NOT_LISTED {
         return;
     }
-    let used = used_row(state);
-    let n = gather(nodes, edges, plan, reference, MAX_CHAIN, state, used);
-    let k = merge_rows(&mut state[ROW_WIDTH * used..], n - used, spare);
-    keep_rows(nodes, v, used, k, state);
+    if crowded(state, v) {
+        return;
+    }
+    let list = make_list(nodes, edges, plan, reference, state, spare);
+    keep_rows(nodes, v, list.row, list.count, state);
 }
 
 // Marks node v with what has come to it: where something else had come before, v is its own owner.
 fn meet(nodes: &[i64], v: usize, f: Reference, state: &mut [i64])
-    requires { ⌜ GoodRow (now nodes) v × (v < maxNodes) × (6 * v + 6 ≤ length (now state)) × (f .owner < maxNodes) ⌝ }
-    ensures { λ _. ⌜ ((es : List ℤ) → now (state .exit) ≡ meeting (now (state .entry)) v (own (graphOf (now (nodes .entry)) es) (pos v)) (referenceOf f)) ⌝ }
+    requires { ⌜ GoodRow (now nodes) v × (v < maxNodes) × (markWidth * maxNodes ≤ length (now state)) × (f .owner < maxNodes) ⌝ }
+    ensures { λ _. ⌜
+        ((rows : ℤ) × ((es : List ℤ) → now (state .exit) ≡ meeting (now (state .entry)) v (own (graphOf (now (nodes .entry)) es) (pos v)) (referenceOf f) rows)) ⌝ }
 {
+    let rows = rows_met(state, v, f.owner);
     if !is_met(state, v) {
-        put_mark(state, v, f, NOT_LISTED, 0);
+        put_mark(state, v, f, NOT_LISTED, rows);
         return;
     }
     if same_reference(reference_at(state, v), f) {
         return;
     }
-    put_mark(state, v, own_reference(nodes, v), NOT_LISTED, 0);
+    put_mark(state, v, own_reference(nodes, v), NOT_LISTED, rows);
 }
 
 // Passes edge i of the plan: what has arrived at the node that it leaves comes to the node that it enters.
@@ -283,7 +356,7 @@ fn pass_edge(
 
 // Marks the first `count` nodes with nothing.
 fn clear_marks(state: &mut [i64], count: usize)
-    requires { ⌜ 6 * count ≤ length (now state) ⌝ }
+    requires { ⌜ markWidth * count ≤ length (now state) ⌝ }
     ensures { λ _. ⌜ Blank count (now (state .exit)) ⌝ }
 {
     let mut v: usize = 0;
@@ -337,8 +410,8 @@ pub fn sweep_root(
     }
 }
 
-// Lists the bitmapping list of the root that the state is swept from and a leaf, behind the used part of the arena: rows by displacement, sorted. Returns how
-// many records it has. What stands in `spare` afterwards is space that was worked in.
+// Lists the bitmapping list of the root that the state is swept from and a leaf: rows by displacement, sorted, in the free part of the state. What stands
+// in `spare` afterwards is space that was worked in.
 pub fn list_at(
     nodes: &[i64],
     edges: &[i64],
@@ -346,17 +419,19 @@ pub fn list_at(
     leaf: usize,
     state: &mut [i64],
     spare: &mut [i64],
-) -> usize
+) -> Placed
     requires { ⌜ Askable (now nodes) (now edges) (now plan) leaf (now state) (now spare) ⌝ }
     ensures { λ r. ⌜
-        Answered (now (nodes .entry)) (now (edges .entry)) (now (plan .entry)) leaf (now (state .entry)) (now (state .exit)) r ⌝ }
+        ((root : ℕ) → Swept (now (nodes .entry)) (now (edges .entry)) (now (plan .entry)) root (now (state .entry))
+        → Answered (now (nodes .entry)) (now (edges .entry)) (now (plan .entry)) root leaf (now (state .exit)) r) ⌝ }
 {
     if !is_met(state, leaf) {
-        return 0;
+        return Placed {
+            row: number_at(state, USED_AT),
+            count: 0,
+        };
     }
     let all = own_reference(nodes, leaf);
     let part = shifted(reference_at(state, leaf), all.low);
-    let used = used_row(state);
-    let n = gather(nodes, edges, plan, part, MAX_CHAIN, state, used);
-    merge_rows(&mut state[ROW_WIDTH * used..], n - used, spare)
+    make_list(nodes, edges, plan, part, state, spare)
 }

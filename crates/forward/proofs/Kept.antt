@@ -19,14 +19,14 @@ use Rattle.tables.specs.Tables.{edgeAt}
 use Rattle.tables.proofs.Rows.{getD-in, nodes-length, edges-length, edge-own}
 use Rattle.depth.specs.Order.{edgeOrder}
 use Rattle.depth.proofs.Stores.{sets-more}
-use Rattle.reach.proofs.Pass.{order-cut, cut-length}
+use Rattle.reach.proofs.Turns.{order-cut, cut-length}
 use Rattle.reach.proofs.Ends.{Ends, edge-ends, to-below}
 use Rattle.forward.specs.Forward.{countAt}
-use Rattle.forward.specs.Passes.{Passable, entersMarked, leadingRows, planWith}
+use Rattle.forward.specs.Passes.{BackwardRows, entersMarked, leadingRows, planWith}
 
 -- ---- the rows in front of the order
 
-module _ {es : List ℤ} {order : List ℕ} {count : ℕ} (p : Passable es order count) where
+module _ {es : List ℤ} {order : List ℕ} {count : ℕ} (p : BackwardRows es order count) where
   -- there is one for each edge
   pub front-length : length (take (length (edgeRows es)) order) ≡ length es / 3
   front-length =
@@ -81,7 +81,7 @@ module _ (es : List ℤ) (order marks : List ℕ) where
   pub keeping-long : {old plan : List ℕ} {kept i : ℕ} → Keeping old plan kept i → length plan ≡ length old
   keeping-long {old} {i = i} s = ap length (s .stored) ∙ length-sets old 0 (keptFrom i)
 
-  module _ (p : Passable es order (length marks)) where
+  module _ (p : BackwardRows es order (length marks)) where
     -- before the first turn
     pub keep-start : (old : List ℕ) → Keeping old old 0 (length es / 3)
     unfolding keep

@@ -18,7 +18,7 @@ use Rattle.tables.proofs.Rows.{nodes-length}
 use Rattle.reach.proofs.Sweep.{Cut}
 use Rattle.reach.proofs.Ends.{Ends, from-below, to-below}
 use Rattle.reach.proofs.Turns.{Between, between-start, between-next, between-end, turn, turn-ends, turn-from, turn-to}
-use Rattle.forward.specs.Passes.{Marking, Marked, LeadsTo, Passable, Spread}
+use Rattle.forward.specs.Passes.{Marking, Marked, LeadsTo, BackwardRows, Spread}
 use Rattle.forward.proofs.Marks.{mark-set}
 
 module _ (g : Graph) (start : List ℕ) where
@@ -75,7 +75,7 @@ module _ (g : Graph) (start : List ℕ) where
       -- the mark of the node that the next edge enters is final
       entered : (0 < getD marks to 0) ↔ Leading (e .to)
       entered =
-          let all = soFar-all (pos to) (c .passed-in) (λ f m r. c .backward .0 f m (r ∙ q)) in
+          let all = soFar-all (pos to) (c .passed-in) (λ f m r. c .ordered .0 f m (r ∙ q)) in
           rw (← q) (λ h. all .0 (s .each to .0 h), λ k. s .each to .1 (all .1 k))
 
       -- an edge into a marked node marks the node that it leaves
@@ -123,7 +123,7 @@ module _ (es : List ℤ) (order : List ℕ) where
     pub swept : (ns : List ℤ) → Swept (graphOf ns es) start (at .before) marks
 
   -- before the first turn
-  pub pass-start : {start : List ℕ} → Passable es order (length start) → Passed start start 0
+  pub pass-start : {start : List ℕ} → BackwardRows es order (length start) → Passed start start 0
   pass-start {start} k =
       record {
         nodes = k .nodes;

@@ -68,7 +68,7 @@ module _ (pairs : List ℤ) (column : ℕ) where
 
   -- the node of a row has a mark
   pub row-within : {marks : List ℕ} → Markable pairs column marks → (k : ℕ) → k < length pairs / 2 → Within (length marks) (columnAt column pairs k)
-  row-within m k h = m .within (columnAt column pairs k) (rows-in column (m .column) 0 pairs k (omega arith))
+  row-within m k h = m .within (columnAt column pairs k) (rows-in column (m .inPair) 0 pairs k (omega arith))
 
   -- before the first row
   pub rows-start : {marks : List ℕ} → Markable pairs column marks → RowsMarked marks 0

@@ -40,7 +40,7 @@ module _ (graph : List Edge) (ok : Edge → Bool) (onward : (e f : Edge) → e �
       -- with e among them too
       closed-next : Closed (e ∷ before)
       closed-next d f m k q =
-          ⊎-elim (λ z. List·Memᴰ·tail (c .backward .0 f k (subst (λ (a : Edge). f .from ≡ a .to) z q))) (λ n. List·Memᴰ·tail (closed d f n k q))
+          ⊎-elim (λ z. List·Memᴰ·tail (c .ordered .0 f k (subst (λ (a : Edge). f .from ≡ a .to) z q))) (λ n. List·Memᴰ·tail (closed d f n k q))
           (List·Memᴰ·cases-cons m)
 
       -- e is an edge of the graph
@@ -53,7 +53,7 @@ module _ (graph : List Edge) (ok : Edge → Bool) (onward : (e f : Edge) → e �
           let apart : e ∈ before → ⊥ = λ k. c .apart e k (List·Memᴰ·head refl) in
           ⊎-elim (λ k. absurd (apart (closed f e k own (sym q))))
           (λ k.
-          ⊎-elim (λ z. absurd (apart (c .backward .0 e own (sym (subst (λ (a : Edge). a .to ≡ e .from) z q))))) (λ n. n) (List·Memᴰ·cases-cons k))
+          ⊎-elim (λ z. absurd (apart (c .ordered .0 e own (sym (subst (λ (a : Edge). a .to ≡ e .from) z q))))) (λ n. n) (List·Memᴰ·cases-cons k))
           (c .whole f m)
 
       -- by the test of e

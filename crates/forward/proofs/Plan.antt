@@ -27,10 +27,10 @@ use Rattle.depth.specs.Order.{edgeOrder}
 use Rattle.depth.proofs.Keeping.{keep-map}
 use Rattle.depth.proofs.Order.{order-members}
 use Rattle.depth.proofs.Stores.{sets-past, sets-take, zeros-at}
-use Rattle.reach.proofs.Pass.{order-cut}
+use Rattle.reach.proofs.Turns.{order-cut}
 use Rattle.reach.proofs.Ends.{row-below}
 use Rattle.forward.specs.Forward.{Leads, Forward, headAt, nextAt, countAt, planRoom, passedCount, passedOf, Planned, LeadingTo, Plannable}
-use Rattle.forward.specs.Passes.{Marking, Marked, LeadsTo, Markable, Passable, entersMarked, leadingRows, planWith, EnteringLinked}
+use Rattle.forward.specs.Passes.{Marking, Marked, LeadsTo, Markable, BackwardRows, entersMarked, leadingRows, planWith, EnteringLinked}
 use Rattle.forward.proofs.Kept.{front-length, front-row}
 use Rattle.forward.proofs.Reversed.{map-reverse, reverse-in, reverse-out, reverse-distinct}
 use Rattle.forward.proofs.Order.{forward-kept}
@@ -66,7 +66,7 @@ module _ {ns es : List ℤ} {order : List ℕ} {pairs : List ℤ} {side : ℕ} {
   pub plan-markable : Markable pairs side (replicate maxNodes 0)
   plan-markable =
       record {
-        column = c .column;
+        inPair = c .inPair;
         within = λ l m.
             let r = c .rows l m in
             record { low = r .low; high = omega (arith, ints, row-below ns es r, c .tables .nodes .few, length-replicate {A = ℕ} maxNodes 0) };
@@ -74,14 +74,14 @@ module _ {ns es : List ℤ} {order : List ℕ} {pairs : List ℤ} {side : ℕ} {
       }
 
   -- the edges can be passed in the order that is given
-  pub plan-passable : (count : ℕ) → maxNodes ≤ count → Passable es order count
+  pub plan-passable : (count : ℕ) → maxNodes ≤ count → BackwardRows es order count
   plan-passable count h =
       record { nodes = ns; tables = c .tables; backward = c .backward; room = omega (arith, h, nodes-length ns, c .tables .nodes .few) }
 
 -- ---- what they leave
 
 module _ {ns es : List ℤ} {order : List ℕ} {count : ℕ} {ls : List ℤ} {marks plan : List ℕ} (linked : List ℕ) (tables : TakenTables ns es)
-    (p : Passable es order count) (m : Marking marks (Leads (graphOf ns es) ls)) (room : length linked ≡ planRoom)
+    (p : BackwardRows es order count) (m : Marking marks (Leads (graphOf ns es) ls)) (room : length linked ≡ planRoom)
     (made : plan ≡ planWith (leadingRows es order marks) linked)
   where
     -- the rows that the last pass stores, and those that it goes over

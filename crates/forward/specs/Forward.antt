@@ -7,7 +7,7 @@ use lib.Dec.{eqb}
 use lib.IntN.{ℤ, pos}
 use lib.ListN.{length, getD, take}
 use Rattle.lists.specs.Lists.{_∈_, Distinct}
-use Rattle.model.specs.Limits.{maxNodes, maxEdges}
+use Rattle.model.specs.Limits.{pairWidth, maxNodes, maxEdges}
 use Rattle.model.specs.Rows.{Edge, nodeRows, edgeRows, pairRows}
 use Rattle.model.specs.Graph.{Graph, graphOf, NodeRow}
 use Rattle.model.specs.Paths.{Way}
@@ -78,9 +78,9 @@ nodesIn column pairs = map (λ p. cond (eqb column 0) (p .spec) (p .impl)) (pair
 
 -- what a plan starts from: tables whose graph is taken, their edge rows in backward order in front of `order`, nodes of the graph in a column of the pairs,
 -- and room
-pub record Plannable (ns es : List ℤ) (order : List ℕ) (pairs : List ℤ) (side : ℕ) (plan : List ℕ) : Type 0 where
+pub record Plannable (ns es : List ℤ) (order : List ℕ) (pairs : List ℤ) (column : ℕ) (plan : List ℕ) : Type 0 where
   pub tables : TakenTables ns es
   pub backward : take (length (edgeRows es)) order ≡ map (λ e. e .row) (edgeOrder (edgeRows es))
-  pub column : side < 2
-  pub rows : (l : ℤ) → l ∈ nodesIn side pairs → NodeRow (graphOf ns es) l
+  pub inPair : column < pairWidth
+  pub rows : (l : ℤ) → l ∈ nodesIn column pairs → NodeRow (graphOf ns es) l
   pub room : length plan ≡ planRoom

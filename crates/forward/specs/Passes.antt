@@ -40,15 +40,15 @@ abbrev pub columnAt : ℕ → List ℤ → ℕ → ℤ
 columnAt column pairs k = getD pairs (pairWidth * k + column) (pos 0)
 
 -- what marking the nodes in a column of a pair table starts from: a mark for each of them, and none that is set
-pub record Markable (pairs : List ℤ) (side : ℕ) (marks : List ℕ) : Type 0 where
-  pub column : side < 2
-  pub within : (l : ℤ) → l ∈ nodesIn side pairs → Within (length marks) l
+pub record Markable (pairs : List ℤ) (column : ℕ) (marks : List ℕ) : Type 0 where
+  pub inPair : column < pairWidth
+  pub within : (l : ℤ) → l ∈ nodesIn column pairs → Within (length marks) l
   pub blank : (v : ℕ) → getD marks v 0 ≡ 0
 
 -- ---- a pass over the edges in backward order
 
 -- edges of a taken graph of at most so many nodes, and their rows in backward order in front of `order`
-pub record Passable (es : List ℤ) (order : List ℕ) (count : ℕ) : Type 0 where
+pub record BackwardRows (es : List ℤ) (order : List ℕ) (count : ℕ) : Type 0 where
   pub nodes : List ℤ
   pub tables : TakenTables nodes es
   pub backward : take (length (edgeRows es)) order ≡ map (λ e. e .row) (edgeOrder (edgeRows es))

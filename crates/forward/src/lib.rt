@@ -5,8 +5,9 @@ ghost use lib.IntN.{pos};
 ghost use lib.Signed.{_≤ℤ_};
 ghost use lib.ListN.{length, getD, set};
 ghost use Rattle.lists.specs.Lists.{_∈_};
+ghost use Rattle.model.specs.Limits.{pairWidth};
 ghost use Rattle.forward.specs.Forward.{headAt, nextAt, passedCount, planRoom, Planned, LeadingTo, nodesIn, Plannable};
-ghost use Rattle.forward.specs.Passes.{Marking, columnAt, Markable, Passable, Spread, leadingRows, planWith, HeadsSet, Linkable, EnteringLinked};
+ghost use Rattle.forward.specs.Passes.{Marking, columnAt, Markable, BackwardRows, Spread, leadingRows, planWith, HeadsSet, Linkable, EnteringLinked};
 use model::EDGE_WIDTH;
 use model::MAX_NODES;
 use model::NODE_WIDTH;
@@ -61,7 +62,7 @@ pub fn next_entering(plan: &[usize], e: usize) -> usize
 
 // The node in a column of row k of a pair table, as an index.
 fn pair_node(pairs: &[i64], column: usize, k: usize) -> usize
-    requires { ⌜ (column < 2) × (2 * k + 2 ≤ length (now pairs)) × (pos 0 ≤ℤ columnAt column (now pairs) k) ⌝ }
+    requires { ⌜ (column < pairWidth) × (pairWidth * k + pairWidth ≤ length (now pairs)) × (pos 0 ≤ℤ columnAt column (now pairs) k) ⌝ }
     ensures { λ r. ⌜ pos r ≡ columnAt column (now (pairs .entry)) k ⌝ }
 {
     pairs[PAIR_WIDTH * k + column] as usize
@@ -83,7 +84,7 @@ fn mark_leaves(pairs: &[i64], column: usize, marks: &mut [usize])
 
 // Marks every node that leads to a marked one. One pass over the edges in an order that has each edge behind all edges that leave the node it enters.
 fn mark_leading(edges: &[i64], order: &[usize], marks: &mut [usize])
-    requires { ⌜ Passable (now edges) (now order) (length (now marks)) ⌝ }
+    requires { ⌜ BackwardRows (now edges) (now order) (length (now marks)) ⌝ }
     ensures { λ _. ⌜ Spread (now (edges .entry)) (now (marks .entry)) (now (marks .exit)) ⌝ }
 {
     let count = edges.len() / EDGE_WIDTH;
@@ -101,7 +102,7 @@ fn mark_leading(edges: &[i64], order: &[usize], marks: &mut [usize])
 
 // Stores the rows of the edges that enter a marked node in front of a plan, in the order from the roots down, and how many they are.
 fn keep_leading(edges: &[i64], order: &[usize], marks: &[usize], plan: &mut [usize])
-    requires { ⌜ Passable (now edges) (now order) (length (now marks)) ⌝ }
+    requires { ⌜ BackwardRows (now edges) (now order) (length (now marks)) ⌝ }
     requires { ⌜ length (now plan) ≡ planRoom ⌝ }
     ensures { λ _. ⌜
         now (plan .exit) ≡ planWith (leadingRows (now (edges .entry)) (now (order .entry)) (now (marks .entry))) (now (plan .entry)) ⌝ }

@@ -109,6 +109,11 @@ pub by-displacement-length : (l : List Record) → length (sortedByDisplacement 
 unfolding sortedByDisplacement
 by-displacement-length l = length-map (sorted (map byDisplacement l)) ofDisplacement ∙ sorted-length (map byDisplacement l) ∙ length-map l byDisplacement
 
+-- the rows of records sorted by displacement are ascending
+pub by-displacement-ascending : (l : List Record) → Ascending (map byDisplacement (sortedByDisplacement l))
+unfolding sortedByDisplacement
+by-displacement-ascending l = rw (rows-back (sorted (map byDisplacement l))) (sorted-ascending (map byDisplacement l))
+
 -- records whose rows are ascending are sorted already
 pub by-displacement-fixed : {l : List Record} → Ascending (map byDisplacement l) → sortedByDisplacement l ≡ l
 unfolding sortedByDisplacement

@@ -2,12 +2,13 @@
 use mathlib.Core.Path.{_≡_}
 use mathlib.Core.Bool.{cond}
 use mathlib.Core.List.{List, [], _∷_, _++_, map}
-use Prim.Native.Nat.{ℕ, _+_, _<_, _^_}
+use Prim.Native.Nat.{ℕ, _+_, _<_}
 use lib.IntN.{ℤ, pos}
 use lib.Signed.{_≤ℤ_, _<ℤ_}
 use Rattle.lists.specs.Lists.{_∈_}
 use Rattle.sorting.specs.declared.Row.{Row}
 use Rattle.sorting.specs.Rows.{rowAt, rowsOf, rowsFrom, sorted}
+use Rattle.model.specs.Limits.{addressRoom}
 use Rattle.model.specs.Bitmapping.{Record}
 use Rattle.model.specs.Runs.{touch, hull}
 
@@ -40,7 +41,7 @@ recordsOf t n = map ofDisplacement (rowsOf t n)
 -- a record that has a bit, and whose bits lie below 2^62: one more than its last bit is a number of 64 bits
 pub record Small (s : Record) : Type 0 where
   pub full : s .first ≤ℤ s .last
-  pub high : s .last <ℤ pos (2 ^ 62)
+  pub high : s .last <ℤ pos addressRoom
 
 -- every record of the list is small
 abbrev pub AllSmall : List Record → Type 0
@@ -61,7 +62,7 @@ unfoldable pub merged : List Record → List Record
 merged [] = []
 merged (s ∷ t) = mergeInto s t
 
--- of n rows by displacement of t none in front of row k touches the next: merging leaves them as they are, and goes on with row k
+-- merging the records of the first n rows of t leaves those of the first k as they are, and goes on from that of row k
 pub record Apart (t : List ℤ) (n k : ℕ) : Type 0 where
   pub inside : k < n
   pub rest : merged (recordsOf t n) ≡ recordsOf t k ++ mergeInto (ofDisplacement (rowAt t k)) (map ofDisplacement (rowsFrom t (k + 1) n))

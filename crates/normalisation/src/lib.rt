@@ -181,19 +181,19 @@ fn join_touching(t: &mut [i64], n: usize, from: usize) -> usize
     done + 1
 }
 
-// Normalises n records, rows by displacement in the front of work, in n log n steps, in one pass for the order and one for the joining where they are in
-// order: the rows of their list, sorted by displacement, stand there afterwards. Returns how many they are. What else stands in work behind them and in
+// Normalises n records, rows by displacement in the front of list, in n log n steps, in one pass for the order and one for the joining where they are in
+// order: the rows of their list, sorted by displacement, stand there afterwards. Returns how many they are. What else stands in list behind them and in
 // spare afterwards is space that was worked in.
-pub fn merge_rows(work: &mut [i64], n: usize, spare: &mut [i64]) -> usize
-    requires { ⌜ (3 * n ≤ length (now work)) × (3 * n ≤ length (now spare)) × AllSmall (recordsOf (now work) n) ⌝ }
-    ensures { λ r. ⌜ r ≡ length (normal (recordsOf (now (work .entry)) n)) ⌝ }
-    ensures { λ r. ⌜ recordsOf (now (work .exit)) r ≡ sortedByDisplacement (normal (recordsOf (now (work .entry)) n)) ⌝ }
-    ensures { λ _. ⌜ (length (now (work .exit)) ≡ length (now (work .entry))) × (length (now (spare .exit)) ≡ length (now (spare .entry))) ⌝ }
+pub fn merge_rows(list: &mut [i64], n: usize, spare: &mut [i64]) -> usize
+    requires { ⌜ (3 * n ≤ length (now list)) × (3 * n ≤ length (now spare)) × AllSmall (recordsOf (now list) n) ⌝ }
+    ensures { λ r. ⌜ r ≡ length (normal (recordsOf (now (list .entry)) n)) ⌝ }
+    ensures { λ r. ⌜ recordsOf (now (list .exit)) r ≡ sortedByDisplacement (normal (recordsOf (now (list .entry)) n)) ⌝ }
+    ensures { λ _. ⌜ (length (now (list .exit)) ≡ length (now (list .entry))) × (length (now (spare .exit)) ≡ length (now (spare .entry))) ⌝ }
 {
     if n == 0 {
         return 0;
     }
-    sorting::sort_rows(work, n, spare);
-    let from = rows_apart(work, n);
-    join_touching(work, n, from)
+    sorting::sort_rows(list, n, spare);
+    let from = rows_apart(list, n);
+    join_touching(list, n, from)
 }

@@ -16,7 +16,7 @@ use Rattle.model.specs.Taken.{TakenTables}
 use Rattle.model.proofs.Taken.{taken-node-full}
 use Rattle.model.proofs.Walks.{walk-end}
 use Rattle.steps.proofs.Bounds.{extent-small}
-use Rattle.references.specs.References.{Reference, own, Brings, shifted, clipped, through, isNone, Lying, Small, sameReference}
+use Rattle.references.specs.References.{Reference, own, Brings, shifted, clipped, through, isNone, InOwner, SmallReference, sameReference}
 
 -- ---- what is brought
 
@@ -92,7 +92,7 @@ own-brings g r v x b = (
 -- ---- where references lie
 
 -- a reference to what arrives at a node of taken tables is small
-pub lying-small : {ns es : List ℤ} {f : Reference} → TakenTables ns es → Lying (graphOf ns es) f → Small f
+pub lying-small : {ns es : List ℤ} {f : Reference} → TakenTables ns es → InOwner (graphOf ns es) f → SmallReference f
 lying-small {ns} {es} {f} tables h =
     let extent = extent-small (node (graphOf ns es) (f .owner)) (tables .graph .good (f .owner) (h .row)) in
     record {
@@ -104,7 +104,7 @@ lying-small {ns} {es} {f} tables h =
     }
 
 -- all that arrives at a node lies there
-pub own-lying : {ns es : List ℤ} {v : ℤ} → TakenTables ns es → NodeRow (graphOf ns es) v → Lying (graphOf ns es) (own (graphOf ns es) v)
+pub own-lying : {ns es : List ℤ} {v : ℤ} → TakenTables ns es → NodeRow (graphOf ns es) v → InOwner (graphOf ns es) (own (graphOf ns es) v)
 own-lying {ns} {es} {v} tables row =
     let n = node (graphOf ns es) v in
     let extent = extent-small n (tables .graph .good v row) in
@@ -128,7 +128,7 @@ through-inside o f u =
     )
 
 -- and it lies where what arrives at the node that the edge leaves does, unless it has no bit address
-pub through-lying : {g : Graph} (o : ℤ) {f u : Reference} → Small f → Lying g u → T (not (isNone (through o f u))) → Lying g (through o f u)
+pub through-lying : {g : Graph} (o : ℤ) {f u : Reference} → SmallReference f → InOwner g u → T (not (isNone (through o f u))) → InOwner g (through o f u)
 through-lying {g} o {f} {u} small h t =
     let d = f .delta in
     let low = maxZ (f .low +ℤ d) (u .low -ℤ o) in

@@ -1,21 +1,22 @@
 -- The rows that a reference has of its owner's list, gathered record by record behind rows that hold the list.
 use mathlib.Core.Path.{_≡_, refl, sym, ap, subst, _∙_}
 use mathlib.Core.List.{List, [], _∷_, _++_, map, append-nil, append-assoc, flatMap, List·Memᴰ·head, Memᴰ·append-right}
-use Prim.Native.Nat.{ℕ, _+_, _-_, _*_, _≤_, _<_}
+use Prim.Native.Nat.{ℕ, zero, suc, _+_, _-_, _*_, _≤_, _<_}
+use native.Mathlib.Nat.{add-zero}
 use native.Mathlib.Omega.{arith}
 use lib.IntN.{ℤ, pos}
-use lib.ListN.{length, getD, take, drop, length-append, length-map}
+use lib.ListN.{length, getD, take, drop, length-append}
 use lib.Seq.{getD-take, getD-drop, take-at, length-take-le}
 use Rattle.lists.specs.Lists.{_∈_}
 use Rattle.lists.proofs.Membership.{map-in}
 use Rattle.model.specs.Bitmapping.{Record}
 use Rattle.sorting.specs.declared.Row.{Row}
 use Rattle.sorting.specs.Rows.{rowAt, rowsOf, rowsFrom, numbersOf}
-use Rattle.sorting.proofs.Tables.{rowsOf-length, rowsOf-add, rowsFrom-more, rowsFrom-none, rowsFrom-start}
+use Rattle.sorting.proofs.Tables.{rowsOf-add, rowsFrom-more, rowsFrom-none, rowsFrom-start}
 use Rattle.normalisation.specs.Merging.{ofDisplacement}
 use Rattle.listing.specs.Listing.{Appended}
 use Rattle.listing.proofs.Appending.{append-none, append-append, append-length}
-use Rattle.references.specs.References.{Reference, Within, recordsAt, Cuttable, cutRow, cutRows}
+use Rattle.references.specs.References.{Reference, SmallRecord, recordsAt, Cuttable, cutRow, cutRows}
 use Rattle.references.proofs.Cutting.{cut-row-few}
 
 -- ---- the records of a list that begins with row p
@@ -29,12 +30,18 @@ abbrev pub recordsFrom : List ℤ → ℕ → ℕ → ℕ → List Record
 recordsFrom t p i n = map ofDisplacement (rowsFrom (drop (3 * p) t) i n)
 
 -- row i behind row p is row p + i
-row-behind : (t : List ℤ) (p i : ℕ) → rowAt (drop (3 * p) t) i ≡ rowAt t (p + i)
+pub row-behind : (t : List ℤ) (p i : ℕ) → rowAt (drop (3 * p) t) i ≡ rowAt t (p + i)
 row-behind t p i =
     let first : 3 * p + 3 * i ≡ 3 * (p + i) = omega arith in
     let second : 3 * p + (3 * i + 1) ≡ 3 * (p + i) + 1 = omega arith in
     let third : 3 * p + (3 * i + 2) ≡ 3 * (p + i) + 2 = omega arith in
     rw (getD-drop (3 * p) t (3 * i) (pos 0), getD-drop (3 * p) t (3 * i + 1) (pos 0), getD-drop (3 * p) t (3 * i + 2) (pos 0), first, second, third) refl
+
+-- row i is one of the first n
+pub row-in : (t : List ℤ) (i n : ℕ) → i < n → rowAt t i ∈ rowsOf t n
+row-in t i n h =
+    let all : i + (n - i) ≡ n = omega arith in
+    rw (← all, rowsOf-add t i (n - i), rowsFrom-more t i n h) (Memᴰ·append-right (rowsOf t i) (List·Memᴰ·head refl))
 
 module _ (t : List ℤ) (p i n : ℕ) where
   -- those from record i on are record i and those behind it
@@ -49,17 +56,7 @@ module _ (t : List ℤ) (p i n : ℕ) where
 
   -- record i is one of the n
   pub recordAt-in : i < n → recordAt t p i ∈ recordsAt t p n
-  recordAt-in h =
-      let l = drop (3 * p) t in
-      let all : i + (n - i) ≡ n = omega arith in
-      let split : rowsOf l n ≡ rowsOf l i ++ (rowAt l i ∷ rowsFrom l (i + 1) n) =
-      ap (rowsOf l) (sym all) ∙ rowsOf-add l i (n - i) ∙ ap (λ (r : List Row). rowsOf l i ++ r) (rowsFrom-more l i n h) in
-      let m : rowAt l i ∈ rowsOf l n = rw split (Memᴰ·append-right (rowsOf l i) (List·Memᴰ·head refl)) in
-      subst (λ (r : Row). ofDisplacement r ∈ recordsAt t p n) (row-behind t p i) (map-in ofDisplacement m)
-
--- n records are read
-pub recordsAt-length : (t : List ℤ) (p n : ℕ) → length (recordsAt t p n) ≡ n
-recordsAt-length t p n = length-map (rowsOf (drop (3 * p) t) n) ofDisplacement ∙ rowsOf-length (drop (3 * p) t) n
+  recordAt-in h = subst (λ (r : Row). ofDisplacement r ∈ recordsAt t p n) (row-behind t p i) (map-in ofDisplacement (row-in (drop (3 * p) t) i n h))
 
 -- ---- rows behind which others are appended
 
@@ -95,7 +92,7 @@ gathering-start f old place count n =
       written = append-none old n;
     }
 
-module _ {f : Reference} {old : List ℤ} {place count n : ℕ} {new : List ℤ} {m i : ℕ} (cuttable : Cuttable f old place count n)
+module _ {f : Reference} {first last : ℤ} {old : List ℤ} {place count n : ℕ} {new : List ℤ} {m i : ℕ} (cuttable : Cuttable f first last old place count n)
     (s : Gathering f old place count n new m i)
   where
     -- at last all is
@@ -116,9 +113,9 @@ module _ {f : Reference} {old : List ℤ} {place count n : ℕ} {new : List ℤ}
       gathering-record = row-kept (place + i) (omega (arith, cuttable .room)) (s .written) (omega (arith, h, cuttable .before))
 
       -- it can be cut, and there is room for its row
-      pub gathering-within : Within (recordAt new place i)
+      pub gathering-within : SmallRecord (recordAt new place i)
       gathering-within =
-          subst (λ (r : Row). Within (ofDisplacement r)) (sym gathering-record)
+          subst (λ (r : Row). SmallRecord (ofDisplacement r)) (sym gathering-record)
           (cuttable .within (recordAt old place i) (recordAt-in old place i count h))
 
       pub gathering-before : place + i < m
@@ -127,10 +124,10 @@ module _ {f : Reference} {old : List ℤ} {place count n : ℕ} {new : List ℤ}
       pub gathering-room : 3 * m + 3 ≤ length new
       gathering-room = omega (arith, h, cuttable .room, s .few, s .written .count, gathering-length)
 
-      -- once it is written, the next record follows
-      pub gathering-next : {new′ : List ℤ} {m′ : ℕ} → Appended (cutRow f (recordAt new place i)) new new′ m m′ → Gathering f old place count n new′ m′ (i + 1)
+      -- once its row is written, the next record follows
+      gathering-more : {new′ : List ℤ} {m′ : ℕ} → Appended (cutRow f (recordAt old place i)) new new′ m m′ → Gathering f old place count n new′ m′ (i + 1)
       unfolding cutRows flatMap
-      gathering-next {new′} {m′} a =
+      gathering-more a =
           let rows = cutRow f (recordAt old place i) in
           let size = length-append (s .done) rows in
           let one = cut-row-few f (recordAt old place i) in
@@ -140,6 +137,20 @@ module _ {f : Reference} {old : List ℤ} {place count n : ℕ} {new : List ℤ}
             few = omega (arith, s .few, size, one);
             rest = append-assoc (s .done) rows (cutRows f (recordsFrom old place (i + 1) count))
                 ∙ ap (λ (l : List Record). s .done ++ cutRows f l) (sym (recordsFrom-more old place i count h)) ∙ s .rest;
-            written = append-append (omega (arith, h, cuttable .room, s .few, size, one)) (s .written)
-                (subst (λ (r : Row). Appended (cutRow f (ofDisplacement r)) new new′ m m′) gathering-record a);
+            written = append-append (omega (arith, h, cuttable .room, s .few, size, one)) (s .written) a;
           }
+
+      pub gathering-next : {new′ : List ℤ} {m′ : ℕ} → Appended (cutRow f (recordAt new place i)) new new′ m m′ → Gathering f old place count n new′ m′ (i + 1)
+      gathering-next {new′} {m′} a = gathering-more (subst (λ (r : Row). Appended (cutRow f (ofDisplacement r)) new new′ m m′) gathering-record a)
+
+-- k records of which the reference has nothing are passed over
+pub gathering-skip : {f : Reference} {first last : ℤ} {old : List ℤ} {place count n : ℕ} {new : List ℤ} {m i : ℕ} → Cuttable f first last old place count n
+    → Gathering f old place count n new m i → (k : ℕ) → i + k ≤ count → ((j : ℕ) → i ≤ j → j < i + k → cutRow f (recordAt old place j) ≡ [])
+    → Gathering f old place count n new m (i + k)
+gathering-skip {f = f} {old = old} {place = place} {count = count} {n = n} {new = new} {m = m} {i = i} c s zero h none =
+    subst (Gathering f old place count n new m) (sym (add-zero i)) s
+gathering-skip {f = f} {old = old} {place = place} {count = count} {n = n} {new = new} {m = m} {i = i} c s (suc k) h none =
+    let before = gathering-skip c s k (omega (arith, h)) (λ j p q. none j p (omega (arith, q))) in
+    let next : (i + k) + 1 ≡ i + suc k = omega arith in
+    subst (Gathering f old place count n new m) next
+    (gathering-more c before (omega (arith, h)) (rw (none (i + k) (omega arith) (omega arith)) (append-none new m)))

@@ -2,3 +2,4 @@ pub mod Bringing
 pub mod Cutting
 pub mod Numbers
 pub mod Gathering
+pub mod Searching

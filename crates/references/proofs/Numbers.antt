@@ -14,8 +14,8 @@ use Rattle.model.specs.Bitmapping.{Record}
 use Rattle.model.specs.Quantities.{Addable, Movable}
 use Rattle.sorting.specs.declared.Row.{Row}
 use Rattle.normalisation.specs.Merging.{byDisplacement}
-use Rattle.steps.specs.Steps.{SmallOffset}
-use Rattle.references.specs.References.{Reference, shifted, through, unlessNone, Small, cutRecord, cutRow, Within}
+use Rattle.steps.specs.Steps.{SmallOffset, SmallAddress}
+use Rattle.references.specs.References.{Reference, shifted, through, unlessNone, SmallReference, cutRecord, cutRow, SmallRecord}
 
 -- ---- choices by a test
 
@@ -48,7 +48,7 @@ minus-of {b = b} {c = c} p q = ap (λ (z : ℤ). z -ℤ b) p ∙ ap (λ (z : ℤ
 
 -- ---- a small reference
 
-module _ {f : Reference} (small : Small f) where
+module _ {f : Reference} (small : SmallReference f) where
   -- the bit addresses that its ends stand for can be computed
   pub owner-low : Addable (f .low) (f .delta)
   owner-low =
@@ -85,6 +85,40 @@ module _ {f : Reference} (small : Small f) where
         high = omega (arith, ints, small .low, small .full, small .ownerHigh);
       }
 
+  -- its bit addresses at the owner, and the one in front of them, can be taken from a bit address
+  pub owner-last : {a high : ℤ} → SmallAddress a → high ≡ f .high +ℤ f .delta → Movable a high
+  owner-last k e =
+      let low = sum (f .low) (f .delta) in
+      let top = sum (f .high) (f .delta) in
+      record {
+        low = k .low;
+        high = k .high;
+        offsetLow = omega (arith, ints, e, small .full, small .ownerLow, neg (pos (2 ^ 62)));
+        offsetHigh = omega (arith, ints, e, small .ownerHigh);
+      }
+
+  module _ {low : ℤ} (e : low ≡ f .low +ℤ f .delta) where
+    pub owner-first : Movable low (pos 1)
+    owner-first =
+        let bottom = sum (f .low) (f .delta) in
+        let top = sum (f .high) (f .delta) in
+        record {
+          low = omega (arith, ints, e, small .ownerLow);
+          high = omega (arith, ints, e, small .full, small .ownerHigh);
+          offsetLow = omega (arith, ints, neg (pos (2 ^ 62)));
+          offsetHigh = omega (arith, ints);
+        }
+
+    pub owner-before : {a before : ℤ} → SmallAddress a → before ≡ low -ℤ pos 1 → Movable a before
+    owner-before k p =
+        let less = diff low (pos 1) in
+        record {
+          low = k .low;
+          high = k .high;
+          offsetLow = omega (arith, ints, p, owner-first, neg (pos (2 ^ 62)));
+          offsetHigh = omega (arith, ints, p, owner-first);
+        }
+
 -- ---- over an edge
 
 -- the ends, by bit addresses of the node that the edge enters
@@ -110,7 +144,7 @@ module _ (f u : Reference) (o : ℤ) {low high : ℤ} (lowest : low ≡ maxZ (f 
         ap some same ∙ ordered none (some (through o f u)) full
 
     -- the deltas can then be added: they take a bit address to one of the owner
-    module _ (taken : Small f) (source : Small u) (left : low ≤ℤ high) where
+    module _ (taken : SmallReference f) (source : SmallReference u) (left : low ≤ℤ high) where
       from : (pos 0 ≤ℤ low) × (high <ℤ pos (2 ^ 62))
       from =
           let up = max-is (f .low +ℤ f .delta) (u .low -ℤ o) in
@@ -184,7 +218,7 @@ min-moved a b d =
     let least = min-le a b (n -ℤ d) .1 (omega (arith, ints, after .0), omega (arith, ints, after .1)) in
     omega (arith, ints, least, most)
 
-module _ {s : Record} (within : Within s) where
+module _ {s : Record} (within : SmallRecord s) where
   -- the bit addresses at the node of the ends of a record can be computed
   pub first-movable : Movable (s .first) (s .displacement)
   first-movable =
@@ -206,6 +240,11 @@ module _ {s : Record} (within : Within s) where
         offsetHigh = first-movable .offsetHigh;
       }
 
+-- a record cut that has no bit gives no row
+pub cut-none : (f : Reference) (s : Record) → cutRecord f s .last <ℤ cutRecord f s .first → cutRow f s ≡ []
+unfolding cutRow
+cut-none f s h = sym (crossed [] (byDisplacement (cutRecord f s) ∷ []) h)
+
 -- the ends, by bit addresses of the owner
 module _ (f : Reference) (s : Record) {low high : ℤ} (lowest : low ≡ maxZ (s .first -ℤ s .displacement) (f .low +ℤ f .delta))
     (highest : high ≡ minZ (s .last -ℤ s .displacement) (f .high +ℤ f .delta))
@@ -223,10 +262,7 @@ module _ (f : Reference) (s : Record) {low high : ℤ} (lowest : low ≡ maxZ (s
 
     -- where the ends have crossed, there is no row
     pub cut-nothing : high <ℤ low → cutRow f s ≡ []
-    unfolding cutRow
-    cut-nothing h =
-        let empty : cutRecord f s .last <ℤ cutRecord f s .first = omega (arith, ints, h, cut-first, cut-last, sum low (s .displacement), sum high (s .displacement)) in
-        sym (crossed [] (byDisplacement (cutRecord f s) ∷ []) empty)
+    cut-nothing h = cut-none f s (omega (arith, ints, h, cut-first, cut-last, sum low (s .displacement), sum high (s .displacement)))
 
     -- where they have not, there is one
     pub cut-left : {begin end apart : ℤ} → low ≤ℤ high → begin ≡ low +ℤ s .displacement → end ≡ high +ℤ s .displacement → apart ≡ s .displacement +ℤ f .delta
@@ -240,7 +276,7 @@ module _ (f : Reference) (s : Record) {low high : ℤ} (lowest : low ≡ maxZ (s
         sym (ordered [] (byDisplacement (cutRecord f s) ∷ []) full) ∙ ap {B = List Row} (λ r. r ∷ []) (sym row)
 
     -- and its numbers can be computed
-    module _ (small : Small f) (within : Within s) (left : low ≤ℤ high) where
+    module _ (small : SmallReference f) (within : SmallRecord s) (left : low ≤ℤ high) where
       bounds : ((s .first -ℤ s .displacement) ≤ℤ low) × ((f .low +ℤ f .delta) ≤ℤ low) × (high ≤ℤ (s .last -ℤ s .displacement)) × (high ≤ℤ (f .high +ℤ f .delta))
       bounds =
           let up = max-is (s .first -ℤ s .displacement) (f .low +ℤ f .delta) in

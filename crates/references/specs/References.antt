@@ -1,18 +1,21 @@
 -- References: what arrives at a node from a root, as a part of what arrives at another node. Assumes nothing.
 use mathlib.Core.Bool.{Bool, cond, _&&_}
-use mathlib.Core.List.{List, [], _∷_, flatMap}
+use mathlib.Core.List.{List, [], _∷_, map, flatMap}
 use mathlib.Core.Option.{Option, none, some}
-use Prim.Native.Nat.{ℕ, _+_, _*_, _≤_, _^_}
+use Prim.Native.Nat.{ℕ, _+_, _*_, _≤_, _<_}
 use lib.IntN.{ℤ, pos, _+ℤ_, _-ℤ_}
 use lib.Signed.{ltZ, _≤ℤ_, _<ℤ_}
 use lib.ListN.{length, drop}
 use Rattle.integers.specs.Integers.{eqZ, minZ, maxZ}
 use Rattle.lists.specs.Lists.{_∈_}
+use Rattle.model.specs.Limits.{addressRoom}
 use Rattle.model.specs.Graph.{Graph, NodeRow, node, firstBit, lastBit}
 use Rattle.model.specs.Walk.{Walk}
 use Rattle.model.specs.Bitmapping.{Record}
 use Rattle.sorting.specs.declared.Row.{Row}
+use Rattle.sorting.specs.Rows.{rowAt, Ascending}
 use Rattle.normalisation.specs.Merging.{byDisplacement, recordsOf}
+use Rattle.steps.specs.Steps.{SmallAddress}
 use Rattle.references.specs.declared.Reference.{Reference as Held}
 use Rattle.references.specs.declared.Brought.{Brought}
 use Rattle.references.specs.declared.Brought.the-variants.{Left, Nothing}
@@ -66,21 +69,21 @@ broughtOf (Left f) = some (referenceOf f)
 broughtOf Nothing = none
 
 -- the owner is a node row; the reference has a bit address, all are below 2^62, and they stand for bit addresses of the owner
-pub record Lying (g : Graph) (f : Reference) : Type 0 where
+pub record InOwner (g : Graph) (f : Reference) : Type 0 where
   pub row : NodeRow g (f .owner)
   pub full : f .low ≤ℤ f .high
   pub low : pos 0 ≤ℤ f .low
-  pub high : f .high <ℤ pos (2 ^ 62)
+  pub high : f .high <ℤ pos addressRoom
   pub above : firstBit (node g (f .owner)) ≤ℤ (f .low +ℤ f .delta)
   pub below : (f .high +ℤ f .delta) ≤ℤ lastBit (node g (f .owner))
 
 -- the reference has a bit address; all, and those that they stand for at the owner, lie in 0 .. 2^62 − 1
-pub record Small (f : Reference) : Type 0 where
+pub record SmallReference (f : Reference) : Type 0 where
   pub full : f .low ≤ℤ f .high
   pub low : pos 0 ≤ℤ f .low
-  pub high : f .high <ℤ pos (2 ^ 62)
+  pub high : f .high <ℤ pos addressRoom
   pub ownerLow : pos 0 ≤ℤ (f .low +ℤ f .delta)
-  pub ownerHigh : (f .high +ℤ f .delta) <ℤ pos (2 ^ 62)
+  pub ownerHigh : (f .high +ℤ f .delta) <ℤ pos addressRoom
 
 -- two references are the same
 abbrev pub sameReference : Reference → Reference → Bool
@@ -106,21 +109,39 @@ unfoldable pub cutRows : Reference → List Record → List Row
 cutRows f l = flatMap (cutRow f) l
 
 -- a record whose root bits and whose bit addresses at the node lie in 0 .. 2^62 − 1
-pub record Within (s : Record) : Type 0 where
+pub record SmallRecord (s : Record) : Type 0 where
   pub full : s .first ≤ℤ s .last
   pub low : pos 0 ≤ℤ s .first
-  pub high : s .last <ℤ pos (2 ^ 62)
+  pub high : s .last <ℤ pos addressRoom
   pub above : pos 0 ≤ℤ (s .first -ℤ s .displacement)
-  pub below : (s .last -ℤ s .displacement) <ℤ pos (2 ^ 62)
+  pub below : (s .last -ℤ s .displacement) <ℤ pos addressRoom
 
 -- n records from row p of a flat list on, rows by displacement
 abbrev pub recordsAt : List ℤ → ℕ → ℕ → List Record
 recordsAt t p n = recordsOf (drop (3 * p) t) n
 
--- what gathering by a list starts from: rows from `place` on that stand before row n, each with root bits and bit addresses below 2^62, and room for as many
--- rows behind n
-pub record Cuttable (f : Reference) (t : List ℤ) (place count n : ℕ) : Type 0 where
-  pub small : Small f
+-- of `count` rows from row `place` on: those in front of `low` have displacements below d, those from `high` on have not
+pub record Parted (t : List ℤ) (place count : ℕ) (d : ℤ) (low high : ℕ) : Type 0 where
+  pub order : low ≤ high
+  pub within : high ≤ count
+  pub below : (i : ℕ) → i < low → rowAt t (place + i) .first <ℤ d
+  pub above : (i : ℕ) → high ≤ i → i < count → d ≤ℤ rowAt t (place + i) .first
+
+-- root bits from `first` on walk to no bit address of the reference at the owner by a displacement below this one
+abbrev pub leastOf : Reference → ℤ → ℤ
+leastOf f first = first -ℤ (f .high +ℤ f .delta)
+
+-- nor root bits up to `last` by this one or a higher
+abbrev pub pastOf : Reference → ℤ → ℤ
+pastOf f last = last -ℤ ((f .low +ℤ f .delta) -ℤ pos 1)
+
+-- what gathering by a list starts from: rows from `place` on that stand before row n, sorted by displacement, each with root bits from first to last and bit
+-- addresses below 2^62, and room for as many rows behind n
+pub record Cuttable (f : Reference) (first last : ℤ) (t : List ℤ) (place count n : ℕ) : Type 0 where
+  pub small : SmallReference f
+  pub root : SmallAddress first × SmallAddress last
   pub before : place + count ≤ n
   pub room : 3 * (n + count) ≤ length t
-  pub within : (q : Record) → q ∈ recordsAt t place count → Within q
+  pub ascending : Ascending (map byDisplacement (recordsAt t place count))
+  pub inside : (q : Record) → q ∈ recordsAt t place count → (first ≤ℤ q .first) × (q .last ≤ℤ last)
+  pub within : (q : Record) → q ∈ recordsAt t place count → SmallRecord q

@@ -1,17 +1,16 @@
 // References to what arrives at a node: shifted and clipped as the step over an edge does, and the rows that they have of a list.
 ghost use mathlib.Core.Path.{_≡_};
-ghost use mathlib.Core.List.{List};
+ghost use mathlib.Core.List.{List, map};
 ghost use Prim.Native.Nat.{_+_, _*_, _≤_, _<_};
 ghost use lib.IntN.{ℤ, pos};
 ghost use lib.ListN.{length};
-ghost use Rattle.integers.specs.Integers.{minZ, maxZ};
 ghost use Rattle.model.specs.Graph.{graphOf};
 ghost use Rattle.model.specs.Quantities.{Movable, Addable};
-ghost use Rattle.normalisation.specs.Merging.{ofDisplacement};
-ghost use Rattle.sorting.specs.Rows.{rowAt};
-ghost use Rattle.steps.specs.Steps.{GoodRow, SmallOffset};
+ghost use Rattle.normalisation.specs.Merging.{byDisplacement, ofDisplacement};
+ghost use Rattle.sorting.specs.Rows.{rowAt, Ascending};
+ghost use Rattle.steps.specs.Steps.{GoodRow, SmallOffset, SmallAddress};
 ghost use Rattle.listing.specs.Listing.{Appended};
-ghost use Rattle.references.specs.References.{referenceOf, own, shifted, through, unlessNone, broughtOf, Small, sameReference, cutRow, cutRows, Within, recordsAt, Cuttable};
+ghost use Rattle.references.specs.References.{referenceOf, own, shifted, through, unlessNone, broughtOf, SmallReference, sameReference, cutRow, cutRows, SmallRecord, recordsAt, Parted, leastOf, pastOf, Cuttable};
 use listing::append_row;
 use model::Bits;
 use sorting::Row;
@@ -31,18 +30,10 @@ pub enum Brought {
     Nothing,
 }
 
-// The lower of two bit addresses.
-fn lower(a: Bits, b: Bits) -> Bits
-    ensures { λ r. ⌜ r .0 ≡ minZ (a .0) (b .0) ⌝ }
-{
-    if a.0 <= b.0 { a } else { b }
-}
-
-// The higher of two bit addresses.
-fn higher(a: Bits, b: Bits) -> Bits
-    ensures { λ r. ⌜ r .0 ≡ maxZ (a .0) (b .0) ⌝ }
-{
-    if a.0 <= b.0 { b } else { a }
+// The least of some displacements, and the least past all of them.
+struct Displacements {
+    least: Bits,
+    past: Bits,
 }
 
 // Shift: every bit address less the offset.
@@ -65,7 +56,7 @@ pub fn shifted(f: Reference, offset: Bits) -> Reference
 // Of what f takes of the node that an edge with this bit offset enters: what comes over the edge, where u is what arrives at the node that it leaves. Whether
 // anything does is found before the deltas are added: their sum might not fit.
 pub fn through(f: Reference, u: Reference, offset: Bits) -> Brought
-    requires { ⌜ Small (referenceOf f) × Small (referenceOf u) × SmallOffset (offset .0) ⌝ }
+    requires { ⌜ SmallReference (referenceOf f) × SmallReference (referenceOf u) × SmallOffset (offset .0) ⌝ }
     ensures { λ r. ⌜ broughtOf r ≡ unlessNone (through (offset .0) (referenceOf f) (referenceOf u)) ⌝ }
 {
     let delta = f.delta;
@@ -74,8 +65,8 @@ pub fn through(f: Reference, u: Reference, offset: Bits) -> Brought
     let source = u.delta;
     let first = u.low;
     let last = u.high;
-    let low = higher(from.plus(delta), first.less(offset));
-    let high = lower(to.plus(delta), last.less(offset));
+    let low = from.plus(delta).higher(first.less(offset));
+    let high = to.plus(delta).lower(last.less(offset));
     if high.0 < low.0 {
         return Brought::Nothing;
     }
@@ -130,7 +121,7 @@ pub fn own_reference(nodes: &[i64], v: usize) -> Reference
 // bit addresses of the owner, before the displacement is added: the sum might not fit.
 fn append_cut(state: &mut [i64], p: usize, f: Reference, n: usize) -> usize
     requires { ⌜
-        (p < n) × (3 * n + 3 ≤ length (now state)) × Small (referenceOf f) × Within (ofDisplacement (rowAt (now state) p)) ⌝ }
+        (p < n) × (3 * n + 3 ≤ length (now state)) × SmallReference (referenceOf f) × SmallRecord (ofDisplacement (rowAt (now state) p)) ⌝ }
     ensures { λ r. ⌜ Appended (cutRow (referenceOf f) (ofDisplacement (rowAt (now (state .entry)) p))) (now (state .entry)) (now (state .exit)) n r ⌝ }
 {
     let row = row_at(state, p);
@@ -140,8 +131,8 @@ fn append_cut(state: &mut [i64], p: usize, f: Reference, n: usize) -> usize
     let delta = f.delta;
     let from = f.low;
     let to = f.high;
-    let low = higher(first.less(apart), from.plus(delta));
-    let high = lower(last.less(apart), to.plus(delta));
+    let low = first.less(apart).higher(from.plus(delta));
+    let high = last.less(apart).lower(to.plus(delta));
     if high.0 < low.0 {
         return n;
     }
@@ -159,14 +150,59 @@ fn append_cut(state: &mut [i64], p: usize, f: Reference, n: usize) -> usize
     )
 }
 
-// Appends what a reference has of the records of its owner's list, behind the first n rows. Returns how many rows stand there then.
-pub fn gather_list(state: &mut [i64], place: usize, count: usize, f: Reference, n: usize) -> usize
-    requires { ⌜ Cuttable (referenceOf f) (now state) place count n ⌝ }
+// Of `count` rows from row `place` on, by displacement and sorted: how many have displacements below d.
+fn rows_below(state: &[i64], place: usize, count: usize, d: Bits) -> usize
+    requires { ⌜ (3 * (place + count) ≤ length (now state)) × Ascending (map byDisplacement (recordsAt (now state) place count)) ⌝ }
+    ensures { λ r. ⌜ Parted (now (state .entry)) place count (d .0) r r ⌝ }
+{
+    let mut low: usize = 0;
+    let mut high = count;
+    while low < high {
+        let middle = (low + high) / 2;
+        let row = row_at(state, place + middle);
+        if row.first < d.0 {
+            low = middle + 1;
+        } else {
+            high = middle;
+        }
+    }
+    low
+}
+
+// The displacements by which root bits first .. last can walk to a bit address that a reference takes of its owner.
+fn reaching(f: Reference, first: Bits, last: Bits) -> Displacements
+    requires { ⌜ SmallReference (referenceOf f) × SmallAddress (first .0) × SmallAddress (last .0) ⌝ }
+    ensures { λ r. ⌜ (r .least .0 ≡ leastOf (referenceOf f) (first .0)) × (r .past .0 ≡ pastOf (referenceOf f) (last .0)) ⌝ }
+{
+    let delta = f.delta;
+    let from = f.low;
+    let to = f.high;
+    let low = from.plus(delta);
+    Displacements {
+        least: first.less(to.plus(delta)),
+        past: last.less(low.previous()),
+    }
+}
+
+// Appends what a reference has of the records of its owner's list, behind the first n rows, where the root has bits first .. last: the list is sorted by
+// displacement, and only a part of the displacements can lead to the bit addresses of the reference. Returns how many rows stand there then.
+pub fn gather_list(
+    state: &mut [i64],
+    place: usize,
+    count: usize,
+    f: Reference,
+    first: Bits,
+    last: Bits,
+    n: usize,
+) -> usize
+    requires { ⌜ Cuttable (referenceOf f) (first .0) (last .0) (now state) place count n ⌝ }
     ensures { λ r. ⌜ Appended (cutRows (referenceOf f) (recordsAt (now (state .entry)) place count)) (now (state .entry)) (now (state .exit)) n r ⌝ }
 {
+    let span = reaching(f, first, last);
+    let end = rows_below(state, place, count, span.past);
     let mut m = n;
-    let mut i: usize = 0;
-    while i < count {
+    let mut i = rows_below(state, place, count, span.least);
+    while i < end {
         m = append_cut(state, place + i, f, m);
         i += 1;
     }

@@ -1,39 +1,38 @@
 -- The measure is the remaining chain length. The loop's invariant is `Through`: what comes over the edges that are done; its measure is what is left of the edges.
 use mathlib.Core.Path.{_≡_, refl, sym, ap, _∙_, subst}
-use mathlib.Core.Bool.{Bool, true, false, not}
+use mathlib.Core.Bool.{true, false, not}
 use mathlib.Core.Logic.{_≢_, inl, inr}
 use lib.Dec.{T}
-use mathlib.Core.Option.{none, some}
-use Prim.Native.Nat.{ℕ, _<_, _≤_, _+_, _-_, _*_, _/_}
+use Prim.Native.Nat.{ℕ, _<_, _+_, _-_, _/_}
 use native.Mathlib.Omega.{arith}
 use borrow.Author.Needs.{needs}
 use borrow.Fn.Kinds.{In}
 use borrow.Fn.PlainCycle.{Measures, is, falls, and}
-use borrow.Author.Tests.{not-true, not-false}
-use lib.IntN.{ℤ, pos, natAbs}
-use lib.ListN.{length, getD}
-use Rattle.integers.proofs.Linear.{ints}
+use lib.IntN.{pos, natAbs}
+use lib.ListN.{length}
 use Rattle.model.specs.Rows.{edgeRows}
-use Rattle.model.specs.Graph.{graphOf, bitOffset}
-use Rattle.tables.proofs.Rows.{nodes-length, edges-length}
+use Rattle.model.specs.Graph.{graphOf, NodeRow, bitOffset}
+use Rattle.tables.proofs.Rows.{edges-length}
 use Rattle.tables.specs.Tables.{edgeAt}
-use Rattle.references.specs.References.{Reference, referenceOf, broughtOf, through, isNone}
+use Rattle.steps.proofs.Rows.{node-good}
+use Rattle.references.specs.References.{Reference, referenceOf, own, broughtOf, through, isNone}
 use Rattle.references.specs.declared.Reference.{Reference as Held}
 use Rattle.references.specs.declared.Brought.the-variants.{Left}
 use Rattle.references.proofs.Bringing.{none-brings}
-use Rattle.arrivals.specs.State.{isMet, referenceAt, isListed, countOf, rootIn}
-use Rattle.arrivals.specs.Sweep.{Gatherable, Gathered}
-use Rattle.arrivals.proofs.Gathering.{Through, owner-few, owner-list, list-cuttable, list-gathered, none-left, owner-other, head-is, through-start, through-end, through-agrees, next-is, next-onward, turn-crossable, turn-nothing, turn-part, part-gatherable, crossing-part, crossing-nothing}
+use Rattle.arrivals.specs.State.{isMet, referenceAt, isListed, placeOf, countOf, rootIn}
+use Rattle.arrivals.specs.Sweep.{Gatherable}
+use Rattle.arrivals.proofs.Gathering.{Through, owner-few, list-readable, list-cuttable, list-gathered, none-left, owner-other, head-is, through-start, through-end, through-agrees, next-is, next-onward, turn-crossable, turn-nothing, turn-part, part-gatherable, crossing-part, crossing-nothing}
 use Rattle.arrivals.proofs.gather.Reads as reads
 use Rattle.arrivals.proofs.gather.Kinds as kinds
 use Rattle.arrivals.proofs.+gather.Lts-gather as lts
 use Rattle.arrivals.proofs.brought_over.Reads as brought-over-reads
-use Rattle.arrivals.proofs.count_at.Reads as count-at-reads
 use Rattle.arrivals.proofs.is_listed.Reads as is-listed-reads
-use Rattle.arrivals.proofs.first_row.Reads as first-row-reads
+use Rattle.arrivals.proofs.kept_at.Reads as kept-at-reads
+use Rattle.arrivals.proofs.number_at.Reads as number-at-reads
 use Rattle.forward.proofs.first_entering.Reads as first-entering-reads
 use Rattle.forward.proofs.next_entering.Reads as next-entering-reads
 use Rattle.references.proofs.gather_list.Reads as gather-list-reads
+use Rattle.references.proofs.own_reference.Reads as own-reference-reads
 use Rattle.arrivals.proofs.+gather.{statement}
 use Rattle.arrivals.proofs.+gather.Tie.{close}
 
@@ -51,10 +50,12 @@ abbrev claims : ℕ → lts.Claims
 claims t = (
   is-listed-reads.Asked,
   is-listed-reads.Learnt,
-  first-row-reads.Asked,
-  first-row-reads.Learnt,
-  count-at-reads.Asked,
-  count-at-reads.Learnt,
+  kept-at-reads.Asked,
+  kept-at-reads.Learnt,
+  number-at-reads.Asked,
+  number-at-reads.Learnt,
+  own-reference-reads.Asked,
+  own-reference-reads.Learnt,
   gather-list-reads.Asked,
   gather-list-reads.Learnt,
   first-entering-reads.Asked,
@@ -89,28 +90,44 @@ module _ (t : ℕ) where
   is-listed-requires : lts.Need-is-listed-requires (claims t) (at t) reads.Post Inv-loop μ-loop
   is-listed-requires c κs = let s = c .before .before in let k = s .pre .1 in omega (arith, owner-few k (s .args .f .owner) refl, k .sweeping .room)
 
-  first-row-requires : lts.Need-first-row-requires (claims t) (at t) reads.Post Inv-loop μ-loop
-  first-row-requires c κs =
-      let b = c .before .before in
+  kept-at-requires : lts.Need-kept-at-requires (claims t) (at t) reads.Post Inv-loop μ-loop
+  kept-at-requires c κs =
+      let b = c .before in
       let s = b .before .before .before .before in
-      let k = s .pre .1 in
-      (omega (arith, owner-few k (s .args .f .owner) refl, k .sweeping .room), listed b)
+      list-readable (s .pre .1) (s .args .f .owner) refl (listed b)
 
-  count-at-requires : lts.Need-count-at-requires (claims t) (at t) reads.Post Inv-loop μ-loop
-  count-at-requires c κs =
-      let b = c .before .before .before .before in
-      let s = b .before .before .before .before in
-      let k = s .pre .1 in
-      let l = owner-list k (s .args .f .owner) refl (listed b) in
-      (omega (arith, owner-few k (s .args .f .owner) refl, k .sweeping .room), omega (arith, ints, l .counted))
+  number-at-requires : lts.Need-number-at-requires (claims t) (at t) reads.Post Inv-loop μ-loop
+  number-at-requires c κs =
+      let w = c .before .before .before .before .before .before .before .pre .1 .sweeping in
+      (omega (arith, w .room), w .root .row .low)
+
+  own-reference-requires : lts.Need-own-reference-requires (claims t) (at t) reads.Post Inv-loop μ-loop
+  own-reference-requires c κs =
+      let s = c .before .before .before .before .before .before .before .before in
+      let w = s .pre .1 .sweeping in
+      node-good (w .tables) (subst (NodeRow (graphOf (s .args .nodes .now) (s .args .edges .now))) (sym (c .number-at .ensures)) (w .root .row))
+
+  -- the reference to all bits of the root
+  root-bits : (c : lts.After-own-reference (claims t) (at t) reads.Post Inv-loop μ-loop)
+      → let s = c .before .before .before .before .before .before .before .before .before in
+      referenceOf (c .own-reference .result) ≡ own (graphOf (s .args .nodes .now) (s .args .edges .now)) (rootIn (s .args .state .now))
+  root-bits c =
+      let s = c .before .before .before .before .before .before .before .before .before in
+      c .own-reference .ensures (s .args .edges .now) ∙ ap (own (graphOf (s .args .nodes .now) (s .args .edges .now))) (c .before .number-at .ensures)
+
+  -- where the list stands
+  place : (c : lts.After-kept-at (claims t) (at t) reads.Post Inv-loop μ-loop)
+      → let s = c .before .before .before .before .before .before in
+      (c .kept-at .result .row ≡ placeOf (s .args .state .now) (s .args .f .owner)) × (c .kept-at .result .count ≡ countOf (s .args .state .now) (s .args .f .owner))
+  place c = (ap natAbs (c .kept-at .ensures .0), ap natAbs (c .kept-at .ensures .1))
 
   gather-list-requires : lts.Need-gather-list-requires (claims t) (at t) reads.Post Inv-loop μ-loop
   gather-list-requires c κs =
-      let r = c .before .before in
-      let b = r .before .before .before in
+      let o = c .before in
+      let r = o .before .before .before in
+      let b = r .before .before in
       let s = b .before .before .before .before in
-      let count : c .count-at .result ≡ countOf (s .args .state .now) (s .args .f .owner) = ap natAbs (c .count-at .ensures) in
-      rw (r .first-row .ensures, count) (list-cuttable (s .pre .1) (s .args .f .owner) refl (listed b))
+      rw (place r .0, place r .1) (list-cuttable (s .pre .1) (s .args .f .owner) refl (listed b) (root-bits o))
 
   same-length : lts.Need-same-length (claims t) (at t) reads.Post Inv-loop μ-loop
   same-length c = search needs
@@ -118,12 +135,10 @@ module _ (t : ℕ) where
   returns : lts.Need-returns (claims t) (at t) reads.Post Inv-loop μ-loop
   returns c =
       let a = c .before in
-      let d = a .before in
-      let r = d .before .before in
-      let b = r .before .before .before in
+      let r = a .before .before .before .before .before in
+      let b = r .before .before in
       let s = b .before .before .before .before in
-      let count : d .count-at .result ≡ countOf (s .args .state .now) (s .args .f .owner) = ap natAbs (d .count-at .ensures) in
-      list-gathered (s .pre .1) (s .args .f .owner) refl (listed b) (rw (← r .first-row .ensures, ← count) (a .gather-list .ensures))
+      list-gathered (s .pre .1) (s .args .f .owner) refl (listed b) (rw (← place r .0, ← place r .1) (a .gather-list .ensures))
 
   same-length-2 : lts.Need-same-length-2 (claims t) (at t) reads.Post Inv-loop μ-loop
   same-length-2 c = search needs
@@ -254,8 +269,9 @@ pub +gather-spec : {M : Type 1} → statement M
     close μ-gather
     λ t. lts.spec (claims t) (at t) reads.Post Inv-loop μ-loop
     (is-listed-requires t)
-    (first-row-requires t)
-    (count-at-requires t)
+    (kept-at-requires t)
+    (number-at-requires t)
+    (own-reference-requires t)
     (gather-list-requires t)
     (same-length t)
     (returns t)

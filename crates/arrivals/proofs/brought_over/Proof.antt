@@ -3,7 +3,7 @@ use mathlib.Core.Path.{_≡_, sym, ap, subst, _∙_}
 use mathlib.Core.Bool.{true}
 use borrow.Author.Needs.{needs}
 use borrow.Author.Tests.{not-true, not-false}
-use Rattle.references.specs.References.{Reference, referenceOf, through, unlessNone, Small}
+use Rattle.references.specs.References.{Reference, referenceOf, through, unlessNone, SmallReference}
 use Rattle.steps.proofs.Rows.{edge-small}
 use Rattle.arrivals.specs.State.{isMet}
 use Rattle.arrivals.proofs.Moves.{from-row, from-marked, crossing-none, crossing-some}
@@ -27,16 +27,13 @@ returns c =
 reference-at-requires : tie.Need-reference-at-requires
 reference-at-requires c κs = let f = c .before .before in (from-marked (f .before .pre) (f .edge-from .ensures), met c)
 
-offset-of-requires : tie.Need-offset-of-requires
-offset-of-requires c κs = search needs
-
 through-requires : tie.Need-through-requires
 through-requires c κs =
     let r = c .before in
     let f = r .before .before .before in
     let s = f .before in (
       s .pre .small,
-      subst Small (sym (r .reference-at .ensures)) (s .pre .source (f .edge-from .result) (f .edge-from .ensures) (met (r .before))),
+      subst SmallReference (sym (r .reference-at .ensures)) (s .pre .source (f .edge-from .result) (f .edge-from .ensures) (met (r .before))),
       edge-small (s .pre .tables) (s .args .e) (s .pre .there) (c .offset-of .ensures),
     )
 
@@ -58,6 +55,6 @@ brought-over-spec =
     is-met-requires
     returns
     reference-at-requires
-    offset-of-requires
+    (λ c κs. search needs)
     through-requires
     returns-2)

@@ -11,18 +11,6 @@ use mir.Syntax.{w64}
 use Rattle.arrivals.proofs.is_listed.Statement.{statement}
 use Rattle.arrivals.proofs.is_listed.Tie as tie
 
-mul-place : tie.Need-mul-place
-mul-place c = search needs
-
-add-place : tie.Need-add-place
-add-place c = search needs
-
-mul-place-2 : tie.Need-mul-place-2
-mul-place-2 c = search needs
-
-shared-slice-copy-out-place : tie.Need-shared-slice-copy-out-place
-shared-slice-copy-out-place c = search needs
-
 returns : tie.Need-returns
 returns c =
     let s = c .before in
@@ -30,4 +18,4 @@ returns c =
     ap (leZ (pos 0)) (toZ-ofZ fits)
 
 pub is-listed-spec : {M : Type 1} → statement M
-is-listed-spec = tie.close (tie.spec mul-place add-place mul-place-2 shared-slice-copy-out-place returns)
+is-listed-spec = tie.close (tie.spec (λ c. search needs) (λ c. search needs) (λ c. search needs) (λ c. search needs) returns)

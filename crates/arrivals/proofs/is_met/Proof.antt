@@ -12,15 +12,6 @@ use Rattle.arrivals.proofs.Marks.{owner-number}
 use Rattle.arrivals.proofs.is_met.Statement.{statement}
 use Rattle.arrivals.proofs.is_met.Tie as tie
 
-mul-owner : tie.Need-mul-owner
-mul-owner c = search needs
-
-mul-owner-2 : tie.Need-mul-owner-2
-mul-owner-2 c = search needs
-
-shared-slice-copy-out-owner : tie.Need-shared-slice-copy-out-owner
-shared-slice-copy-out-owner c = search needs
-
 returns : tie.Need-returns
 returns c =
     let s = c .before in
@@ -28,4 +19,4 @@ returns c =
     ap (leZ (pos 0)) (toZ-ofZ fits ∙ owner-number (s .args .state .now) (s .args .v))
 
 pub is-met-spec : {M : Type 1} → statement M
-is-met-spec = tie.close (tie.spec mul-owner mul-owner-2 shared-slice-copy-out-owner returns)
+is-met-spec = tie.close (tie.spec (λ c. search needs) (λ c. search needs) (λ c. search needs) returns)

@@ -23,17 +23,8 @@ owner-row : (c : tie.After-own-reference) → c .own-reference .result .owner < 
 owner-row c =
     let s = c .before in omega (arith, own-owner (graphOf (s .args .nodes .now) []) (c .own-reference .ensures []), s .pre .row)
 
-own-reference-requires : tie.Need-own-reference-requires
-own-reference-requires c κs = search needs
-
-add-if1 : tie.Need-add-if1
-add-if1 c = search needs
-
 put-mark-requires : tie.Need-put-mark-requires
 put-mark-requires c κs = let s = c .before .before .before in (omega (arith, s .pre .row, s .pre .room), owner-row (c .before .before))
-
-same-length : tie.Need-same-length
-same-length c = search needs
 
 returns : tie.Need-returns
 returns c = λ es.
@@ -43,26 +34,8 @@ returns c = λ es.
     ∙ ap (λ (x : Reference). setMark (s .args .state .now) (s .args .v) (marked x (negsuc 1) (pos 0))) (i .before .own-reference .ensures es)
     ∙ sym (storing-full (all s es) (s .args .v) (s .args .used) (s .args .k) (s .args .state .now) (omega arith))
 
-cast-put-mark : tie.Need-cast-put-mark
-cast-put-mark c = search needs
-
-cast-put-mark-2 : tie.Need-cast-put-mark-2
-cast-put-mark-2 c = search needs
-
 put-mark-requires-2 : tie.Need-put-mark-requires-2
 put-mark-requires-2 c κs = let s = c .before .before .before in (omega (arith, s .pre .row, s .pre .room), owner-row (c .before .before))
-
-add-state : tie.Need-add-state
-add-state c = search needs
-
-cast-state : tie.Need-cast-state
-cast-state c = search needs
-
-slice-set-from-state : tie.Need-slice-set-from-state
-slice-set-from-state c = search needs
-
-same-length-2 : tie.Need-same-length-2
-same-length-2 c = search needs
 
 returns-2 : tie.Need-returns-2
 returns-2 c = λ es.
@@ -85,16 +58,16 @@ pub keep-rows-spec : {M : Type 1} → statement M
 keep-rows-spec =
     tie.close
     (tie.spec
-    own-reference-requires
-    add-if1
+    (λ c κs. search needs)
+    (λ c. search needs)
     put-mark-requires
-    same-length
+    (λ c. search needs)
     returns
-    cast-put-mark
-    cast-put-mark-2
+    (λ c. search needs)
+    (λ c. search needs)
     put-mark-requires-2
-    add-state
-    cast-state
-    slice-set-from-state
-    same-length-2
+    (λ c. search needs)
+    (λ c. search needs)
+    (λ c. search needs)
+    (λ c. search needs)
     returns-2)

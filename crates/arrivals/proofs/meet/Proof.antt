@@ -2,10 +2,14 @@
 use mathlib.Core.Path.{_≡_, sym, ap, _∙_}
 use mathlib.Core.Bool.{true}
 use mathlib.Core.List.{List, []}
+use Prim.Native.Nat.{_+_, _*_, _≤_}
 use native.Mathlib.Omega.{arith}
 use borrow.Author.Needs.{needs}
 use borrow.Author.Tests.{not-true, not-false}
 use lib.IntN.{ℤ, pos, negsuc}
+use lib.ListN.{length}
+use mir.Syntax.{w64}
+use mir.Val.{toZ, ofZ}
 use Rattle.model.specs.Graph.{graphOf}
 use Rattle.references.specs.References.{Reference, referenceOf, own, sameReference}
 use Rattle.arrivals.specs.State.{setMark, marked, isMet, referenceAt}
@@ -13,104 +17,102 @@ use Rattle.arrivals.proofs.Moves.{own-owner, meeting-first, meeting-sam
 use Rattle.arrivals.proofs.meet.Statement.{statement}
 use Rattle.arrivals.proofs.meet.Tie as tie
 
+-- the rows that were counted, as the code holds them
+abbrev rows : tie.After-rows-met → ℤ
+rows r = toZ w64 (ofZ w64 (r .rows-met .result))
+
 -- the reference to all that arrives at v
 abbrev all : tie.Start → List ℤ → Reference
 all s es = own (graphOf (s .args .nodes .now) es) (pos (s .args .v))
 
-met : (c : tie.Else1) → isMet (c .before .before .before .args .state .now) (c .before .before .before .args .v) ≡ true
-met c = sym (c .before .is-met .ensures) ∙ not-false _ (c .if1 .left)
+-- the entry of the function
+abbrev start : tie.After-rows-met → tie.Start
+start r = r .before .before
 
--- the test compares the reference of v with the one that has come
-compared : (c : tie.After-same-reference) → let s = c .before .before .before .before .before .before in
-    c .same-reference .result ≡ sameReference (referenceAt (s .args .state .now) (s .args .v)) (referenceOf (s .args .f))
-compared c =
-    let s = c .before .before .before .before .before .before in
-    c .same-reference .ensures ∙ ap (λ (x : Reference). sameReference x (referenceOf (s .args .f))) (c .before .reference-at .ensures)
+rows-met-requires : tie.Need-rows-met-requires
+rows-met-requires c κs = let p = c .before .pre in (omega (arith, p .1, p .2), omega (arith, p .2, p .3))
+
+mark-there : (s : tie.Start) → 6 * s .args .v + 6 ≤ length (s .args .state .now)
+mark-there s = omega (arith, s .pre .1, s .pre .2)
 
 is-met-requires : tie.Need-is-met-requires
-is-met-requires c κs = search needs
+is-met-requires c κs = mark-there (start (c .before))
 
 put-mark-requires : tie.Need-put-mark-requires
-put-mark-requires c κs = search needs
-
-same-length : tie.Need-same-length
-same-length c = search needs
+put-mark-requires c κs = let s = start (c .before .before .before .before) in (mark-there s, s .pre .3)
 
 returns : tie.Need-returns
-returns c = λ es.
+returns c =
     let t = c .before .before .before in
-    let s = t .before .before .before in
-    c .before .put-mark .ensures
-    ∙ sym
-    (meeting-first
-    (s .args .state .now)
-    (s .args .v)
-    (all s es)
-    (referenceOf (s .args .f))
-    (sym (t .before .is-met .ensures) ∙ not-true _ (t .if1 .taken)))
+    let r = t .before .before .before in
+    let s = start r in (
+      rows r,
+      λ es.
+          c .before .put-mark .ensures
+          ∙ sym
+          (meeting-first (s .args .state .now) (s .args .v) (all s es) (referenceOf (s .args .f)) (rows r)
+          (sym (t .before .is-met .ensures) ∙ not-true _ (t .if1 .taken))),
+    )
+
+-- something has arrived at v
+met : (c : tie.Else1) → let s = start (c .before .before .before) .args in isMet (s .state .now) (s .v) ≡ true
+met c = sym (c .before .is-met .ensures) ∙ not-false _ (c .if1 .left)
 
 reference-at-requires : tie.Need-reference-at-requires
-reference-at-requires c κs = let s = c .before .before .before .before in (s .pre .2, met (c .before))
+reference-at-requires c κs = let e = c .before in (mark-there (start (e .before .before .before)), met e)
 
-same-reference-requires : tie.Need-same-reference-requires
-same-reference-requires c κs = search needs
-
-same-length-2 : tie.Need-same-length-2
-same-length-2 c = search needs
+-- the test compares the reference of v with the one that has come
+compared : (c : tie.After-same-reference) → let s = start (c .before .before .before .before .before .before) in
+    c .same-reference .result ≡ sameReference (referenceAt (s .args .state .now) (s .args .v)) (referenceOf (s .args .f))
+compared c =
+    c .same-reference .ensures
+    ∙ ap (λ (x : Reference). sameReference x (referenceOf (start (c .before .before .before .before .before .before) .args .f))) (c .before .reference-at .ensures)
 
 returns-2 : tie.Need-returns-2
-returns-2 c = λ es.
+returns-2 c =
     let m = c .before in
-    let s = m .before .before .before .before .before .before in
-    sym
-    (meeting-same
-    (s .args .state .now)
-    (s .args .v)
-    (all s es)
-    (referenceOf (s .args .f))
-    (met (m .before .before .before))
-    (sym (compared m) ∙ c .if2 .taken))
-
-own-reference-requires : tie.Need-own-reference-requires
-own-reference-requires c κs = search needs
+    let s = start (m .before .before .before .before .before .before) in (
+      pos 0,
+      λ es.
+          sym
+          (meeting-same (s .args .state .now) (s .args .v) (all s es) (referenceOf (s .args .f)) (pos 0) (met (m .before .before .before))
+          (sym (compared m) ∙ c .if2 .taken)),
+    )
 
 put-mark-requires-2 : tie.Need-put-mark-requires-2
 put-mark-requires-2 c κs =
-    let s = c .before .before .before .before .before .before .before .before .before in
-    (s .pre .2, omega (arith, own-owner (graphOf (s .args .nodes .now) []) (c .own-reference .ensures []), s .pre .1))
-
-same-length-3 : tie.Need-same-length-3
-same-length-3 c = search needs
+    let s = start (c .before .before .before .before .before .before .before .before .before) in
+    (mark-there s, omega (arith, own-owner (graphOf (s .args .nodes .now) []) (c .own-reference .ensures []), s .pre .1))
 
 returns-3 : tie.Need-returns-3
-returns-3 c = λ es.
+returns-3 c =
     let o = c .before .before in
     let m = o .before .before .before in
-    let s = m .before .before .before .before .before .before in
-    c .before .put-mark2 .ensures
-    ∙ ap (λ (x : Reference). setMark (s .args .state .now) (s .args .v) (marked x (negsuc 0) (pos 0))) (o .own-reference .ensures es)
-    ∙ sym
-    (meeting-other
-    (s .args .state .now)
-    (s .args .v)
-    (all s es)
-    (referenceOf (s .args .f))
-    (met (m .before .before .before))
-    (sym (compared m) ∙ o .before .before .if2 .left))
+    let r = m .before .before .before .before .before .before in
+    let s = start r in (
+      rows r,
+      λ es.
+          c .before .put-mark2 .ensures
+          ∙ ap (λ (x : Reference). setMark (s .args .state .now) (s .args .v) (marked x (negsuc 0) (rows r))) (o .own-reference .ensures es)
+          ∙ sym
+          (meeting-other (s .args .state .now) (s .args .v) (all s es) (referenceOf (s .args .f)) (rows r) (met (m .before .before .before))
+          (sym (compared m) ∙ o .before .before .if2 .left)),
+    )
 
 pub meet-spec : {M : Type 1} → statement M
 meet-spec =
     tie.close
     (tie.spec
+    rows-met-requires
     is-met-requires
     put-mark-requires
-    same-length
+    (λ c. search needs)
     returns
     reference-at-requires
-    same-reference-requires
-    same-length-2
+    (λ c κs. search needs)
+    (λ c. search needs)
     returns-2
-    own-reference-requires
+    (λ c κs. search needs)
     put-mark-requires-2
-    same-length-3
+    (λ c. search needs)
     returns-3)

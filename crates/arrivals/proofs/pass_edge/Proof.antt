@@ -59,9 +59,6 @@ came k =
     let s = p .before .before in
     crossing-read (kept l) (s .pre .there) (p .passed-row .ensures) (enters t) (o .own-reference .ensures (s .args .edges .now)) (k .brought-over .ensures)
 
-passed-row-requires : tie.Need-passed-row-requires
-passed-row-requires c κs = search needs
-
 edge-from-requires : tie.Need-edge-from-requires
 edge-from-requires c κs =
     let s = c .before .before in
@@ -74,9 +71,6 @@ is-met-requires c κs =
     let s = k .before .before .before in
     let w = s .pre .sweeping in
     omega (arith, w .room, row-few (w .tables) (next-from w (s .pre .there) (leaves k)))
-
-same-length : tie.Need-same-length
-same-length c = search needs
 
 returns : tie.Need-returns
 returns c =
@@ -115,9 +109,6 @@ brought-over-requires c κs =
     let s = p .before .before in
     next-crossable (kept l) (s .pre .there) (p .passed-row .ensures) (enters t) (o .own-reference .ensures (s .args .edges .now))
 
-enum-known-brought : tie.Need-enum-known-brought
-enum-known-brought c = search needs
-
 meet-requires : tie.Need-meet-requires
 meet-requires c κs =
     let b = c .before .before in
@@ -128,19 +119,10 @@ meet-requires c κs =
     let w = kept l in
     let row = next-to w there (enters t) in
     let low = row-few (w .tables) row in
-    let lying =
-    brought-lying w there (e .edge-from .result) (leaves e) (l .keep-list .ensures .met) (t .edge-to .result) (referenceOf (b .brought .given .0 .0)) (enters t)
+    let inOwner =
+    brought-lying w there (e .edge-from .result) (leaves e) (l .keep-list .ensures .met) (t .edge-to .result) (referenceOf (b .brought .given .0 .0)) (pos 0) (enters t)
     (came (b .before .before) ∙ ap broughtOf (b .brought .given .1)) in
-    (node-good (w .tables) row, low, omega (arith, w .room), row-few (w .tables) (lying .row))
-
-enum-told : tie.Need-enum-told
-enum-told c = search needs
-
-same-length-2 : tie.Need-same-length-2
-same-length-2 c = search needs
-
-same-length-3 : tie.Need-same-length-3
-same-length-3 c = search needs
+    (node-good (w .tables) row, low, omega (arith, w .room), row-few (w .tables) (inOwner .row))
 
 returns-2 : tie.Need-returns-2
 returns-2 c =
@@ -154,18 +136,13 @@ returns-2 c =
     let there = s .pre .there in
     let w = kept l in
     let f = referenceOf (b .brought .given .0 .0) in
-    rw (m .meet .ensures (s .args .edges .now)) (
-      sweeping-met w there (e .edge-from .result) (leaves e) (l .keep-list .ensures .met) (t .edge-to .result) f (enters t)
+    let rows = m .meet .ensures .0 in
+    rw (m .meet .ensures .1 (s .args .edges .now)) (
+      sweeping-met w there (e .edge-from .result) (leaves e) (l .keep-list .ensures .met) (t .edge-to .result) f rows (enters t)
           (came (b .before .before) ∙ ap broughtOf (b .brought .given .1)),
-      meeting-root (l .keep-list .last .1 .1 .1 .1 .0) (t .edge-to .result) (own g (pos (t .edge-to .result))) f (row-few (w .tables) (next-to w there (enters t)))
+      meeting-root (l .keep-list .last .1 .1 .1 .1 .0) (t .edge-to .result) (own g (pos (t .edge-to .result))) f rows (row-few (w .tables) (next-to w there (enters t)))
           ∙ l .keep-list .ensures .root,
     )
-
-same-length-4 : tie.Need-same-length-4
-same-length-4 c = search needs
-
-same-length-5 : tie.Need-same-length-5
-same-length-5 c = search needs
 
 returns-3 : tie.Need-returns-3
 returns-3 c =
@@ -181,21 +158,21 @@ pub pass-edge-spec : {M : Type 1} → statement M
 pass-edge-spec =
     tie.close
     (tie.spec
-    passed-row-requires
+    (λ c κs. search needs)
     edge-from-requires
     is-met-requires
-    same-length
+    (λ c. search needs)
     returns
     keep-list-requires
     edge-to-requires
     own-reference-requires
     brought-over-requires
-    enum-known-brought
+    (λ c. search needs)
     meet-requires
-    enum-told
-    same-length-2
-    same-length-3
+    (λ c. search needs)
+    (λ c. search needs)
+    (λ c. search needs)
     returns-2
-    same-length-4
-    same-length-5
+    (λ c. search needs)
+    (λ c. search needs)
     returns-3)

@@ -13,66 +13,12 @@ use Rattle.arrivals.proofs.Marks.{owner-number, owner-low}
 use Rattle.arrivals.proofs.reference_at.Statement.{statement}
 use Rattle.arrivals.proofs.reference_at.Tie as tie
 
-mul-owner : tie.Need-mul-owner
-mul-owner c = search needs
-
-mul-owner-2 : tie.Need-mul-owner-2
-mul-owner-2 c = search needs
-
-shared-slice-copy-out-owner : tie.Need-shared-slice-copy-out-owner
-shared-slice-copy-out-owner c = search needs
-
-mul-delta : tie.Need-mul-delta
-mul-delta c = search needs
-
-add-delta : tie.Need-add-delta
-add-delta c = search needs
-
-mul-delta-2 : tie.Need-mul-delta-2
-mul-delta-2 c = search needs
-
-shared-slice-copy-out-delta : tie.Need-shared-slice-copy-out-delta
-shared-slice-copy-out-delta c = search needs
-
-mul-low : tie.Need-mul-low
-mul-low c = search needs
-
-add-low : tie.Need-add-low
-add-low c = search needs
-
-mul-low-2 : tie.Need-mul-low-2
-mul-low-2 c = search needs
-
-shared-slice-copy-out-low : tie.Need-shared-slice-copy-out-low
-shared-slice-copy-out-low c = search needs
-
-mul-high : tie.Need-mul-high
-mul-high c = search needs
-
-add-high : tie.Need-add-high
-add-high c = search needs
-
-mul-high-2 : tie.Need-mul-high-2
-mul-high-2 c = search needs
-
-shared-slice-copy-out-high : tie.Need-shared-slice-copy-out-high
-shared-slice-copy-out-high c = search needs
-
 cast-t7 : tie.Need-cast-t7
 cast-t7 c =
     let s = c .before .before .before .before in
     index-fits
     (sfits-of {w = w64} {z = getD (s .args .state .now) (6 * s .args .v) (pos 0)} (c .before .before .before .owner .given))
     (owner-low (s .args .state .now) (s .args .v) (s .pre .1))
-
-of-requires : tie.Need-of-requires
-of-requires c κs = search needs
-
-of-requires-2 : tie.Need-of-requires-2
-of-requires-2 c κs = search needs
-
-of-requires-3 : tie.Need-of-requires-3
-of-requires-3 c κs = search needs
 
 returns : tie.Need-returns
 returns c =
@@ -92,23 +38,23 @@ pub reference-at-spec : {M : Type 1} → statement M
 reference-at-spec =
     tie.close
     (tie.spec
-    mul-owner
-    mul-owner-2
-    shared-slice-copy-out-owner
-    mul-delta
-    add-delta
-    mul-delta-2
-    shared-slice-copy-out-delta
-    mul-low
-    add-low
-    mul-low-2
-    shared-slice-copy-out-low
-    mul-high
-    add-high
-    mul-high-2
-    shared-slice-copy-out-high
+    (λ c. search needs)
+    (λ c. search needs)
+    (λ c. search needs)
+    (λ c. search needs)
+    (λ c. search needs)
+    (λ c. search needs)
+    (λ c. search needs)
+    (λ c. search needs)
+    (λ c. search needs)
+    (λ c. search needs)
+    (λ c. search needs)
+    (λ c. search needs)
+    (λ c. search needs)
+    (λ c. search needs)
+    (λ c. search needs)
     cast-t7
-    of-requires
-    of-requires-2
-    of-requires-3
+    (λ c κs. search needs)
+    (λ c κs. search needs)
+    (λ c κs. search needs)
     returns)

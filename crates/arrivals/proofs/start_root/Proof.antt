@@ -14,29 +14,11 @@ use Rattle.arrivals.proofs.Moves.{own-owner, root-stored}
 use Rattle.arrivals.proofs.start_root.Statement.{statement}
 use Rattle.arrivals.proofs.start_root.Tie as tie
 
-own-reference-requires : tie.Need-own-reference-requires
-own-reference-requires c κs = search needs
-
-cast-put-mark : tie.Need-cast-put-mark
-cast-put-mark c = search needs
-
 put-mark-requires : tie.Need-put-mark-requires
 put-mark-requires c κs =
     let o = c .before .before .before in
     let s = o .before in
     omega (arith, own-owner (graphOf (s .args .nodes .now) []) (o .own-reference .ensures []), s .pre .1, s .pre .2)
-
-append-row-requires : tie.Need-append-row-requires
-append-row-requires c κs = search needs
-
-cast-state : tie.Need-cast-state
-cast-state c = search needs
-
-slice-set-from-state : tie.Need-slice-set-from-state
-slice-set-from-state c = search needs
-
-cast-state-2 : tie.Need-cast-state-2
-cast-state-2 c = search needs
 
 slice-set-from-state-2 : tie.Need-slice-set-from-state-2
 slice-set-from-state-2 c = simp length-set (omega arith)
@@ -69,13 +51,13 @@ pub start-root-spec : {M : Type 1} → statement M
 start-root-spec =
     tie.close
     (tie.spec
-    own-reference-requires
-    cast-put-mark
+    (λ c κs. search needs)
+    (λ c. search needs)
     put-mark-requires
-    append-row-requires
-    cast-state
-    slice-set-from-state
-    cast-state-2
+    (λ c κs. search needs)
+    (λ c. search needs)
+    (λ c. search needs)
+    (λ c. search needs)
     slice-set-from-state-2
     same-length
     returns)

@@ -32,7 +32,7 @@ loop-holds : tie.Need-loop-holds Inv-loop μ-loop
 loop-holds c = let s = c .before in (omega arith, refl, rows-start (s .args .pairs .now) (s .args .column) (s .pre))
 
 pair-node-requires : tie.Need-pair-node-requires Inv-loop μ-loop
-pair-node-requires c κs = (c .before .before .before .pre .column, omega (arith, c .loop-test .taken), turn-within c .low)
+pair-node-requires c κs = (c .before .before .before .pre .inPair, omega (arith, c .loop-test .taken), turn-within c .low)
 
 mul-marks : tie.Need-mul-marks Inv-loop μ-loop
 mul-marks c = omega (arith, turn-index c)
@@ -63,7 +63,7 @@ returns : tie.Need-returns Inv-loop μ-loop
 returns c =
     let l = c .before in
     let s = l .before .before in
-    rows-end (s .args .pairs .now) (s .args .column) (s .pre .column) (omega (arith, l .loop .inv .0, c .loop-test .left)) (l .loop .inv .2)
+    rows-end (s .args .pairs .now) (s .args .column) (s .pre .inPair) (omega (arith, l .loop .inv .0, c .loop-test .left)) (l .loop .inv .2)
 
 pub mark-leaves-spec : {M : Type 1} → statement M
 mark-leaves-spec =

@@ -4,7 +4,7 @@ use Prim.Native.Nat.{ℕ}
 use native.Mathlib.Omega.{arith}
 use lib.ListN.{length, length-replicate}
 use Rattle.model.specs.Limits.{maxNodes}
-use Rattle.forward.specs.Passes.{Passable}
+use Rattle.forward.specs.Passes.{BackwardRows}
 use Rattle.forward.proofs.Plan.{leading-marks, plan-markable, plan-passable, plan-planned, plan-leading}
 use borrow.Author.Needs.{needs}
 use Rattle.forward.proofs.plan_graph.Statement.{statement}
@@ -17,40 +17,25 @@ start k = k .before .before .before .before
 -- there is a mark for each node behind the second pass too
 marks-passable : (k : tie.After-mark-leading)
     → let s = start (k .before .before .before) in
-    Passable (s .args .edges .now) (s .args .order .now) (length (k .mark-leading .last .1 .1 .0))
+    BackwardRows (s .args .edges .now) (s .args .order .now) (length (k .mark-leading .last .1 .1 .0))
 marks-passable k =
     let m = k .before .before .before in
     plan-passable (start m .pre) (length (k .mark-leading .last .1 .1 .0))
     (omega (arith, k .mark-leading .kept .1 .1 .0, m .mark-leaves .kept .1 .1 .0, length-replicate {A = ℕ} maxNodes 0))
 
-slice-aggregate-mark-leaves : tie.Need-slice-aggregate-mark-leaves
-slice-aggregate-mark-leaves c = search needs
-
 mark-leaves-requires : tie.Need-mark-leaves-requires
 mark-leaves-requires c κs = plan-markable (c .before .before .before .pre)
-
-slice-aggregate-mark-leading : tie.Need-slice-aggregate-mark-leading
-slice-aggregate-mark-leading c = search needs
 
 mark-leading-requires : tie.Need-mark-leading-requires
 mark-leading-requires c κs =
     let k = c .before .before in
     plan-passable (start k .pre) (length (k .mark-leaves .last .1 .1 .0)) (omega (arith, k .mark-leaves .kept .1 .1 .0, length-replicate {A = ℕ} maxNodes 0))
 
-link-entering-requires : tie.Need-link-entering-requires
-link-entering-requires c κs = search needs
-
-slice-aggregate-keep-leading : tie.Need-slice-aggregate-keep-leading
-slice-aggregate-keep-leading c = search needs
-
 keep-leading-requires : tie.Need-keep-leading-requires
 keep-leading-requires c κs =
     let l = c .before .before .before .before in
     let k = l .before .before .before in
     (marks-passable k, l .link-entering .kept .1 .1 .0 ∙ start (k .before .before .before) .pre .room)
-
-same-length : tie.Need-same-length
-same-length c = search needs
 
 returns : tie.Need-returns
 returns c =
@@ -71,12 +56,12 @@ pub plan-graph-spec : {M : Type 1} → statement M
 plan-graph-spec =
     tie.close
     (tie.spec
-    slice-aggregate-mark-leaves
+    (λ c. search needs)
     mark-leaves-requires
-    slice-aggregate-mark-leading
+    (λ c. search needs)
     mark-leading-requires
-    link-entering-requires
-    slice-aggregate-keep-leading
+    (λ c κs. search needs)
+    (λ c. search needs)
     keep-leading-requires
-    same-length
+    (λ c. search needs)
     returns)

@@ -8,12 +8,6 @@ use Rattle.model.specs.Runs.{hull}
 use Rattle.normalisation.proofs.hull_of.Statement.{statement}
 use Rattle.normalisation.proofs.hull_of.Tie as tie
 
-lower-requires : tie.Need-lower-requires
-lower-requires c κs = search needs
-
-higher-requires : tie.Need-higher-requires
-higher-requires c κs = search needs
-
 returns : tie.Need-returns
 unfolding hull
 returns c =
@@ -29,4 +23,4 @@ returns c =
     rw (toZ-ofZ f, toZ-ofZ low, toZ-ofZ high, simp (toZ-ofZ, f2, g2) at (l .lower .ensures), simp (toZ-ofZ, f3, g3) at (c .before .higher .ensures)) refl
 
 pub hull-of-spec : {M : Type 1} → statement M
-hull-of-spec = tie.close (tie.spec lower-requires higher-requires returns)
+hull-of-spec = tie.close (tie.spec (λ c κs. search needs) (λ c κs. search needs) returns)

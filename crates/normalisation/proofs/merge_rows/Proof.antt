@@ -9,9 +9,6 @@ use Rattle.normalisation.proofs.merge_rows.Tie as tie
 returns : tie.Need-returns
 returns c = let (count, rows) = displaced-none _ _ (c .if1 .taken) in (count, (rows, (refl, refl)))
 
-sort-rows-requires : tie.Need-sort-rows-requires
-sort-rows-requires c κs = search needs
-
 rows-apart-requires : tie.Need-rows-apart-requires
 rows-apart-requires c κs =
     let a = c .before .before .before in
@@ -24,20 +21,14 @@ join-touching-requires c κs =
     let s = a .before .before .before .before in
     (omega (arith, a .sort-rows .kept .0), c .before .rows-apart .ensures, rw (a .sort-rows .ensures .0) (sorted-small _ _ (s .pre .2)))
 
-same-length : tie.Need-same-length
-same-length c = search needs
-
-same-length-2 : tie.Need-same-length-2
-same-length-2 c = search needs
-
 returns-2 : tie.Need-returns-2
 returns-2 c =
     let j = c .before in
     let a = j .before .before .before .before .before .before in
     let s = a .before .before .before .before in (
-      displaced-count (s .args .work .now) (s .args .n) (s .pre .2) (a .sort-rows .last .0) (a .sort-rows .ensures .0) _ (j .join-touching .ensures .0),
+      displaced-count (s .args .list .now) (s .args .n) (s .pre .2) (a .sort-rows .last .0) (a .sort-rows .ensures .0) _ (j .join-touching .ensures .0),
       (
-        displaced-records (s .args .work .now) (s .args .n) (s .pre .2) (a .sort-rows .last .0) (a .sort-rows .ensures .0) _ _ _ (j .join-touching .ensures .0)
+        displaced-records (s .args .list .now) (s .args .n) (s .pre .2) (a .sort-rows .last .0) (a .sort-rows .ensures .0) _ _ _ (j .join-touching .ensures .0)
             (j .join-touching .ensures .1),
         (omega (arith, j .join-touching .kept .0, a .sort-rows .kept .0), omega (arith, a .sort-rows .kept .1 .1 .0)),
       ),
@@ -48,9 +39,9 @@ merge-rows-spec =
     tie.close
     (tie.spec
     returns
-    sort-rows-requires
+    (λ c κs. search needs)
     rows-apart-requires
     join-touching-requires
-    same-length
-    same-length-2
+    (λ c. search needs)
+    (λ c. search needs)
     returns-2)

@@ -12,9 +12,6 @@ few c =
     let a = c .before .before .before .before .before in
     omega (arith, c .merge-touching .ensures .0, merged-rows (a .sort-rows .last .0) (a .before .before .before .args .n))
 
-sort-rows-requires : tie.Need-sort-rows-requires
-sort-rows-requires c κs = search needs
-
 merge-touching-requires : tie.Need-merge-touching-requires
 merge-touching-requires c κs =
     let a = c .before .before .before .before in
@@ -37,12 +34,6 @@ write-records-requires c κs =
       omega (arith, k, b .sort-rows2 .kept .0, m .merge-touching .kept .1 .1 .0, a .sort-rows .kept .1 .1 .0),
       omega (arith, k, b .sort-rows2 .kept .1 .1 .0, a .sort-rows .kept .0),
     )
-
-same-length : tie.Need-same-length
-same-length c = search needs
-
-same-length-2 : tie.Need-same-length-2
-same-length-2 c = search needs
 
 -- what each call leaves
 steps : (c : tie.After-write-records) →
@@ -88,10 +79,10 @@ pub normalise-spec : {M : Type 1} → statement M
 normalise-spec =
     tie.close
     (tie.spec
-    sort-rows-requires
+    (λ c κs. search needs)
     merge-touching-requires
     sort-rows-requires-2
     write-records-requires
-    same-length
-    same-length-2
+    (λ c. search needs)
+    (λ c. search needs)
     returns)

@@ -18,18 +18,6 @@ use Rattle.references.proofs.Numbers.{max-of, min-of, minus-of, owner-l
 use Rattle.references.proofs.append_cut.Statement.{statement}
 use Rattle.references.proofs.append_cut.Tie as tie
 
-row-at-requires : tie.Need-row-at-requires
-row-at-requires c κs = search needs
-
-of-requires : tie.Need-of-requires
-of-requires c κs = search needs
-
-of-requires-2 : tie.Need-of-requires-2
-of-requires-2 c κs = search needs
-
-of-requires-3 : tie.Need-of-requires-3
-of-requires-3 c κs = search needs
-
 -- the numbers of the record, as they were read
 apart : (c : tie.After-of) → let s = c .before .before .before .before in c .of .result .0 ≡ ofDisplacement (rowAt (s .args .state .now) (s .args .p)) .displacement
 apart c =
@@ -55,20 +43,11 @@ less-requires c κs = let o = c .before .before .before .before .before in rw (f
 plus-requires : tie.Need-plus-requires
 plus-requires c κs = owner-low (c .before .before .before .before .before .before .before .before .before .before .before .before .pre .2)
 
-higher-requires : tie.Need-higher-requires
-higher-requires c κs = search needs
-
 less-requires-2 : tie.Need-less-requires-2
 less-requires-2 c κs = let o = c .before .before .before .before .before .before in rw (last o, apart (o .before .before .before .before)) (last-movable (o .before .before .before .before .before .before .before .before .pre .3))
 
 plus-requires-2 : tie.Need-plus-requires-2
 plus-requires-2 c κs = owner-high (c .before .before .before .before .before .before .before .before .before .before .before .before .before .before .before .pre .2)
-
-lower-requires : tie.Need-lower-requires
-lower-requires c κs = search needs
-
-same-length : tie.Need-same-length
-same-length c = search needs
 
 -- the ends
 lowest : (c : tie.After-lower) → let s = c .before .before .before .before .before .before .before .before .before .before .before .before .before .before .before .before .before in let q = ofDisplacement (rowAt (s .args .state .now) (s .args .p)) in
@@ -131,9 +110,6 @@ plus-requires-5 c κs =
 append-row-requires : tie.Need-append-row-requires
 append-row-requires c κs = omega (arith, c .before .before .before .before .before .before .before .before .before .before .before .before .before .before .before .before .before .before .before .before .before .before .before .before .before .before .before .before .before .pre .1)
 
-same-length-2 : tie.Need-same-length-2
-same-length-2 c = search needs
-
 -- the numbers of the row fit
 displacement-fits : (c : tie.After-plus3) → SFits w64 (c .plus3 .result .0)
 displacement-fits c = search needs
@@ -164,21 +140,21 @@ pub append-cut-spec : {M : Type 1} → statement M
 append-cut-spec =
     tie.close
     (tie.spec
-    row-at-requires
-    of-requires
-    of-requires-2
-    of-requires-3
+    (λ c κs. search needs)
+    (λ c κs. search needs)
+    (λ c κs. search needs)
+    (λ c κs. search needs)
     less-requires
     plus-requires
-    higher-requires
+    (λ c κs. search needs)
     less-requires-2
     plus-requires-2
-    lower-requires
-    same-length
+    (λ c κs. search needs)
+    (λ c. search needs)
     returns
     plus-requires-3
     plus-requires-4
     plus-requires-5
     append-row-requires
-    same-length-2
+    (λ c. search needs)
     returns-2)

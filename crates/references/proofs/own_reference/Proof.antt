@@ -14,12 +14,6 @@ own-numbers : (g : Graph) (v : ℤ) {delta : ℤ} {r : Run} → delta ≡ pos 0 
 unfolding whole
 own-numbers g v {delta} {r} e p = rw (e, p) refl
 
-whole-requires : tie.Need-whole-requires
-whole-requires c κs = search needs
-
-of-requires : tie.Need-of-requires
-of-requires c κs = search needs
-
 returns : tie.Need-returns
 returns c es =
     let w = c .before .before .before in
@@ -27,4 +21,4 @@ returns c es =
     own-numbers (graphOf (s .args .nodes .now) es) (pos (s .args .v)) (c .of .ensures) (w .whole .ensures es)
 
 pub own-reference-spec : {M : Type 1} → statement M
-own-reference-spec = tie.close (tie.spec whole-requires of-requires returns)
+own-reference-spec = tie.close (tie.spec (λ c κs. search needs) (λ c κs. search needs) returns)

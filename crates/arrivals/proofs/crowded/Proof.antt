@@ -1,0 +1,23 @@
+-- The used part ends at most at the last row that is kept.
+use mathlib.Core.Path.{ap}
+use Prim.Native.Nat.{_+_, _≤_}
+use native.Mathlib.Omega.{arith}
+use borrow.Author.Needs.{needs}
+use lib.IntN.{natAbs}
+use Rattle.arrivals.specs.State.{arenaRow, keptRows}
+use Rattle.arrivals.proofs.crowded.Statement.{statement}
+use Rattle.arrivals.proofs.crowded.Tie as tie
+
+used : (c : tie.After-number-at) → c .number-at .result ≤ arenaRow + keptRows
+used c = omega (arith, ap natAbs (c .number-at .ensures), c .before .pre .3)
+
+add-if1 : tie.Need-add-if1
+add-if1 c = omega (arith, used (c .before))
+
+sub-result : tie.Need-sub-result
+sub-result c = used (c .before .before)
+
+pub crowded-spec : {M : Type 1} → statement M
+crowded-spec =
+    tie.close
+    (tie.spec (λ c κs. search needs) (λ c κs. search needs) add-if1 (λ c. search needs) sub-result (λ c. search needs) (λ c. search needs))

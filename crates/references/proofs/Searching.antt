@@ -1,0 +1,130 @@
+-- A list by displacement, sorted: the search for the first row whose displacement is not below a number, and the rows that a reference has nothing of.
+use mathlib.Core.Path.{_≡_, sym, ap, subst, _∙_}
+use mathlib.Core.List.{List, [], _∷_, _++_, map}
+use Prim.Native.Nat.{ℕ, _+_, _-_, _≤_, _<_, _*_}
+use native.Mathlib.Nat.{zero-add}
+use native.Mathlib.Omega.{arith}
+use lib.Dec.{T}
+use lib.IntN.{ℤ, pos, _+ℤ_, _-ℤ_}
+use lib.Signed.{_≤ℤ_, _<ℤ_}
+use lib.ListN.{drop}
+use Rattle.integers.proofs.Linear.{ints, sum, diff}
+use Rattle.integers.proofs.Tests.{min-is, max-is}
+use Rattle.lists.specs.Lists.{_∈_}
+use Rattle.model.specs.Bitmapping.{Record}
+use Rattle.sorting.specs.declared.Row.{Row}
+use Rattle.sorting.specs.Rows.{rowAt, rowsOf, rowsFrom, leRow, Ascending, more}
+use Rattle.sorting.proofs.Order.{leRow-says, leRow-refl}
+use Rattle.sorting.proofs.Sorting.{first-of}
+use Rattle.sorting.proofs.Tables.{rowsOf-add, rowsFrom-more}
+use Rattle.normalisation.specs.Merging.{byDisplacement}
+use Rattle.normalisation.proofs.Sorted.{rows-back}
+use Rattle.listing.specs.Listing.{Appended}
+use Rattle.references.specs.References.{Reference, recordsAt, cutRow, cutRows, leastOf, pastOf, Parted, Cuttable}
+use Rattle.references.proofs.Numbers.{cut-none}
+use Rattle.references.proofs.Gathering.{recordAt, row-behind, row-in, recordAt-in, Gathering, gathering-start, gathering-end, gathering-skip}
+
+-- ---- rows in order
+
+-- what stands behind some rows of an ascending list is ascending
+ascending-behind : (k : List Row) {l : List Row} → Ascending (k ++ l) → Ascending l
+ascending-behind [] a = a
+ascending-behind (x ∷ k) (more h a) = ascending-behind k a
+
+ascending-head : {x : Row} {l : List Row} → Ascending (x ∷ l) → (z : Row) → z ∈ (x ∷ l) → T (leRow x z)
+ascending-head {x} {l} (more h a) = first-of x x l (leRow-refl x) h
+
+-- a row further on has no lower first number
+ascending-at : (t : List ℤ) (n i j : ℕ) → Ascending (rowsOf t n) → i ≤ j → j < n → rowAt t i .first ≤ℤ rowAt t j .first
+ascending-at t n i j a le lt =
+    let all : i + (n - i) ≡ n = omega arith in
+    let split : rowsOf t n ≡ rowsOf t i ++ rowsFrom t i n = ap (rowsOf t) (sym all) ∙ rowsOf-add t i (n - i) in
+    let at : i + (j - i) ≡ j = omega arith in
+    let row : rowAt (drop (3 * i) t) (j - i) ≡ rowAt t j = row-behind t i (j - i) ∙ ap (rowAt t) at in
+    let here : rowAt t j ∈ rowsFrom t i n = subst (λ (r : Row). r ∈ rowsFrom t i n) row (row-in (drop (3 * i) t) (j - i) (n - i) (omega arith)) in
+    let more = rowsFrom-more t i n (omega arith) in
+    let tail = ascending-behind (rowsOf t i) (subst Ascending split a) in
+    leRow-says (rowAt t i) (rowAt t j) (ascending-head (subst Ascending more tail) (rowAt t j) (subst (λ (l : List Row). rowAt t j ∈ l) more here)) .first
+
+-- ---- the search
+
+module _ (t : List ℤ) (place count : ℕ) (a : Ascending (map byDisplacement (recordsAt t place count))) where
+  -- the displacements do not fall
+  rising : (i j : ℕ) → i ≤ j → j < count → rowAt t (place + i) .first ≤ℤ rowAt t (place + j) .first
+  rising i j le lt =
+      let l = drop (3 * place) t in
+      omega (
+        arith,
+        ints,
+        ap (λ (r : Row). r .first) (row-behind t place i),
+        ap (λ (r : Row). r .first) (row-behind t place j),
+        ascending-at l count i j (subst Ascending (rows-back (rowsOf l count)) a) le lt,
+      )
+
+  module _ {d : ℤ} {low high middle : ℕ} (p : Parted t place count d low high) (from : low ≤ middle) (to : middle < high) where
+    -- a row whose displacement is below d, and those in front of it
+    pub parted-below : rowAt t (place + middle) .first <ℤ d → Parted t place count d (middle + 1) high
+    parted-below h =
+        record {
+          order = omega arith;
+          within = p .within;
+          below = λ i k. omega (arith, ints, h, rising i middle (omega arith) (omega (arith, p .within)));
+          above = p .above;
+        }
+
+    -- a row whose displacement is not, and those behind it
+    pub parted-above : d ≤ℤ rowAt t (place + middle) .first → Parted t place count d low middle
+    parted-above h =
+        record {
+          order = from;
+          within = omega (arith, p .within);
+          below = p .below;
+          above = λ i k l. omega (arith, ints, h, rising middle i k l);
+        }
+
+-- at first nothing is known
+pub parted-start : (t : List ℤ) (place count : ℕ) (d : ℤ) → Parted t place count d 0 count
+parted-start t place count d =
+    record { order = omega arith; within = omega arith; below = λ i h. absurd (omega (arith, h)); above = λ i h k. absurd (omega (arith, h, k)) }
+
+-- ---- displacements that do not reach
+
+module _ (f : Reference) (q : Record) {first last : ℤ} (inside : (first ≤ℤ q .first) × (q .last ≤ℤ last)) where
+  -- of a record whose displacement is below the least the reference has nothing
+  pub cut-before : q .displacement <ℤ leastOf f first → cutRow f q ≡ []
+  cut-before h =
+      let high = f .high +ℤ f .delta in
+      let up = max-is (q .first) ((f .low +ℤ f .delta) +ℤ q .displacement) in
+      let down = min-is (q .last) (high +ℤ q .displacement) in
+      cut-none f q (omega (arith, ints, h, inside .0, up .0, down .1, sum high (q .displacement), diff first high))
+
+  -- nor of one whose displacement is past all of them
+  pub cut-past : pastOf f last ≤ℤ q .displacement → cutRow f q ≡ []
+  cut-past h =
+      let low = f .low +ℤ f .delta in
+      let up = max-is (q .first) (low +ℤ q .displacement) in
+      let down = min-is (q .last) ((f .high +ℤ f .delta) +ℤ q .displacement) in
+      cut-none f q (omega (arith, ints, h, inside .1, up .1, down .0, sum low (q .displacement), diff low (pos 1), diff last (low -ℤ pos 1)))
+
+-- ---- a list gathered
+
+module _ {f : Reference} {first last : ℤ} {old : List ℤ} {place count n : ℕ} (c : Cuttable f first last old place count n) where
+  root-bits : (j : ℕ) → j < count → (first ≤ℤ recordAt old place j .first) × (recordAt old place j .last ≤ℤ last)
+  root-bits j h = c .inside (recordAt old place j) (recordAt-in old place j count h)
+
+  -- the rows in front of the first whose displacement reaches are passed over
+  pub gathering-from : {i : ℕ} → Parted old place count (leastOf f first) i i → Gathering f old place count n old n i
+  gathering-from {i} p =
+      subst (Gathering f old place count n old n) (zero-add i)
+      (gathering-skip c (gathering-start f old place count n) i (omega (arith, p .within)) (λ j k l.
+      cut-before f (recordAt old place j) (root-bits j (omega (arith, l, p .within))) (p .below j (omega (arith, l)))))
+
+  -- and so are those behind the last
+  pub gathering-upto : {new : List ℤ} {m i end : ℕ} → Gathering f old place count n new m i → Parted old place count (pastOf f last) end end → end ≤ i
+      → Appended (cutRows f (recordsAt old place count)) old new n m
+  gathering-upto {i = i} s p h =
+      gathering-end c
+      (gathering-skip c s (count - i) (omega (arith, s .upto)) (λ j k l.
+      let low : j < count = omega (arith, l, s .upto) in
+      cut-past f (recordAt old place j) (root-bits j low) (p .above j (omega (arith, h, k)) low)))
+      (omega arith)

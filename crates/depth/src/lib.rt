@@ -104,27 +104,34 @@ fn peel(edges: &[i64], rest: &mut [usize], marks: &mut [usize], order: &mut [usi
     }
 }
 
-// Orders the edges of an edge table from the leaves up: `order` begins with their rows, those first that no edge follows.
-pub fn order_edges(edges: &[i64], order: &mut [usize]) -> Chained
-    requires { ⌜ Orderable (now edges) (length (now order)) ⌝ }
+// Orders the edges of an edge table from the leaves up: `order` begins with their rows, those first that no edge follows. What stands in `rest` afterwards is
+// space that was worked in.
+fn order_edges(edges: &[i64], rest: &mut [usize], order: &mut [usize]) -> Chained
+    requires { ⌜ Orderable (now edges) (length (now order)) × (maxEdges ≤ length (now rest)) ⌝ }
     ensures { λ r. ⌜ OrderedInto (now (edges .entry)) (now (order .entry)) r (now (order .exit)) ⌝ }
 {
-    let mut rest = [0usize; MAX_EDGES];
     let mut marks = [0usize; MAX_NODES];
-    number_rows(&mut rest, edges.len() / EDGE_WIDTH);
-    peel(edges, &mut rest, &mut marks, order)
+    number_rows(rest, edges.len() / EDGE_WIDTH);
+    peel(edges, rest, &mut marks, order)
 }
 
-// The check of one graph whose node table is `table`: refusals 1 to 6. Where its rows are good, `order` begins with its edges in order.
-pub fn check_graph_with(nodes: &[i64], edges: &[i64], table: usize, order: &mut [usize]) -> Checked
-    requires { ⌜ (table < 100) × (maxEdges ≤ length (now order)) ⌝ }
+// The check of one graph whose node table is `table`: refusals 1 to 6. Where its rows are good, `order` begins with its edges in order. What stands in `rest`
+// afterwards is space that was worked in.
+pub fn check_graph_with(
+    nodes: &[i64],
+    edges: &[i64],
+    table: usize,
+    rest: &mut [usize],
+    order: &mut [usize],
+) -> Checked
+    requires { ⌜ (table < 100) × (maxEdges ≤ length (now rest)) × (maxEdges ≤ length (now order)) ⌝ }
     ensures { λ r. ⌜ GraphChecked table (now (nodes .entry)) (now (edges .entry)) (now (order .entry)) r (now (order .exit)) ⌝ }
 {
     let rows = tables::check_rows(nodes, edges, table);
     if let Checked::Refused(reason) = rows {
         return Checked::Refused(reason);
     }
-    let chains = order_edges(edges, order);
+    let chains = order_edges(edges, rest, order);
     match chains {
         Chained::Cycle => Checked::Refused(Reason::Cycle { table: table }),
         Chained::LongChain => Checked::Refused(Reason::LongChain { table: table }),
@@ -136,6 +143,7 @@ pub fn check_graph_with(nodes: &[i64], edges: &[i64], table: usize, order: &mut 
 pub fn check_graph(nodes: &[i64], edges: &[i64]) -> Checked
     ensures { λ r. ⌜ checkedAnswer r ≡ checkAnswer (now (nodes .entry)) (now (edges .entry)) ⌝ }
 {
+    let mut rest = [0usize; MAX_EDGES];
     let mut order = [0usize; MAX_EDGES];
-    check_graph_with(nodes, edges, 0, &mut order)
+    check_graph_with(nodes, edges, 0, &mut rest, &mut order)
 }

@@ -4,8 +4,8 @@ ghost use mathlib.Core.Bool.{_&&_, _||_};
 ghost use Prim.Native.Nat.{_+_, _*_, _≤_, _<_};
 ghost use lib.IntN.{pos};
 ghost use lib.Signed.{_≤ℤ_};
-ghost use lib.ListN.{length, getD};
-ghost use Rattle.model.specs.Limits.{maxNodes};
+ghost use lib.ListN.{length};
+ghost use Rattle.model.specs.Limits.{pairWidth, maxNodes};
 ghost use Rattle.model.specs.Rows.{nodeRows, edgeRows};
 ghost use Rattle.model.specs.Graph.{graphOf};
 ghost use Rattle.model.specs.Taken.{TakenTables};
@@ -106,12 +106,20 @@ fn has_class(v: i64, class: &[usize], wanted: usize) -> bool
     class[i] == wanted
 }
 
-// The number at this place of a table, as an index.
-fn index_at(t: &[i64], place: usize) -> usize
-    requires { ⌜ (place < length (now t)) × (pos 0 ≤ℤ getD (now t) place (pos 0)) ⌝ }
-    ensures { λ r. ⌜ pos r ≡ getD (now (t .entry)) place (pos 0) ⌝ }
+// The specification node of a pair row, as an index.
+pub fn spec_node(pairs: &[i64], row: usize) -> usize
+    requires { ⌜ (pairWidth * row + pairWidth ≤ length (now pairs)) × (pos 0 ≤ℤ pairAt (now pairs) row .spec) ⌝ }
+    ensures { λ r. ⌜ pos r ≡ pairAt (now (pairs .entry)) row .spec ⌝ }
 {
-    t[place] as usize
+    pairs[PAIR_WIDTH * row] as usize
+}
+
+// The implementation node of a pair row, as an index.
+pub fn impl_node(pairs: &[i64], row: usize) -> usize
+    requires { ⌜ (pairWidth * row + pairWidth ≤ length (now pairs)) × (pos 0 ≤ℤ pairAt (now pairs) row .impl) ⌝ }
+    ensures { λ r. ⌜ pos r ≡ pairAt (now (pairs .entry)) row .impl ⌝ }
+{
+    pairs[PAIR_WIDTH * row + 1] as usize
 }
 
 // Whether both nodes of pair row k have the wanted class.
@@ -122,7 +130,7 @@ fn both_have_class(
     impl_class: &[usize],
     wanted: usize,
 ) -> bool
-    requires { ⌜ 2 * k + 2 ≤ length (now pairs) ⌝ }
+    requires { ⌜ pairWidth * k + pairWidth ≤ length (now pairs) ⌝ }
     ensures { λ r. ⌜
         r
         ≡ hasClass (now («spec_class» .entry)) wanted (pairAt (now (pairs .entry)) k .spec)
@@ -167,16 +175,16 @@ fn check_unmarked(
                 row: k,
             });
         }
-        let spec_node = index_at(pairs, PAIR_WIDTH * k);
-        let impl_node = index_at(pairs, PAIR_WIDTH * k + 1);
-        if one_marked(spec_marks[spec_node], impl_marks[impl_node]) {
+        let spec = spec_node(pairs, k);
+        let implementation = impl_node(pairs, k);
+        if one_marked(spec_marks[spec], impl_marks[implementation]) {
             return Checked::Refused(Reason::PairedBefore {
                 table: table,
                 row: k,
             });
         }
-        spec_marks[spec_node] = SEEN;
-        impl_marks[impl_node] = SEEN;
+        spec_marks[spec] = SEEN;
+        impl_marks[implementation] = SEEN;
         k += 1;
     }
     Checked::Taken

@@ -1,4 +1,4 @@
--- The first refusal of a list of rows: by checks that agree, of images, and of lists one after the other.
+-- The first refusal of a list of rows: by checks that agree or that refuse none, of images, and of lists one after the other.
 use mathlib.Core.Path.{_≡_, refl, ap, _∙_}
 use mathlib.Core.List.{List, [], _∷_, _++_, map, flatMap, List·Memᴰ·head, List·Memᴰ·tail}
 use mathlib.Core.Option.{Option, none, some}
@@ -13,6 +13,12 @@ module _ {A : Type 0} where
   first-agree f h [] e = refl
   first-agree f h (x ∷ l) e =
       ap (λ c. c then firstOf f l) (e x (List·Memᴰ·head refl)) ∙ ap (λ c. h x then c) (first-agree f h l (λ y m. e y (List·Memᴰ·tail m)))
+
+  -- checks that refuse no row
+  pub first-none : (f : A → Option Refusal) (l : List A) → ((x : A) → x ∈ l → f x ≡ none) → firstOf f l ≡ none
+  unfolding firstOf _then_
+  first-none f [] e = refl
+  first-none f (x ∷ l) e = rw (e x (List·Memᴰ·head refl)) (first-none f l (λ y m. e y (List·Memᴰ·tail m)))
 
   -- two lists, one after the other
   first-append : (f : A → Option Refusal) (k l : List A) → firstOf f (k ++ l) ≡ firstOf f k then firstOf f l

@@ -19,10 +19,11 @@ use Rattle.model.specs.Checks.{manyPaths}
 use Rattle.reach.specs.Counting.{pathCount, stopped}
 use Rattle.reach.specs.Links.{countAt}
 use Rattle.depth.specs.Passes.{Within}
-use Rattle.forward.specs.Forward.{LeadingTo}
+use Rattle.forward.specs.Forward.{passedOf, LeadingTo}
 use Rattle.pairing.specs.Pairs.{pairAt}
 use Rattle.pairing.proofs.Pairs.{pair-member}
-use Rattle.pathlimit.specs.Counting.{HasEntering, Counted}
+use Rattle.entering.specs.Entering.{Covered}
+use Rattle.pathlimit.specs.Counting.{Counted}
 use Rattle.pathlimit.specs.Checks.{checkCounts, checkLeaf, LeavesCounted}
 
 -- ---- one leaf row by its counts
@@ -55,15 +56,16 @@ stopped-test n = go (ltb maxPaths n) (ltb? maxPaths n)
     go true (passed h) = lt-ltb maxPaths (stopped n) (omega arith)
     go false (failed h) = le-ltb maxPaths (stopped n) (omega arith)
 
-module _ {ns es : List ℤ} {plan counts : List ℕ} {root : ℕ} {ls : List ℤ} (leading : LeadingTo ns es ls plan) (counted : Counted ns es plan root counts) where
+module _ {ns es : List ℤ} {plan : List ℕ} {ls : List ℤ} (leading : LeadingTo ns es ls plan) where
   -- the plan has every edge that enters a leaf
-  leaf-entering : (l : ℤ) → l ∈ ls → HasEntering es plan l
+  pub leaf-entering : (l : ℤ) → l ∈ ls → Covered es (passedOf es plan) l
   leaf-entering l m e k q = leading .all e k (l, m, ([], subst (λ (v : ℤ). Way (graphOf ns es) v [] l) (sym q) stay))
 
   -- so that its count is past the limit exactly where it has too many paths
-  pub leaf-many : (l : ℤ) → l ∈ ls → NodeRow (graphOf ns es) l → ltb maxPaths (countAt counts l) ≡ manyPaths (graphOf ns es) (pos root) l
+  pub leaf-many : {counts : List ℕ} {root : ℕ} → Counted ns es plan root counts → (l : ℤ) → l ∈ ls → NodeRow (graphOf ns es) l
+      → ltb maxPaths (countAt counts l) ≡ manyPaths (graphOf ns es) (pos root) l
   unfolding countAt manyPaths pathCount graphOf
-  leaf-many (pos v) m r =
+  leaf-many {root = root} counted (pos v) m r =
       ap (ltb maxPaths) (counted .each v (omega (arith, ints, r .high)) (leaf-entering (pos v) m))
       ∙ stopped-test (pathCount (graphOf ns es) (pos root) (pos v))
-  leaf-many (negsuc v) m r = absurd (omega (arith, ints, r .low))
+  leaf-many counted (negsuc v) m r = absurd (omega (arith, ints, r .low))

@@ -18,9 +18,10 @@ use Rattle.tables.proofs.Rows.{nodes-length, graph-nodes-length}
 use Rattle.depth.specs.Passes.{Within}
 use Rattle.forward.specs.Forward.{Planned}
 use Rattle.pairing.specs.Pairs.{pairAt}
-use Rattle.pairing.proofs.Pairs.{pair-member}
+use Rattle.pathlimit.specs.Inputs.{Plans}
 use Rattle.pathlimit.specs.Counting.{Countable, Counted}
-use Rattle.pathlimit.specs.Checks.{checkPaths, Checkable, checkRow, checkCounts, checkLeaf, LeavesCounted}
+use Rattle.pathlimit.specs.Checks.{checkPaths, checkRow, checkCounts, checkLeaf, LeavesCounted}
+use Rattle.pathlimit.proofs.Inputs.{row-roots, root-row-below}
 use Rattle.pathlimit.proofs.First.{first-agree, first-flatMap}
 use Rattle.pathlimit.proofs.Leaves.{leaf-many}
 
@@ -43,30 +44,26 @@ countable : {ns es : List ℤ} {plan counts : List ℕ} {r : ℤ} (root : ℕ) �
 countable {ns} {es} root k p top e h =
     record { tables = k; planned = p; top = subst (Root (graphOf ns es)) (sym e) top; room = omega (arith, h, k .nodes .few, nodes-length ns) }
 
-module _ {t : Tables} {specPlan implPlan : List ℕ} (k : Checkable t specPlan implPlan) (i : ℕ) (h : i < length (t .rootPairs) / pairWidth) where
-  -- its nodes are roots
-  pub row-roots : Root (specGraph t) (pairAt (t .rootPairs) i .spec) × Root (implGraph t) (pairAt (t .rootPairs) i .impl)
-  row-roots = k .roots (pairAt (t .rootPairs) i) (pair-member (t .rootPairs) i (omega arith))
-
+module _ {t : Tables} {specPlan implPlan : List ℕ} (k : Plans t specPlan implPlan) (i : ℕ) (h : i < length (t .rootPairs) / pairWidth) where
   -- the paths from each can be counted
   pub spec-countable : {counts : List ℕ} {s : ℕ} → pos s ≡ pairAt (t .rootPairs) i .spec → maxNodes ≤ length counts
       → Countable (t .specNodes) (t .specEdges) specPlan s counts
-  spec-countable {s = s} e room = countable s (k .spec) (k .specPlanned) (row-roots .0) e room
+  spec-countable {s = s} e room = countable s (k .inputs .spec) (k .specPlanned) (row-roots (k .inputs) i h .0) e room
 
   pub impl-countable : {counts : List ℕ} {m : ℕ} → pos m ≡ pairAt (t .rootPairs) i .impl → maxNodes ≤ length counts
       → Countable (t .implNodes) (t .implEdges) implPlan m counts
-  impl-countable {m = m} e room = countable m (k .impl) (k .implPlanned) (row-roots .1) e room
+  impl-countable {m = m} e room = countable m (k .inputs .impl) (k .implPlanned) (row-roots (k .inputs) i h .1) e room
 
   -- the leaf rows can be checked by counts with room for all nodes
   pub leaves-counted : (specCounts implCounts : List ℕ) → maxNodes ≤ length specCounts → maxNodes ≤ length implCounts
       → LeavesCounted (t .leafPairs) i specCounts implCounts
   leaves-counted specCounts implCounts s m =
       record {
-        rows = k .leafShape .few;
-        row = omega (arith, h, k .rootShape .few);
+        rows = k .inputs .leafShape .few;
+        row = root-row-below (k .inputs) i h;
         within = λ p n.
-            let l = k .leaves p n in
-            (node-within (length specCounts) (k .spec) (l .0 .row) s, node-within (length implCounts) (k .impl) (l .1 .row) m);
+            let l = k .inputs .leaves p n in
+            (node-within (length specCounts) (k .inputs .spec) (l .0 .row) s, node-within (length implCounts) (k .inputs .impl) (l .1 .row) m);
       }
 
   -- by the counts from its roots each leaf row has the refusal that its paths have
@@ -78,7 +75,7 @@ module _ {t : Tables} {specPlan implPlan : List ℕ} (k : Checkable t specPlan i
       first-agree (checkLeaf specCounts implCounts i)
       (λ l. checkVisit (specGraph t) (implGraph t) (record { root = pairAt (t .rootPairs) i; leaf = l })) (leafRows t)
       (λ l n.
-      let leaf = k .leaves l n in
+      let leaf = k .inputs .leaves l n in
       let spec = leaf-many (k .specLeading) sc (l .spec) (map-in (λ (x : Pair). x .spec) n) (leaf .0 .row) in
       let impl = leaf-many (k .implLeading) ic (l .impl) (map-in (λ (x : Pair). x .impl) n) (leaf .1 .row) in
       rw (spec, impl, p, q) refl)

@@ -8,34 +8,17 @@ use lib.ListN.{length}
 use Rattle.lists.specs.Lists.{_∈_}
 use Rattle.model.specs.Limits.{pairWidth, maxPairs, maxPaths, rootStride}
 use Rattle.model.specs.Rows.{Pair, pairRows}
-use Rattle.model.specs.Paths.{Root, Leaf}
-use Rattle.model.specs.Taken.{GoodShape, TakenTables}
 use Rattle.model.specs.Compare.{Tables, specGraph, implGraph, rootRows, leafRows, visits}
 use Rattle.model.specs.Refusals.{Refusal}
 use Rattle.model.specs.Checks.{when, _then_, firstOf, checkVisit}
 use Rattle.depth.specs.Passes.{Within}
 use Rattle.reach.specs.Links.{countAt}
-use Rattle.forward.specs.Forward.{Planned, LeadingTo, nodesIn}
 
 -- ---- the check of all pairs
 
 -- refusal 10: the first pair in visiting order with more than 1,024 paths
 abbrev pub checkPaths : Tables → Option Refusal
 checkPaths t = firstOf (checkVisit (specGraph t) (implGraph t)) (visits (rootRows t) (leafRows t))
-
--- what it is found from: two taken graphs, pairs of their roots and of their leaves, and for each graph the plan of the edges that lead to its paired
--- leaves
-pub record Checkable (t : Tables) (specPlan implPlan : List ℕ) : Type 0 where
-  pub spec : TakenTables (t .specNodes) (t .specEdges)
-  pub impl : TakenTables (t .implNodes) (t .implEdges)
-  pub rootShape : GoodShape pairWidth maxPairs (t .rootPairs)
-  pub leafShape : GoodShape pairWidth maxPairs (t .leafPairs)
-  pub roots : (p : Pair) → p ∈ rootRows t → Root (specGraph t) (p .spec) × Root (implGraph t) (p .impl)
-  pub leaves : (p : Pair) → p ∈ leafRows t → Leaf (specGraph t) (p .spec) × Leaf (implGraph t) (p .impl)
-  pub specPlanned : Planned (t .specNodes) (t .specEdges) specPlan
-  pub implPlanned : Planned (t .implNodes) (t .implEdges) implPlan
-  pub specLeading : LeadingTo (t .specNodes) (t .specEdges) (nodesIn 0 (t .leafPairs)) specPlan
-  pub implLeading : LeadingTo (t .implNodes) (t .implEdges) (nodesIn 1 (t .leafPairs)) implPlan
 
 -- ---- the check of one root row
 

@@ -4,12 +4,12 @@ use mathlib.Core.List.{List}
 use Prim.Native.Nat.{ℕ, _≤_, _<_}
 use lib.IntN.{ℤ, pos}
 use lib.ListN.{length, getD}
-use Rattle.lists.specs.Lists.{_∈_}
-use Rattle.model.specs.Rows.{Edge, nodeRows, edgeRows}
+use Rattle.model.specs.Rows.{nodeRows}
 use Rattle.model.specs.Graph.{graphOf}
 use Rattle.model.specs.Paths.{Root}
 use Rattle.model.specs.Taken.{TakenTables}
 use Rattle.reach.specs.Counting.{pathCount, stopped}
+use Rattle.entering.specs.Entering.{Covered}
 use Rattle.forward.specs.Forward.{passedOf, Planned}
 
 -- what a count of the paths from a root starts from: tables whose graph is taken, a plan of it, a root, and room
@@ -19,11 +19,7 @@ pub record Countable (ns es : List ℤ) (plan : List ℕ) (root : ℕ) (counts :
   pub top : Root (graphOf ns es) (pos root)
   pub room : length (nodeRows ns) ≤ length counts
 
--- the plan has every edge that enters v
-abbrev pub HasEntering : List ℤ → List ℕ → ℤ → Type 0
-HasEntering es plan v = (e : Edge) → e ∈ edgeRows es → e .to ≡ v → e ∈ passedOf es plan
-
 -- the stopped count of the paths from the root stands at each node whose entering edges the plan has
 pub record Counted (ns es : List ℤ) (plan : List ℕ) (root : ℕ) (counts : List ℕ) : Type 0 where
-  pub each : (v : ℕ) → v < length (nodeRows ns) → HasEntering es plan (pos v)
+  pub each : (v : ℕ) → v < length (nodeRows ns) → Covered es (passedOf es plan) (pos v)
       → getD counts v 0 ≡ stopped (pathCount (graphOf ns es) (pos root) (pos v))

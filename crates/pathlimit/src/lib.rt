@@ -1,17 +1,16 @@
 // Refusal 10: the first pair in visiting order with more than MAX_PATHS paths. One count of the paths from a root in each graph serves all leaf rows.
 ghost use mathlib.Core.Path.{_≡_};
-ghost use Prim.Native.Nat.{_+_, _*_, _/_, _≤_, _<_};
-ghost use lib.IntN.{pos};
-ghost use lib.Signed.{_≤ℤ_};
+ghost use Prim.Native.Nat.{_/_, _≤_, _<_};
 ghost use lib.ListN.{length};
-ghost use Rattle.model.specs.Limits.{maxNodes};
+ghost use Rattle.model.specs.Limits.{pairWidth, maxNodes};
 ghost use Rattle.model.specs.Rows.{pairRows};
 ghost use Rattle.model.specs.Checks.{firstOf};
 ghost use Rattle.model.specs.Calls.{answer};
 ghost use Rattle.model.specs.Answers.{checkedAnswer};
 ghost use Rattle.pairing.specs.Pairs.{pairAt, tablesOf};
+ghost use Rattle.pathlimit.specs.Inputs.{Plans};
 ghost use Rattle.pathlimit.specs.Counting.{Countable, Counted};
-ghost use Rattle.pathlimit.specs.Checks.{checkPaths, Checkable, checkRow, checkCounts, checkLeaf, LeavesCounted};
+ghost use Rattle.pathlimit.specs.Checks.{checkPaths, checkRow, checkCounts, checkLeaf, LeavesCounted};
 use forward::passed_count;
 use forward::passed_row;
 use model::Checked;
@@ -22,26 +21,12 @@ use model::PAIR_WIDTH;
 use model::ROOT_STRIDE;
 use model::Reason;
 use model::SPEC_EDGES;
+use pairing::impl_node;
+use pairing::spec_node;
 use reach::add_paths;
 use reach::start_counts;
 use tables::edge_from;
 use tables::edge_to;
-
-// The specification node of a pair row, as an index.
-fn spec_node(pairs: &[i64], row: usize) -> usize
-    requires { ⌜ (2 * row + 2 ≤ length (now pairs)) × (pos 0 ≤ℤ pairAt (now pairs) row .spec) ⌝ }
-    ensures { λ r. ⌜ pos r ≡ pairAt (now (pairs .entry)) row .spec ⌝ }
-{
-    pairs[PAIR_WIDTH * row] as usize
-}
-
-// The implementation node of a pair row, as an index.
-fn impl_node(pairs: &[i64], row: usize) -> usize
-    requires { ⌜ (2 * row + 2 ≤ length (now pairs)) × (pos 0 ≤ℤ pairAt (now pairs) row .impl) ⌝ }
-    ensures { λ r. ⌜ pos r ≡ pairAt (now (pairs .entry)) row .impl ⌝ }
-{
-    pairs[PAIR_WIDTH * row + 1] as usize
-}
 
 // Sets counts[v], for each node v whose entering edges the plan has, to the number of paths from the root to v, or to MAX_PATHS + 1 where there are
 // more than MAX_PATHS. One pass over the edges of the plan, each behind all edges that enter the node it leaves. An edge from a node without a path
@@ -126,9 +111,9 @@ fn check_row(
     impl_counts: &mut [usize],
 ) -> Checked
     requires { ⌜
-        Checkable (tablesOf (now «spec_nodes») (now «spec_edges») (now «impl_nodes») (now «impl_edges») (now «root_pairs») (now «leaf_pairs»))
+        Plans (tablesOf (now «spec_nodes») (now «spec_edges») (now «impl_nodes») (now «impl_edges») (now «root_pairs») (now «leaf_pairs»))
         (now «spec_plan») (now «impl_plan»)
-        × (maxNodes ≤ length (now «spec_counts»)) × (maxNodes ≤ length (now «impl_counts»)) × («root_row» < length (now «root_pairs») / 2) ⌝ }
+        × (maxNodes ≤ length (now «spec_counts»)) × (maxNodes ≤ length (now «impl_counts»)) × («root_row» < length (now «root_pairs») / pairWidth) ⌝ }
     ensures { λ r. ⌜
         checkedAnswer r
         ≡ answer (checkRow
@@ -143,8 +128,8 @@ fn check_row(
     check_leaves(leaf_pairs, root_row, spec_counts, impl_counts)
 }
 
-// Refusal 10: the first pair in visiting order with more than MAX_PATHS paths, the specification first. What `spec_counts` and `impl_counts` held
-// does not matter.
+// Refusal 10: the first pair in visiting order with more than MAX_PATHS paths, the specification first. Where neither plan has an edge no path leads
+// to a paired leaf. What `spec_counts` and `impl_counts` held does not matter.
 pub fn check_paths(
     spec_nodes: &[i64],
     spec_edges: &[i64],
@@ -158,7 +143,7 @@ pub fn check_paths(
     impl_counts: &mut [usize],
 ) -> Checked
     requires { ⌜
-        Checkable (tablesOf (now «spec_nodes») (now «spec_edges») (now «impl_nodes») (now «impl_edges») (now «root_pairs») (now «leaf_pairs»))
+        Plans (tablesOf (now «spec_nodes») (now «spec_edges») (now «impl_nodes») (now «impl_edges») (now «root_pairs») (now «leaf_pairs»))
         (now «spec_plan») (now «impl_plan»)
         × (maxNodes ≤ length (now «spec_counts»)) × (maxNodes ≤ length (now «impl_counts»)) ⌝ }
     ensures { λ r. ⌜
@@ -167,6 +152,9 @@ pub fn check_paths(
         (tablesOf (now («spec_nodes» .entry)) (now («spec_edges» .entry)) (now («impl_nodes» .entry)) (now («impl_edges» .entry))
         (now («root_pairs» .entry)) (now («leaf_pairs» .entry)))) tt ⌝ }
 {
+    if passed_count(spec_plan) + passed_count(impl_plan) == 0 {
+        return Checked::Taken;
+    }
     let count = root_pairs.len() / PAIR_WIDTH;
     let mut root_row: usize = 0;
     while root_row < count {

@@ -10,7 +10,7 @@ use lib.ListN.{length, length-map}
 use Rattle.integers.specs.Integers.{eqZ}
 use Rattle.integers.proofs.Tests.{Test, passed, failed, eqZ?}
 use Rattle.lists.specs.Lists.{_∈_}
-use Rattle.model.specs.Limits.{maxChain, maxPaths}
+use Rattle.model.specs.Limits.{maxChain}
 use Rattle.model.specs.Rows.{Edge}
 use Rattle.model.specs.Graph.{Graph}
 use Rattle.model.specs.Paths.{Way, stay, over}
@@ -109,11 +109,3 @@ stopped-sum a b = omega arith
 -- a stopped count is 0 exactly where the count is
 pub stopped-some : (a : ℕ) → 0 < stopped a ↔ (0 < a)
 stopped-some a = (λ h. omega arith, λ h. omega arith)
-
--- a stopped count is past the limit exactly where the count is
-pub stopped-many : (a : ℕ) → maxPaths < stopped a ↔ (maxPaths < a)
-stopped-many a = (λ h. omega arith, λ h. omega arith)
-
--- a count that the limit allows is not stopped
-pub stopped-few : (a : ℕ) → a ≤ maxPaths → stopped a ≡ a
-stopped-few a h = omega arith

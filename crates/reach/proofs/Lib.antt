@@ -3,11 +3,8 @@ pub mod Counting
 pub mod Values
 pub mod Sweep
 pub mod Ends
+pub mod Turns
 pub mod Pass
 pub mod FirstRow
 pub mod Links
 pub mod Reaching
-pub mod Turns
-pub mod Summing
-pub mod AllPaths
-pub mod AllPass

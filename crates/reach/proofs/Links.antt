@@ -12,6 +12,7 @@ use lib.Seq.{getD-set-same, getD-set-other, drop-set-lt, drop-at}
 use Rattle.integers.specs.Integers.{eqZ}
 use Rattle.integers.proofs.Linear.{ints}
 use Rattle.integers.proofs.Tests.{Test, passed, failed, eqZ?, eq?, ltb?, is-true, is-false, of-test, test-of, and-in, and-out}
+use Rattle.model.specs.Limits.{nodeWidth, edgeWidth}
 use Rattle.model.specs.Rows.{Edge, edgeRows}
 use Rattle.model.specs.Graph.{graphOf}
 use Rattle.model.specs.Taken.{TakenTables}
@@ -61,7 +62,7 @@ module _ (ns es : List ℤ) (counts : List ℕ) where
   firstFrom v k = firstRow (matters counts v) k (edgeRows es)
 
   -- row k, where it is an edge row
-  first-step : (v : ℤ) (k : ℕ) (t : Bool) → k < length es / 3 → matters counts v (edgeAt es k) ≡ t → firstFrom v k ≡ cond t k (firstFrom v (suc k))
+  first-step : (v : ℤ) (k : ℕ) (t : Bool) → k < length es / edgeWidth → matters counts v (edgeAt es k) ≡ t → firstFrom v k ≡ cond t k (firstFrom v (suc k))
   first-step v k t h e =
       firstRow-step (matters counts v) (edgeAt es k) k (edgeRows es) (omega (arith, edges-length es))
       ∙ ap (λ d. cond (matters counts v d) k (firstFrom v (suc k))) (edges-at es k (edgeAt es k) (omega arith))
@@ -70,15 +71,15 @@ module _ (ns es : List ℤ) (counts : List ℕ) where
   -- the state between two turns: rows k and on are passed; past the nodes and the edges stands what stood there at the start
   pub record Linking (head₀ next₀ head next : List ℕ) (k : ℕ) : Type 0 where
     pub tables : TakenTables ns es
-    pub within : k ≤ length es / 3
-    pub nodeRoom : length ns / 4 ≤ length head
-    pub edgeRoom : length es / 3 ≤ length next
-    pub heads : (v : ℕ) → v < length ns / 4 → getD head v 0 ≡ firstFrom (pos v) k
-    pub nexts : (e : ℕ) → k ≤ e → e < length es / 3 → getD next e 0 ≡ firstFrom (edgeAt es e .from) (suc e)
+    pub within : k ≤ length es / edgeWidth
+    pub nodeRoom : length ns / nodeWidth ≤ length head
+    pub edgeRoom : length es / edgeWidth ≤ length next
+    pub heads : (v : ℕ) → v < length ns / nodeWidth → getD head v 0 ≡ firstFrom (pos v) k
+    pub nexts : (e : ℕ) → k ≤ e → e < length es / edgeWidth → getD next e 0 ≡ firstFrom (edgeAt es e .from) (suc e)
     pub headSize : length head ≡ length head₀
     pub nextSize : length next ≡ length next₀
-    pub headKept : drop (length ns / 4) head ≡ drop (length ns / 4) head₀
-    pub nextKept : drop (length es / 3) next ≡ drop (length es / 3) next₀
+    pub headKept : drop (length ns / nodeWidth) head ≡ drop (length ns / nodeWidth) head₀
+    pub nextKept : drop (length es / edgeWidth) next ≡ drop (length es / edgeWidth) next₀
 
   -- the state at a row written otherwise
   pub linking-at : {head₀ next₀ head next : List ℕ} {i : ℕ} (k : ℕ) → i ≡ k → Linking head₀ next₀ head next i → Linking head₀ next₀ head next k
@@ -86,11 +87,11 @@ module _ (ns es : List ℤ) (counts : List ℕ) where
 
   -- before the first turn every head is the number of edges
   pub link-start : {head next : List ℕ} → Linkable ns es counts head next
-      → Linking (replicate (length ns / 4) (length es / 3) ++ drop (length ns / 4) head) next
-      (replicate (length ns / 4) (length es / 3) ++ drop (length ns / 4) head) next (length es / 3)
+      → Linking (replicate (length ns / nodeWidth) (length es / edgeWidth) ++ drop (length ns / nodeWidth) head) next
+      (replicate (length ns / nodeWidth) (length es / edgeWidth) ++ drop (length ns / nodeWidth) head) next (length es / edgeWidth)
   link-start {head} {next} c =
-      let n = length ns / 4 in
-      let m = length es / 3 in
+      let n = length ns / nodeWidth in
+      let m = length es / edgeWidth in
       record {
         tables = c .tables;
         within = omega arith;
@@ -116,7 +117,7 @@ module _ (ns es : List ℤ) (counts : List ℕ) where
       ends = edge-ends ns es (s .tables) k (omega (arith, s .within))
 
       -- the edge's link is the head of the node that it leaves
-      link-nexts : (e : ℕ) → k ≤ e → e < length es / 3 → getD (set next k (getD head from 0)) e 0 ≡ firstFrom (edgeAt es e .from) (suc e)
+      link-nexts : (e : ℕ) → k ≤ e → e < length es / edgeWidth → getD (set next k (getD head from 0)) e 0 ≡ firstFrom (edgeAt es e .from) (suc e)
       link-nexts e h j = go (eqb e k) (eq? e k)
         where
           go : (t : Bool) → Test (e ≡ k) (e ≢ k) t → getD (set next k (getD head from 0)) e 0 ≡ firstFrom (edgeAt es e .from) (suc e)
@@ -133,8 +134,8 @@ module _ (ns es : List ℤ) (counts : List ℕ) where
           (matters-other counts (pos v) (edgeAt es k) (λ z. let y : pos from ≡ pos v = q ∙ z in n (omega (arith, ints, y))))
 
       -- a turn in which the heads become head′
-      link-next : (head′ : List ℕ) → length head′ ≡ length head → drop (length ns / 4) head′ ≡ drop (length ns / 4) head
-          → ((v : ℕ) → v < length ns / 4 → getD head′ v 0 ≡ firstFrom (pos v) k)
+      link-next : (head′ : List ℕ) → length head′ ≡ length head → drop (length ns / nodeWidth) head′ ≡ drop (length ns / nodeWidth) head
+          → ((v : ℕ) → v < length ns / nodeWidth → getD head′ v 0 ≡ firstFrom (pos v) k)
           → Linking head₀ next₀ head′ (set next k (getD head from 0)) k
       link-next head′ l d h =
           let edge = length-set next k (getD head from 0) in
@@ -148,7 +149,7 @@ module _ (ns es : List ℤ) (counts : List ℕ) where
             headSize = l ∙ s .headSize;
             nextSize = edge ∙ s .nextSize;
             headKept = d ∙ s .headKept;
-            nextKept = drop-set-lt (length es / 3) next k (getD head from 0) (omega (arith, s .within)) ∙ s .nextKept;
+            nextKept = drop-set-lt (length es / edgeWidth) next k (getD head from 0) (omega (arith, s .within)) ∙ s .nextKept;
           }
 
       -- an edge that enters a node whose count is 0 is left out
@@ -161,7 +162,7 @@ module _ (ns es : List ℤ) (counts : List ℕ) where
       -- any other becomes the head of the node that it leaves
       pub link-live : getD counts to 0 ≢ 0 → Linking head₀ next₀ (set head from k) (set next k (getD head from 0)) k
       link-live z =
-          link-next (set head from k) (length-set head from k) (drop-set-lt (length ns / 4) head from k (from-below ends from q))
+          link-next (set head from k) (length-set head from k) (drop-set-lt (length ns / nodeWidth) head from k (from-below ends from q))
           (λ v h. at v h (eqb v from) (eq? v from))
         where
           live : matters counts (pos from) (edgeAt es k) ≡ true
@@ -169,7 +170,7 @@ module _ (ns es : List ℤ) (counts : List ℕ) where
               ap (λ v. matters counts v (edgeAt es k)) q
               ∙ matters-live counts (edgeAt es k) (rw (countAt-index counts to r) (omega (arith, z)))
 
-          at : (v : ℕ) → v < length ns / 4 → (t : Bool) → Test (v ≡ from) (v ≢ from) t → getD (set head from k) v 0 ≡ firstFrom (pos v) k
+          at : (v : ℕ) → v < length ns / nodeWidth → (t : Bool) → Test (v ≡ from) (v ≢ from) t → getD (set head from k) v 0 ≡ firstFrom (pos v) k
           at v h true (passed y) =
               rw y
               (getD-set-same head from k 0 (omega (arith, s .nodeRoom, from-below ends from q))
@@ -178,11 +179,11 @@ module _ (ns es : List ℤ) (counts : List ℕ) where
 
   -- behind the last turn
   pub link-end : {head₀ next₀ head next : List ℕ} (old : List ℕ) → Linking head₀ next₀ head next 0
-      → head₀ ≡ replicate (length ns / 4) (length es / 3) ++ drop (length ns / 4) old → Linked counts (graphOf ns es) old next₀ head next
+      → head₀ ≡ replicate (length ns / nodeWidth) (length es / edgeWidth) ++ drop (length ns / nodeWidth) old → Linked counts (graphOf ns es) old next₀ head next
   unfolding graphOf headsOf nextsOf
   link-end {head₀} {next₀} {head} {next} old s z =
-      let n = length ns / 4 in
-      let m = length es / 3 in
+      let n = length ns / nodeWidth in
+      let m = length es / edgeWidth in
       record {
         heads =
             values-front (λ v. firstFrom (pos v) 0) 0 n head (s .nodeRoom) (s .heads)
@@ -198,7 +199,7 @@ module _ (ns es : List ℤ) (counts : List ℕ) where
       link : Edge → ℕ
       link e = firstFrom (e .from) (suc (e .row))
 
-      at : (e : ℕ) → e < length es / 3 → getD next e 0 ≡ getD (map link (edgeRows es)) e 0
+      at : (e : ℕ) → e < length es / edgeWidth → getD next e 0 ≡ getD (map link (edgeRows es)) e 0
       at e h =
           s .nexts e (omega arith) h
           ∙ sym (map-at link (edgeRows es) e 0 (edgeAt es e) (omega (arith, edges-length es)) ∙ ap link (edges-at es e (edgeAt es e) (omega arith)))

@@ -12,7 +12,7 @@ use Rattle.model.specs.Runs.{paths}
 use Rattle.model.specs.Taken.{TakenTables}
 use Rattle.depth.specs.Order.{edgeOrder}
 
--- how many paths lead from v to the leaf l
+-- how many paths lead from v to l
 unfoldable pub pathCount : Graph → ℤ → ℤ → ℕ
 pathCount g v l = length (paths g v l)
 

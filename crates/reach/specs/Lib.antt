@@ -1,3 +1,2 @@
 pub mod Counting
 pub mod Links
-pub mod AllPaths

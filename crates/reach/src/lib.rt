@@ -1,21 +1,18 @@
 // Counts of the paths to a leaf, and the edges that can still reach it, linked by the node that they leave.
 ghost use mathlib.Core.Path.{_≡_};
 ghost use mathlib.Core.List.{_++_};
-ghost use Prim.Native.Nat.{_+_, _/_, _≤_, _<_};
+ghost use Prim.Native.Nat.{_+_, _≤_, _<_};
 ghost use lib.IntN.{pos};
 ghost use lib.ListN.{length, getD, set, replicate, drop};
 ghost use Rattle.model.specs.Limits.{maxPaths};
 ghost use Rattle.model.specs.Graph.{graphOf};
 ghost use Rattle.reach.specs.Counting.{stopped, countsOver, Countable};
-ghost use Rattle.reach.specs.AllPaths.{totalsOver, blockCount, blocksOver, Totalable};
 ghost use Rattle.reach.specs.Links.{Linkable, Linked};
-use model::BLOCK;
 use model::EDGE_WIDTH;
 use model::MAX_PATHS;
 use model::NODE_WIDTH;
 use tables::edge_from;
 use tables::edge_to;
-use tables::node_at;
 
 // The sum of two stopped counts, stopped.
 fn stopped_sum(a: usize, b: usize) -> usize
@@ -41,13 +38,13 @@ fn fill(out: &mut [usize], count: usize, value: usize)
     }
 }
 
-// Sets the counts of the first `count` nodes to what they are before a pass: 1 at the leaf, 0 at the others.
-pub fn start_counts(counts: &mut [usize], count: usize, leaf: usize)
-    requires { ⌜ (leaf < count) × (count ≤ length (now counts)) ⌝ }
-    ensures { λ _. ⌜ now (counts .exit) ≡ set (replicate count 0 ++ drop count (now (counts .entry))) leaf 1 ⌝ }
+// Sets the counts of the first `count` nodes to what they are before a pass: 1 at the node from which paths are counted, 0 at the others.
+pub fn start_counts(counts: &mut [usize], count: usize, node: usize)
+    requires { ⌜ (node < count) × (count ≤ length (now counts)) ⌝ }
+    ensures { λ _. ⌜ now (counts .exit) ≡ set (replicate count 0 ++ drop count (now (counts .entry))) node 1 ⌝ }
 {
     fill(counts, count, 0);
-    counts[leaf] = 1;
+    counts[node] = 1;
 }
 
 // Adds `more` to the count of node v, which stops one past the limit.
@@ -78,51 +75,6 @@ pub fn count_paths(nodes: &[i64], edges: &[i64], order: &[usize], leaf: usize, c
         let more = counts[to];
         if more != 0 {
             add_paths(counts, from, more);
-        }
-    }
-}
-
-// How many paths of no edge lead from a node of this kind to a block.
-fn block_count(kind: i64) -> usize
-    ensures { λ r. ⌜ r ≡ blockCount kind ⌝ }
-{
-    if kind == BLOCK {
-        return 1;
-    }
-    0
-}
-
-// Sets the totals of all nodes to what they are before a pass: 1 at each block, 0 at the others.
-fn start_totals(nodes: &[i64], totals: &mut [usize])
-    requires { ⌜ length (now nodes) / 4 ≤ length (now totals) ⌝ }
-    ensures { λ _. ⌜ now (totals .exit) ≡ blocksOver (now (nodes .entry)) (now (totals .entry)) ⌝ }
-{
-    let count = nodes.len() / NODE_WIDTH;
-    let mut v = 0;
-    while v < count {
-        let row = node_at(nodes, v);
-        totals[v] = block_count(row.kind);
-        v += 1;
-    }
-}
-
-// Sets totals[v], for each node v, to the number of paths from v to all blocks together, or to MAX_PATHS + 1 where there are more than MAX_PATHS.
-// One pass over the edges in the same order as count_paths. An edge into a node without a path to a block adds none: it is passed over.
-pub fn count_all(nodes: &[i64], edges: &[i64], order: &[usize], totals: &mut [usize])
-    requires { ⌜ Totalable (now nodes) (now edges) (now order) (now totals) ⌝ }
-    ensures { λ _. ⌜ now (totals .exit) ≡ totalsOver (graphOf (now (nodes .entry)) (now (edges .entry))) (now (totals .entry)) ⌝ }
-{
-    start_totals(nodes, totals);
-    let count = edges.len() / EDGE_WIDTH;
-    let mut i = 0;
-    while i < count {
-        let e = order[i];
-        i += 1;
-        let from = edge_from(edges, e);
-        let to = edge_to(edges, e);
-        let onward = totals[to];
-        if onward != 0 {
-            add_paths(totals, from, onward);
         }
     }
 }

@@ -4,16 +4,10 @@ use borrow.Author.Needs.{needs}
 use Rattle.depth.proofs.check_graph.Statement.{statement}
 use Rattle.depth.proofs.check_graph.Tie as tie
 
-slice-aggregate-check-graph-with : tie.Need-slice-aggregate-check-graph-with
-slice-aggregate-check-graph-with c = search needs
-
-check-graph-with-requires : tie.Need-check-graph-with-requires
-check-graph-with-requires c κs = search needs
-
 returns : tie.Need-returns
 unfolding checkAnswer
-returns c = c .before .check-graph-with .ensures .answers
+returns c = c .before .before .check-graph-with .ensures .answers
 
 pub check-graph-spec : {M : Type 1} → statement M
 check-graph-spec =
-    tie.close (tie.spec slice-aggregate-check-graph-with check-graph-with-requires returns)
+    tie.close (tie.spec (λ c. search needs) (λ c. search needs) (λ c κs. search needs) returns)

@@ -16,86 +16,64 @@ use Rattle.depth.proofs.check_graph_with.Statement.{statement}
 use Rattle.depth.proofs.check_graph_with.Tie as tie
 
 -- the checks of the rows take the graph
-taken : (c : tie.After-enum-told) → let s = c .before .before .before .before in
+taken : (c : tie.After-enum-told) → let s = c .before .before .before .before .before in
     checkedAnswer checked.Taken ≡ answer (checkRows (s .args .table) (s .args .nodes .now) (s .args .edges .now)) tt
 taken c = ap checkedAnswer (sym (c .enum-told .given .1)) ∙ c .before .before .check-rows .ensures
 
 -- the answer, where the order of the edges found this
-answered : (c : tie.After-order-edges) (found : Chained) {given : Checked} → let s = c .before .before .before .before .before .before in
+answered : (c : tie.After-order-edges) (found : Chained) {given : Checked} → let s = c .before .before .before .before .before .before .before .before in
     c .order-edges .result ≡ found
     → checkedAnswer given ≡ answer (chainRefusal (s .args .table) found) tt
-    → GraphChecked (s .args .table) (s .args .nodes .now) (s .args .edges .now) (s .args .order .now) given (c .order-edges .last .1 .0)
+    → GraphChecked (s .args .table) (s .args .nodes .now) (s .args .edges .now) (s .args .order .now) given (c .order-edges .last .1 .1 .0)
 answered c found told e =
-    let s = c .before .before .before .before .before .before in
-    chains-answered (s .args .table) (s .args .nodes .now) (s .args .edges .now) (s .args .order .now) (taken (c .before .before))
-    (subst (λ f. OrderedInto (s .args .edges .now) (s .args .order .now) f (c .order-edges .last .1 .0)) told (c .order-edges .ensures)) e
-
-check-rows-requires : tie.Need-check-rows-requires
-check-rows-requires c κs = search needs
-
-enum-known-rows : tie.Need-enum-known-rows
-enum-known-rows c = search needs
+    let s = c .before .before .before .before .before .before .before .before in
+    chains-answered (s .args .table) (s .args .nodes .now) (s .args .edges .now) (s .args .order .now) (taken (c .before .before .before))
+    (subst (λ f. OrderedInto (s .args .edges .now) (s .args .order .now) f (c .order-edges .last .1 .1 .0)) told (c .order-edges .ensures)) e
 
 returns : tie.Need-returns
 returns c =
     let k = c .before .before .before in
-    let s = k .before .before in
+    let s = k .before .before .before in
     rows-refused (s .args .table) (s .args .nodes .now) (s .args .edges .now) (s .args .order .now) (c .before .rows .given .0 .0)
     (ap checkedAnswer (sym (c .before .rows .given .1)) ∙ k .check-rows .ensures)
 
-enum-told : tie.Need-enum-told
-enum-told c = search needs
-
 order-edges-requires : tie.Need-order-edges-requires
 order-edges-requires c κs =
-    let s = c .before .before .before .before .before in
-    rows-taken (s .args .table) (s .args .nodes .now) (s .args .edges .now) (s .args .order .now) (taken (c .before)) (s .pre .1)
-
-enum-told-2 : tie.Need-enum-told-2
-enum-told-2 c = search needs
-
-enum-told-3 : tie.Need-enum-told-3
-enum-told-3 c = search needs
-
-enum-told-4 : tie.Need-enum-told-4
-enum-told-4 c = search needs
-
-same-length : tie.Need-same-length
-same-length c = search needs
+    let s = c .before .before .before .before .before .before .before in (
+      rows-taken (s .args .table) (s .args .nodes .now) (s .args .edges .now) (s .args .order .now) (taken (c .before .before)) (s .pre .2),
+      s .pre .1,
+    )
 
 returns-2 : tie.Need-returns-2
 unfolding answer chainRefusal
-returns-2 c = answered (c .before .before .before .before) chained.Cycle (c .enum-told2 .given .1) refl
-
-same-length-2 : tie.Need-same-length-2
-same-length-2 c = search needs
+returns-2 c = answered (c .before .before .before .before .before .before) chained.Cycle (c .enum-told2 .given .1) refl
 
 returns-3 : tie.Need-returns-3
 unfolding answer chainRefusal
-returns-3 c = answered (c .before .before .before .before) chained.LongChain (c .enum-told3 .given .1) refl
-
-same-length-3 : tie.Need-same-length-3
-same-length-3 c = search needs
+returns-3 c = answered (c .before .before .before .before .before .before) chained.LongChain (c .enum-told3 .given .1) refl
 
 returns-4 : tie.Need-returns-4
 unfolding answer chainRefusal
-returns-4 c = answered (c .before .before .before .before) chained.Ordered (c .enum-told4 .given .1) refl
+returns-4 c = answered (c .before .before .before .before .before .before) chained.Ordered (c .enum-told4 .given .1) refl
 
 pub check-graph-with-spec : {M : Type 1} → statement M
 check-graph-with-spec =
     tie.close
     (tie.spec
-    check-rows-requires
-    enum-known-rows
+    (λ c κs. search needs)
+    (λ c. search needs)
     returns
-    enum-told
+    (λ c. search needs)
     order-edges-requires
-    enum-told-2
-    enum-told-3
-    enum-told-4
-    same-length
+    (λ c. search needs)
+    (λ c. search needs)
+    (λ c. search needs)
+    (λ c. search needs)
+    (λ c. search needs)
     returns-2
-    same-length-2
+    (λ c. search needs)
+    (λ c. search needs)
     returns-3
-    same-length-3
+    (λ c. search needs)
+    (λ c. search needs)
     returns-4)

@@ -27,35 +27,8 @@ impl-test c =
     let f : SFits w64 (getD (a .pairs .now) (2 * a .k + 1) (pos 0)) = sfits-of {w = w64} (c .before .has-class-arg2 .given) in
     sym (simp (toZ-ofZ, f) at (c .has-class2 .ensures))
 
-mul-has-class : tie.Need-mul-has-class
-mul-has-class c = search needs
-
-mul-has-class-2 : tie.Need-mul-has-class-2
-mul-has-class-2 c = search needs
-
-shared-slice-copy-out-has-class : tie.Need-shared-slice-copy-out-has-class
-shared-slice-copy-out-has-class c = search needs
-
-has-class-requires : tie.Need-has-class-requires
-has-class-requires c κs = search needs
-
 returns : tie.Need-returns
 returns c = rw (spec-test (c .before) ∙ not-true _ (c .if1 .taken))
-
-mul-has-class-3 : tie.Need-mul-has-class-3
-mul-has-class-3 c = search needs
-
-add-has-class : tie.Need-add-has-class
-add-has-class c = search needs
-
-mul-has-class-4 : tie.Need-mul-has-class-4
-mul-has-class-4 c = search needs
-
-shared-slice-copy-out-has-class-2 : tie.Need-shared-slice-copy-out-has-class-2
-shared-slice-copy-out-has-class-2 c = search needs
-
-has-class-requires-2 : tie.Need-has-class-requires-2
-has-class-requires-2 c κs = search needs
 
 returns-2 : tie.Need-returns-2
 returns-2 c = rw (spec-test (c .before .before .before) ∙ not-false _ (c .before .before .if1 .left)) (sym (impl-test c))
@@ -64,14 +37,14 @@ pub both-have-class-spec : {M : Type 1} → statement M
 both-have-class-spec =
     tie.close
     (tie.spec
-    mul-has-class
-    mul-has-class-2
-    shared-slice-copy-out-has-class
-    has-class-requires
+    (λ c. search needs)
+    (λ c. search needs)
+    (λ c. search needs)
+    (λ c κs. search needs)
     returns
-    mul-has-class-3
-    add-has-class
-    mul-has-class-4
-    shared-slice-copy-out-has-class-2
-    has-class-requires-2
+    (λ c. search needs)
+    (λ c. search needs)
+    (λ c. search needs)
+    (λ c. search needs)
+    (λ c κs. search needs)
     returns-2)

@@ -7,21 +7,9 @@ use Rattle.pairing.specs.Pairs.{checkClassified}
 use Rattle.pairing.proofs.check_classified.Statement.{statement}
 use Rattle.pairing.proofs.check_classified.Tie as tie
 
-check-pairs-requires : tie.Need-check-pairs-requires
-check-pairs-requires c κs = search needs
-
-enum-known-c : tie.Need-enum-known-c
-enum-known-c c = search needs
-
 returns : tie.Need-returns
 unfolding checkClassified
 returns c = then-stops _ _ (ap checkedAnswer (sym (c .before .c .given .1)) ∙ c .before .before .before .check-pairs .ensures)
-
-enum-told : tie.Need-enum-told
-enum-told c = search needs
-
-check-pairs-requires-2 : tie.Need-check-pairs-requires-2
-check-pairs-requires-2 c κs = search needs
 
 returns-2 : tie.Need-returns-2
 unfolding checkClassified
@@ -32,4 +20,4 @@ returns-2 c =
 pub check-classified-spec : {M : Type 1} → statement M
 check-classified-spec =
     tie.close
-    (tie.spec check-pairs-requires enum-known-c returns enum-told check-pairs-requires-2 returns-2)
+    (tie.spec (λ c κs. search needs) (λ c. search needs) returns (λ c. search needs) (λ c κs. search needs) returns-2)

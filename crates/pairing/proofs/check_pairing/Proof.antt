@@ -25,42 +25,21 @@ impl-found c =
     let a = c .before .before .before .before .before .before .before .before .args in
     ap (take (length (a .impl-nodes .now) / 4)) (c .classify2 .ensures) ∙ classes-front (a .impl-nodes .now) (a .impl-edges .now) _
 
-check-sizes-requires : tie.Need-check-sizes-requires
-check-sizes-requires c κs = search needs
-
-enum-known-c : tie.Need-enum-known-c
-enum-known-c c = search needs
-
 returns : tie.Need-returns
 returns c =
     then-stops _ _ (ap checkedAnswer (sym (c .before .c .given .1)) ∙ c .before .before .before .check-sizes .ensures)
     ∙ ap checked (sym (check-pairing-classified (tablesOf _ _ _ _ _ _)))
 
-enum-told : tie.Need-enum-told
-enum-told c = search needs
-
-slice-aggregate-classify : tie.Need-slice-aggregate-classify
-slice-aggregate-classify c = search needs
-
 classify-requires : tie.Need-classify-requires
 classify-requires c κs = classes-room _ _ (c .before .before .before .before .pre .0)
 
-slice-aggregate-classify-2 : tie.Need-slice-aggregate-classify-2
-slice-aggregate-classify-2 c = search needs
-
 classify-requires-2 : tie.Need-classify-requires-2
 classify-requires-2 c κs = classes-room _ _ (c .before .before .before .before .before .before .before .pre .1)
-
-array-share-prefix-spec-class : tie.Need-array-share-prefix-spec-class
-array-share-prefix-spec-class c = search needs
 
 slice-aggregate-check-classified : tie.Need-slice-aggregate-check-classified
 slice-aggregate-check-classified c =
     let k = c .before .before .before .before .before in
     classes-size _ _ (k .before .before .before .before .before .pre .0) (spec-found k) .0
-
-array-share-prefix-impl-class : tie.Need-array-share-prefix-impl-class
-array-share-prefix-impl-class c = search needs
 
 slice-aggregate-check-classified-2 : tie.Need-slice-aggregate-check-classified-2
 slice-aggregate-check-classified-2 c =
@@ -86,17 +65,17 @@ pub check-pairing-spec : {M : Type 1} → statement M
 check-pairing-spec =
     tie.close
     (tie.spec
-    check-sizes-requires
-    enum-known-c
+    (λ c κs. search needs)
+    (λ c. search needs)
     returns
-    enum-told
-    slice-aggregate-classify
+    (λ c. search needs)
+    (λ c. search needs)
     classify-requires
-    slice-aggregate-classify-2
+    (λ c. search needs)
     classify-requires-2
-    array-share-prefix-spec-class
+    (λ c. search needs)
     slice-aggregate-check-classified
-    array-share-prefix-impl-class
+    (λ c. search needs)
     slice-aggregate-check-classified-2
     check-classified-requires
     returns-2)

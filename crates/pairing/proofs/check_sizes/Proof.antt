@@ -38,49 +38,19 @@ some-taken c =
     let k = c .before .before in
     shapes-taken (k .before) ∙ then-on _ _ (ap checkedAnswer (sym (c .enum-told3 .given .1)) ∙ k .check-some .ensures)
 
-check-shape-requires : tie.Need-check-shape-requires
-check-shape-requires c κs = search needs
-
-enum-known-c : tie.Need-enum-known-c
-enum-known-c c = search needs
-
 returns : tie.Need-returns
 unfolding checkSizes
 returns c = then-stops _ _ (ap checkedAnswer (sym (c .before .c .given .1)) ∙ c .before .before .before .check-shape .ensures)
-
-enum-told : tie.Need-enum-told
-enum-told c = search needs
-
-check-shape-requires-2 : tie.Need-check-shape-requires-2
-check-shape-requires-2 c κs = search needs
-
-enum-known-c-2 : tie.Need-enum-known-c-2
-enum-known-c-2 c = search needs
 
 returns-2 : tie.Need-returns-2
 returns-2 c =
     let k = c .before .before .before in
     then-stops _ _ (ap checkedAnswer (sym (c .before .c2 .given .1)) ∙ k .check-shape2 .ensures) ∙ sym (shape-taken (k .before))
 
-enum-told-2 : tie.Need-enum-told-2
-enum-told-2 c = search needs
-
-check-some-requires : tie.Need-check-some-requires
-check-some-requires c κs = search needs
-
-enum-known-c-3 : tie.Need-enum-known-c-3
-enum-known-c-3 c = search needs
-
 returns-3 : tie.Need-returns-3
 returns-3 c =
     let k = c .before .before .before in
     then-stops _ _ (ap checkedAnswer (sym (c .before .c3 .given .1)) ∙ k .check-some .ensures) ∙ sym (shapes-taken (k .before))
-
-enum-told-3 : tie.Need-enum-told-3
-enum-told-3 c = search needs
-
-check-some-requires-2 : tie.Need-check-some-requires-2
-check-some-requires-2 c κs = search needs
 
 returns-4 : tie.Need-returns-4
 returns-4 c = c .check-some2 .ensures ∙ sym (some-taken (c .before))
@@ -89,17 +59,17 @@ pub check-sizes-spec : {M : Type 1} → statement M
 check-sizes-spec =
     tie.close
     (tie.spec
-    check-shape-requires
-    enum-known-c
+    (λ c κs. search needs)
+    (λ c. search needs)
     returns
-    enum-told
-    check-shape-requires-2
-    enum-known-c-2
+    (λ c. search needs)
+    (λ c κs. search needs)
+    (λ c. search needs)
     returns-2
-    enum-told-2
-    check-some-requires
-    enum-known-c-3
+    (λ c. search needs)
+    (λ c κs. search needs)
+    (λ c. search needs)
     returns-3
-    enum-told-3
-    check-some-requires-2
+    (λ c. search needs)
+    (λ c κs. search needs)
     returns-4)

@@ -46,29 +46,20 @@ row-good : (c : tie.Else1 Inv-loop μ-loop) → let a = c .before .before .befor
     hasClass (a .spec-class .now) (a .wanted) (pairAt (a .pairs .now) k .spec) && hasClass (a .impl-class .now) (a .wanted) (pairAt (a .pairs .now) k .impl) ≡ true
 row-good c = sym (c .before .both-have-class .ensures) ∙ not-false _ (c .if1 .left)
 
-mul-index-at : tie.Need-mul-index-at Inv-loop μ-loop
-mul-index-at c = omega (arith, c .before .before .loop-test .taken)
+spec-node-requires : tie.Need-spec-node-requires Inv-loop μ-loop
+spec-node-requires c κs = let t = c .before .before in (omega (arith, t .loop-test .taken), spec-classed (t .before .loop .inv) (t .loop-test .taken) (row-good c) .0)
 
-index-at-requires : tie.Need-index-at-requires Inv-loop μ-loop
-index-at-requires c κs = let t = c .before .before in (omega (arith, t .loop-test .taken), spec-classed (t .before .loop .inv) (t .loop-test .taken) (row-good c) .0)
-
-mul-index-at-2 : tie.Need-mul-index-at-2 Inv-loop μ-loop
-mul-index-at-2 c = omega (arith, c .before .before .before .loop-test .taken)
-
-add-index-at : tie.Need-add-index-at Inv-loop μ-loop
-add-index-at c = omega (arith, c .before .before .before .loop-test .taken)
-
-index-at-requires-2 : tie.Need-index-at-requires-2 Inv-loop μ-loop
-index-at-requires-2 c κs = let t = c .before .before .before in (omega (arith, t .loop-test .taken), impl-classed (t .before .loop .inv) (t .loop-test .taken) (row-good (c .before)) .0)
+impl-node-requires : tie.Need-impl-node-requires Inv-loop μ-loop
+impl-node-requires c κs = let t = c .before .before .before in (omega (arith, t .loop-test .taken), impl-classed (t .before .loop .inv) (t .loop-test .taken) (row-good (c .before)) .0)
 
 -- both nodes have a mark
-row-marked : (c : tie.After-index-at2 Inv-loop μ-loop) → let l = c .before .before .before .before .before in
-    (c .before .index-at .result < length (l .loop .spec-marks)) × (c .index-at2 .result < length (l .loop .impl-marks))
+row-marked : (c : tie.After-impl-node Inv-loop μ-loop) → let l = c .before .before .before .before .before in
+    (c .before .spec-node .result < length (l .loop .spec-marks)) × (c .impl-node .result < length (l .loop .impl-marks))
 row-marked c =
     let e = c .before .before in
     let t = e .before .before in
-    nodes-marked (t .before .loop .inv) (t .loop-test .taken) (row-good e) (c .before .index-at .result) (c .index-at2 .result) (c .before .index-at .ensures)
-    (c .index-at2 .ensures)
+    nodes-marked (t .before .loop .inv) (t .loop-test .taken) (row-good e) (c .before .spec-node .result) (c .impl-node .result) (c .before .spec-node .ensures)
+    (c .impl-node .ensures)
 
 mul-one-marked : tie.Need-mul-one-marked Inv-loop μ-loop
 mul-one-marked c = omega (arith, row-marked c)
@@ -96,8 +87,8 @@ returns-2 c =
     let x = c .before .before .before .before in
     let e = x .before .before in
     let t = e .before .before in
-    passed-before (t .before .loop .inv) (t .loop-test .taken) (row-good e) (x .before .index-at .result) (x .index-at2 .result) (x .before .index-at .ensures)
-    (x .index-at2 .ensures) (sym (c .before .one-marked .ensures) ∙ c .if2 .taken)
+    passed-before (t .before .loop .inv) (t .loop-test .taken) (row-good e) (x .before .spec-node .result) (x .impl-node .result) (x .before .spec-node .ensures)
+    (x .impl-node .ensures) (sym (c .before .one-marked .ensures) ∙ c .if2 .taken)
 
 mul-spec-marks : tie.Need-mul-spec-marks Inv-loop μ-loop
 mul-spec-marks c = omega (arith, row-marked (c .before .before .before .before))
@@ -122,8 +113,8 @@ loop-again c =
     let x = c .before .before .before .before in
     let e = x .before .before in
     let t = e .before .before in
-    passed-next (t .before .loop .inv) (t .loop-test .taken) (row-good e) (x .before .index-at .result) (x .index-at2 .result) (x .before .index-at .ensures)
-    (x .index-at2 .ensures) (sym (c .before .one-marked .ensures) ∙ c .if2 .left)
+    passed-next (t .before .loop .inv) (t .loop-test .taken) (row-good e) (x .before .spec-node .result) (x .impl-node .result) (x .before .spec-node .ensures)
+    (x .impl-node .ensures) (sym (c .before .one-marked .ensures) ∙ c .if2 .left)
 
 same-length-5 : tie.Need-same-length-5 Inv-loop μ-loop
 same-length-5 c = c .before .loop .inv .specSize
@@ -147,11 +138,8 @@ check-unmarked-spec =
     same-length
     same-length-2
     returns
-    mul-index-at
-    index-at-requires
-    mul-index-at-2
-    add-index-at
-    index-at-requires-2
+    spec-node-requires
+    impl-node-requires
     mul-one-marked
     slice-read-one-marked
     mul-one-marked-2

@@ -8,18 +8,12 @@ use Rattle.pairing.proofs.Classes.{enters-within, classes-found}
 use Rattle.pairing.proofs.classify.Statement.{statement}
 use Rattle.pairing.proofs.classify.Tie as tie
 
-classify-kinds-requires : tie.Need-classify-kinds-requires
-classify-kinds-requires c κs = search needs
-
 enter-edges-requires : tie.Need-enter-edges-requires
 enter-edges-requires c κs =
     let k = c .before .before .before in
     let s = k .before .before .before in
     enters-within (s .args .nodes .now) (s .args .edges .now) (s .pre .tables) (k .classify-kinds .last .1 .0)
     (omega (arith, s .pre .room, k .classify-kinds .kept .1 .0))
-
-same-length : tie.Need-same-length
-same-length c = search needs
 
 returns : tie.Need-returns
 returns c =
@@ -32,4 +26,4 @@ returns c =
 
 pub classify-spec : {M : Type 1} → statement M
 classify-spec =
-    tie.close (tie.spec classify-kinds-requires enter-edges-requires same-length returns)
+    tie.close (tie.spec (λ c κs. search needs) enter-edges-requires (λ c. search needs) returns)

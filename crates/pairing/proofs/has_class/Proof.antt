@@ -21,15 +21,9 @@ cast-i c = index-fits (c .before .fits .v) (low c)
 returns-2 : tie.Need-returns-2
 returns-2 c = class-beyond _ _ _ (index-same (c .before .before .fits .v) (low (c .before))) (c .if2 .taken)
 
-mul-result : tie.Need-mul-result
-mul-result c = search needs
-
-shared-slice-read-result : tie.Need-shared-slice-read-result
-shared-slice-read-result c = search needs
-
 returns-3 : tie.Need-returns-3
 returns-3 c = class-there _ _ _ (index-same (c .before .before .before .fits .v) (low (c .before .before))) (c .before .if2 .left)
 
 pub has-class-spec : {M : Type 1} → statement M
 has-class-spec =
-    tie.close (tie.spec returns cast-i returns-2 mul-result shared-slice-read-result returns-3)
+    tie.close (tie.spec returns cast-i returns-2 (λ c. search needs) (λ c. search needs) returns-3)

@@ -5,6 +5,7 @@ use native.Mathlib.Numerals.{add-one}
 use native.Mathlib.Omega.{arith}
 use borrow.Author.Needs.{needs}
 use lib.ListN.{length, drop}
+use Rattle.model.specs.Limits.{pairWidth}
 use Rattle.model.specs.Rows.{pairsFrom, pairRows}
 use Rattle.model.specs.Answers.{checkedAnswer}
 use Rattle.tables.proofs.Checks.{checked, Left, left-none, left-on, left-stops}
@@ -18,7 +19,7 @@ use Rattle.pathlimit.proofs.check_leaves.Tie as tie
 
 abbrev Inv-loop : tie.InvT-loop
 Inv-loop leaf-pairs root-row spec-counts impl-counts count leaf-row₀ leaf-row =
-    Left (checkLeaf spec-counts impl-counts root-row) (pairRows leaf-pairs) (pairsFrom leaf-row (drop (2 * leaf-row) leaf-pairs))
+    Left (checkLeaf spec-counts impl-counts root-row) (pairRows leaf-pairs) (pairsFrom leaf-row (drop (pairWidth * leaf-row) leaf-pairs))
 
 abbrev μ-loop : tie.MeasureT-loop
 μ-loop leaf-pairs root-row spec-counts impl-counts count leaf-row₀ leaf-row = count - leaf-row

@@ -6,7 +6,8 @@ use Rattle.model.specs.Graph.{graphOf}
 use Rattle.model.specs.Paths.{Root}
 use Rattle.tables.proofs.Checks.{checked}
 use Rattle.pairing.specs.Pairs.{pairAt}
-use Rattle.pathlimit.proofs.Rows.{row-roots, spec-countable, impl-countable, leaves-counted, row-checked}
+use Rattle.pathlimit.proofs.Inputs.{row-roots}
+use Rattle.pathlimit.proofs.Rows.{spec-countable, impl-countable, leaves-counted, row-checked}
 use Rattle.pathlimit.proofs.check_row.Statement.{statement}
 use Rattle.pathlimit.proofs.check_row.Tie as tie
 
@@ -19,7 +20,7 @@ roots : (s : tie.Start)
     → let a = s .args in
     let p = pairAt (a .root-pairs .now) (a .root-row) in
     Root (graphOf (a .spec-nodes .now) (a .spec-edges .now)) (p .spec) × Root (graphOf (a .impl-nodes .now) (a .impl-edges .now)) (p .impl)
-roots s = row-roots (s .pre .0) (s .args .root-row) (s .pre .3)
+roots s = row-roots (s .pre .0 .inputs) (s .args .root-row) (s .pre .3)
 
 spec-node-requires : tie.Need-spec-node-requires
 spec-node-requires c κs = let s = c .before .before .before .before in (omega (arith, s .pre .3), roots s .0 .row .low)
@@ -47,12 +48,6 @@ check-leaves-requires c κs =
     leaves-counted (s .pre .0) (s .args .root-row) (s .pre .3) _ _
     (omega (arith, s .pre .1, first .count-from .kept .1 .1 .1 .1 .0)) (omega (arith, s .pre .2, second .count-from2 .kept .1 .1 .1 .1 .0))
 
-same-length : tie.Need-same-length
-same-length c = search needs
-
-same-length-2 : tie.Need-same-length-2
-same-length-2 c = search needs
-
 returns : tie.Need-returns
 returns c =
     let second = c .before .before .before .before .before in
@@ -73,6 +68,6 @@ check-row-spec =
     count-from-requires
     count-from-requires-2
     check-leaves-requires
-    same-length
-    same-length-2
+    (λ c. search needs)
+    (λ c. search needs)
     returns)

@@ -4,6 +4,7 @@ use Prim.Native.Nat.{_-_, _/_, _≤_, _<_}
 use native.Mathlib.Omega.{arith}
 use lib.IntN.{pos}
 use lib.ListN.{length, getD}
+use Rattle.model.specs.Limits.{nodeWidth}
 use Rattle.tables.specs.Tables.{edgeAt}
 use Rattle.reach.proofs.Ends.{Ends, from-below, to-below}
 use Rattle.forward.specs.Forward.{passedCount}
@@ -37,7 +38,7 @@ ends k =
 -- both ends are indices of the counts
 within : (k : tie.After-edge-to Inv-loop μ-loop)
     → let l = k .before .before .before .before in
-    let n = length (start l .args .nodes .now) / 4 in
+    let n = length (start l .args .nodes .now) / nodeWidth in
     (k .before .edge-from .result < n) × (k .edge-to .result < n) × (n ≤ length (l .loop .counts))
 within k =
     let e = ends (k .before .before) in (

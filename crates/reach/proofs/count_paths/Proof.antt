@@ -3,9 +3,11 @@ use mathlib.Core.Path.{_∙_}
 use Prim.Native.Nat.{_-_, _/_, _≤_, _<_}
 use native.Mathlib.Omega.{arith}
 use lib.ListN.{length, getD}
+use Rattle.model.specs.Limits.{nodeWidth}
 use Rattle.tables.proofs.Rows.{nodes-length}
 use Rattle.reach.proofs.Ends.{Ends, from-below, to-below}
-use Rattle.reach.proofs.Pass.{Passed, leaf-below, pass-start, turn-ends, turn-stopped, pass-next, pass-over, pass-end}
+use Rattle.reach.proofs.Turns.{turn-ends}
+use Rattle.reach.proofs.Pass.{Passed, leaf-below, pass-start, turn-stopped, pass-next, pass-over, pass-end}
 use Rattle.reach.proofs.count_paths.Statement.{statement}
 use Rattle.reach.proofs.count_paths.Tie as tie
 
@@ -25,12 +27,12 @@ turn : (k : tie.In-loop Inv-loop μ-loop)
     (k .before .loop .i < length (s .args .order .now)) × Ends (s .args .nodes .now) (s .args .edges .now) (getD (s .args .order .now) (k .before .loop .i) 0)
 turn k =
     let s = start (k .before) in
-    turn-ends (s .args .nodes .now) (s .args .edges .now) (s .args .order .now) (s .args .leaf) (k .before .loop .inv .at) (k .loop-test .taken)
+    turn-ends (s .args .nodes .now) (s .args .edges .now) (s .args .order .now) (k .before .loop .inv .at) (k .loop-test .taken)
 
 -- both ends are indices of the counts
 turn-within : (k : tie.After-edge-to Inv-loop μ-loop)
     → let l = k .before .before .before .before in
-    let n = length (start l .args .nodes .now) / 4 in
+    let n = length (start l .args .nodes .now) / nodeWidth in
     (k .before .edge-from .result < n) × (k .edge-to .result < n) × (n ≤ length (l .loop .counts))
 turn-within k =
     let e = turn (k .before .before .before) .1 in (

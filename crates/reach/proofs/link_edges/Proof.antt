@@ -3,6 +3,7 @@ use mathlib.Core.Path.{_∙_}
 use Prim.Native.Nat.{suc, _-_, _/_, _≤_, _<_}
 use native.Mathlib.Omega.{arith}
 use lib.ListN.{length}
+use Rattle.model.specs.Limits.{nodeWidth}
 use Rattle.tables.proofs.Rows.{nodes-length}
 use Rattle.reach.proofs.Ends.{Ends, edge-ends, from-below, to-below}
 use Rattle.reach.proofs.Links.{Linking, linking-at, link-start, link-dead, link-live, link-end}
@@ -27,7 +28,7 @@ turn-ends k =
 -- both ends are indices of nodes, and the heads have a place for each node
 turn-within : (k : tie.After-edge-to Inv-loop μ-loop)
     → let s = k .before .before .before .before .before .before .before .before .before .before .before in
-    let n = length (s .args .nodes .now) / 4 in
+    let n = length (s .args .nodes .now) / nodeWidth in
     (k .before .edge-from .result < n) × (k .edge-to .result < n) × (n ≤ length (k .before .before .before .loop .head)) × (n ≤ length (s .args .counts .now))
 turn-within k =
     let e = turn-ends (k .before .before) in

@@ -2,17 +2,8 @@
 use borrow.Author.Needs.{needs, sfits-of}
 use mir.Syntax.{w64}
 use Rattle.tables.proofs.Cells.{index-fits, index-same}
-use Rattle.pathlimit.proofs.spec_node.Statement.{statement}
-use Rattle.pathlimit.proofs.spec_node.Tie as tie
-
-mul-result : tie.Need-mul-result
-mul-result c = search needs
-
-mul-result-2 : tie.Need-mul-result-2
-mul-result-2 c = search needs
-
-shared-slice-copy-out-result : tie.Need-shared-slice-copy-out-result
-shared-slice-copy-out-result c = search needs
+use Rattle.pairing.proofs.spec_node.Statement.{statement}
+use Rattle.pairing.proofs.spec_node.Tie as tie
 
 cast-result : tie.Need-cast-result
 cast-result c = index-fits (sfits-of {w = w64} (c .result .given)) (c .before .pre .1)
@@ -22,4 +13,4 @@ returns c = index-same (sfits-of {w = w64} (c .result .given)) (c .before .pre .
 
 pub spec-node-spec : {M : Type 1} → statement M
 spec-node-spec =
-    tie.close (tie.spec mul-result mul-result-2 shared-slice-copy-out-result cast-result returns)
+    tie.close (tie.spec (λ c. search needs) (λ c. search needs) (λ c. search needs) cast-result returns)

@@ -1,6 +1,1 @@
-pub mod Keys
-pub mod Many
-pub mod Few
-pub mod Checks
-pub mod Results
-pub mod Stopping
+pub mod Promises

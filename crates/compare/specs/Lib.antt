@@ -1,5 +1,1 @@
-pub mod Inputs
-pub mod Keys
 pub mod Promises
-pub mod UpTo
-pub mod Few

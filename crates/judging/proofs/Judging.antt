@@ -69,7 +69,7 @@ rows-length t n = length-map (rowsOf t n) ofDisplacement ∙ rowsOf-length t n
 -- ---- the verdict
 
 -- a list of no records is empty
-no-records : (l : List Record) → length l ≡ 0 → l ≡ []
+pub no-records : (l : List Record) → length l ≡ 0 → l ≡ []
 no-records [] e = refl
 no-records (r ∷ l) e = absurd (omega arith)
 

@@ -1,7 +1,6 @@
--- The bitmapping list of a root and a leaf: empty where there is no path, with at most as many records as paths, normal, and of small records.
-use mathlib.Core.Path.{_≡_, refl}
+-- The bitmapping list of a root and a leaf: with at most as many records as paths, normal, and of small records.
 use mathlib.Core.Bool.{not}
-use mathlib.Core.List.{List, [], _∷_, map}
+use mathlib.Core.List.{map}
 use Prim.Native.Nat.{_≤_}
 use native.Mathlib.Omega.{arith}
 use lib.IntN.{ℤ, pos, _-ℤ_}
@@ -10,40 +9,26 @@ use lib.ListN.{length, length-map}
 use Rattle.integers.proofs.Linear.{ints}
 use Rattle.lists.specs.Lists.{keep}
 use Rattle.lists.proofs.Kept.{keep-length}
-use Rattle.model.specs.Limits.{maxPaths, lastAddress}
+use Rattle.model.specs.Limits.{lastAddress}
 use Rattle.model.specs.Graph.{Graph, NodeRow, node}
 use Rattle.model.specs.Paths.{Leaf}
-use Rattle.model.specs.Runs.{whole, empty, along, paths, runs, recordOf, normal, listOf}
+use Rattle.model.specs.Runs.{whole, empty, along, paths, runs, recordOf, listOf}
 use Rattle.model.specs.Taken.{Taken}
 use Rattle.model.proofs.Normalisation.{normal-length}
 use Rattle.model.proofs.Records.{has-at}
 use Rattle.model.proofs.Taken.{taken-fit, taken-address}
 use Rattle.model.proofs.Walks.{reached-address}
 use Rattle.model.proofs.ListLaw.{list-of-reached}
-use Rattle.reach.specs.Counting.{pathCount}
 use Rattle.normalisation.specs.Merging.{sortedByDisplacement}
 use Rattle.normalisation.specs.Records.{IsNormal}
 use Rattle.normalisation.proofs.Records.{list-normal}
 use Rattle.normalisation.proofs.Sorted.{by-displacement-members}
 use Rattle.verdicts.specs.Records.{SmallRecords}
-use Rattle.pairs.specs.Inputs.{FewPaths}
-
--- ---- no path
-
--- a list without an element
-length-none : {A : Type 0} (l : List A) → length l ≡ 0 → l ≡ []
-length-none [] e = refl
-length-none (x ∷ l) e = absurd (omega arith)
-
--- where no path leads to the leaf, the list is empty
-pub list-none : (g : Graph) (r l : ℤ) → pathCount g r l ≡ 0 → listOf g r l ≡ []
-unfolding pathCount listOf runs keep normal
-list-none g r l e = rw (length-none (paths g r l) e) refl
 
 -- a list has at most as many records as there are paths
-pub list-few : (g : Graph) (r l : ℤ) → FewPaths g r l → length (listOf g r l) ≤ maxPaths
+pub list-few : (g : Graph) (r l : ℤ) → length (listOf g r l) ≤ length (paths g r l)
 unfolding listOf runs
-list-few g r l h =
+list-few g r l =
     let all = map (λ p. along g p (whole (node g r))) (paths g r l) in
     let kept = keep (λ s. not (empty s)) all in
     omega (
@@ -52,10 +37,7 @@ list-few g r l h =
       length-map kept (recordOf (node g l)),
       keep-length (λ s. not (empty s)) all,
       length-map (paths g r l) (λ p. along g p (whole (node g r))),
-      h,
     )
-
--- ---- the records of a list
 
 module _ {g : Graph} {r l : ℤ} (k : Taken g) (root : NodeRow g r) (leaf : Leaf g l) where
   -- the records of the bitmapping list are small: the root bits that they have are addresses of the root

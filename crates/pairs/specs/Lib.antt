@@ -1,3 +1,1 @@
-pub mod Inputs
 pub mod Found
-pub mod Entering

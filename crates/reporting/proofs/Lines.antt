@@ -1,79 +1,98 @@
--- The rows of the findings: their lines are those of the findings, and they are small enough to be written.
+-- A line as one number: what is packed into it is taken out of it again. How long lines are, and the lines of the first numbers of a list.
 use mathlib.Core.Path.{_≡_, refl, ap, _∙_}
-use mathlib.Core.Bool.{Bool, true, false, not, cond, _&&_}
-use mathlib.Core.List.{List, [], _∷_, _++_, map, flatMap, List·Memᴰ·head, List·Memᴰ·tail}
-use Prim.Native.Nat.{_+_, _*_, _/_, _%_, _≤_}
+use mathlib.Core.List.{List, [], _∷_, _++_, append-nil, append-assoc, map, flatMap}
+use Prim.Native.Nat.{ℕ, _+_, _-_, _*_, _/_, _%_, _≤_, _<_}
+use native.Mathlib.Numerals.{add-one}
 use native.Mathlib.Omega.{arith}
-use lib.ListN.{length, length-map}
-use Rattle.integers.proofs.Linear.{ints}
-use Rattle.lists.specs.Lists.{_∈_, keep, isNil}
-use Rattle.lists.proofs.Membership.{keep-out, map-out}
-use Rattle.model.specs.Bytes.{Bytes}
+use lib.IntN.{ℤ, pos}
+use lib.ListN.{length, take, drop, getD, length-append}
+use lib.Seq.{take-suc, take-add}
+use Rattle.model.specs.Bytes.{blank, lineFeed, shown, spaced}
+use Rattle.model.specs.Answers.{verdictNumber}
 use Rattle.model.specs.Limits.{rootStride}
-use Rattle.model.specs.Compare.{Finding, verdictOf, count, resultOf}
-use Rattle.model.specs.Report.{findingLine, report}
-use Rattle.model.proofs.Folds.{counts-total}
-use Rattle.model.proofs.Verdicts.{verdict-range}
-use Rattle.reporting.specs.Lines.{hasLine, rowOfFinding, rowsOfFindings, lineOfRow, linesOf, reportFrom, SmallFinding, SmallRow, AllSmall, SmallResult, lengthStride, maxVisits}
+use Rattle.model.specs.Report.{lineOf}
+use Rattle.model.specs.declared.Verdict.{Verdict}
+use Rattle.model.specs.declared.Verdict.the-variants as verdicts
+use Rattle.report.proofs.Lines.{shown-short}
+use Rattle.reporting.specs.Lines.{lengthStride, verdictStride, lineNumbers, lineOfNumber, linesOf}
 
--- what was packed into a row is taken out of it again: its line is that of the finding, where the finding has one
-finding-row : (f : Finding) → SmallFinding f → cond (hasLine f) (lineOfRow (rowOfFinding f)) [] ≡ findingLine f
-unfolding hasLine lineOfRow findingLine
-finding-row f s =
-    let root : (f .visit .root .row * rootStride + f .visit .leaf .row) / rootStride ≡ f .visit .root .row = omega (arith, s .leaf) in
-    let leaf : (f .visit .root .row * rootStride + f .visit .leaf .row) % rootStride ≡ f .visit .leaf .row = omega (arith, s .leaf) in
-    let spec : (length (f .spec) * lengthStride + length (f .impl)) / lengthStride ≡ length (f .spec) = omega (arith, s .impl) in
-    let impl : (length (f .spec) * lengthStride + length (f .impl)) % lengthStride ≡ length (f .impl) = omega (arith, s .impl) in
-    rw (root, leaf, spec, impl) (go (isNil (f .spec) && isNil (f .impl)) _)
-  where
-    go : (b : Bool) (line : Bytes) → cond (not b) line [] ≡ cond b [] line
-    go true line = refl
-    go false line = refl
+-- ---- one number
 
--- the lines of the rows are those of the findings
-lines-of-findings : (fs : List Finding) → ((f : Finding) → f ∈ fs → SmallFinding f) → linesOf (rowsOfFindings fs) ≡ flatMap findingLine fs
-unfolding linesOf rowsOfFindings keep flatMap
-lines-of-findings [] small = refl
-lines-of-findings (f ∷ fs) small =
-    go (hasLine f) ∙ ap (λ (l : Bytes). l ++ flatMap lineOfRow (map rowOfFinding (keep hasLine fs))) (finding-row f (small f (List·Memᴰ·head refl)))
-    ∙ ap (λ (l : Bytes). findingLine f ++ l) (lines-of-findings fs (λ g m. small g (List·Memᴰ·tail m)))
-  where
-    go : (b : Bool) → flatMap lineOfRow (map rowOfFinding (cond b (f ∷ keep hasLine fs) (keep hasLine fs)))
-        ≡ cond b (lineOfRow (rowOfFinding f)) [] ++ flatMap lineOfRow (map rowOfFinding (keep hasLine fs))
-    go true = refl
-    go false = refl
+-- what is packed into a number is taken out of it again
+pub number-line : (i j v m n : ℕ) → j < rootStride → v < verdictStride → m < lengthStride → n < lengthStride
+    → lineOfNumber ((((i * rootStride + j) * verdictStride + v) * lengthStride + m) * lengthStride + n)
+    ≡ lineOf (pos i ∷ pos j ∷ pos v ∷ pos m ∷ pos n ∷ [])
+unfolding lineOfNumber lineNumbers
+number-line i j v m n hj hv hm hn =
+    let judged = (i * rootStride + j) * verdictStride + v in
+    let impl : ((judged * lengthStride + m) * lengthStride + n) / lengthStride ≡ judged * lengthStride + m = omega arith in
+    let spec : (judged * lengthStride + m) / lengthStride ≡ judged = omega arith in
+    let place : judged / verdictStride ≡ i * rootStride + j = omega arith in
+    let root : (i * rootStride + j) / rootStride ≡ i = omega arith in
+    let leaf : (i * rootStride + j) % rootStride ≡ j = omega arith in
+    let verdict : judged % verdictStride ≡ v = omega arith in
+    let length : (judged * lengthStride + m) % lengthStride ≡ m = omega arith in
+    let last : ((judged * lengthStride + m) * lengthStride + n) % lengthStride ≡ n = omega arith in
+    rw (impl, spec, place, root, leaf, verdict, length, last) refl
 
--- the report from the rows of the findings and their full result is the report of the findings
-pub report-from : (fs : List Finding) → ((f : Finding) → f ∈ fs → SmallFinding f) → reportFrom (rowsOfFindings fs) (resultOf fs) ≡ report fs
-unfolding reportFrom report
-report-from fs small = rw (lines-of-findings fs small) refl
+-- a verdict's number goes into it
+pub verdict-small : (v : Verdict) → verdictNumber v < verdictStride
+verdict-small verdicts.Equal = omega arith
+verdict-small verdicts.Partial = omega arith
+verdict-small verdicts.Different = omega arith
 
--- the row of a small finding is small
-finding-small : (f : Finding) → SmallFinding f → SmallRow (rowOfFinding f)
-unfolding verdictOf
-finding-small f s =
-    let range = verdict-range (f .spec) (f .impl) in
-    record {
-      keyLow = omega (arith, ints);
-      keyHigh = omega (arith, ints, s .root, s .leaf);
-      verdictLow = omega (arith, ints);
-      verdictHigh = omega (arith, ints, range);
-      lengthsLow = omega (arith, ints);
-      specHigh = omega (arith, s .spec, s .impl);
-      implHigh = omega (arith, s .spec, s .impl);
-    }
+-- ---- lengths
 
--- the rows of small findings are small
-pub rows-small : (fs : List Finding) → ((f : Finding) → f ∈ fs → SmallFinding f) → AllSmall (rowsOfFindings fs)
-unfolding rowsOfFindings
-rows-small fs small r m =
-    let w = map-out rowOfFinding (keep hasLine fs) m in
-    rw (w .2) (finding-small (w .0) (small (w .0) (keep-out hasLine fs (w .1) .0)))
+-- fields, with their spaces, take at most 22 bytes a number
+fields-short : (vs : List ℤ) → length (spaced (map shown vs)) ≤ 22 * length vs
+unfolding spaced
+fields-short [] = omega arith
+fields-short (v ∷ []) = omega (arith, shown-short v)
+fields-short (v ∷ w ∷ vs) =
+    omega (arith, shown-short v, fields-short (w ∷ vs), length-append (shown v) (blank ∷ spaced (map shown (w ∷ vs))))
 
--- the counts of at most 1,000,000 findings are small
-pub result-small : (fs : List Finding) → length fs ≤ maxVisits → SmallResult (resultOf fs)
-unfolding resultOf verdictOf
-result-small fs h =
-    let total : count 0 (map verdictOf fs) + count 1 (map verdictOf fs) + count 2 (map verdictOf fs) ≡ length fs =
-    counts-total (map verdictOf fs) (λ v m. let w = map-out verdictOf fs m in rw (w .2) (verdict-range (w .0 .spec) (w .0 .impl))) ∙ length-map fs verdictOf in
-    record { equal = omega arith; partial = omega arith; different = omega arith }
+-- a line takes at most 22 bytes a number, and a line feed
+pub line-short : (vs : List ℤ) → length (lineOf vs) ≤ 22 * length vs + 1
+unfolding lineOf
+line-short vs = omega (arith, fields-short vs, length-append (spaced (map shown vs)) (lineFeed ∷ []))
+
+-- the line of a number is short
+pub number-short : (n : ℕ) → length (lineOfNumber n) ≤ 111
+unfolding lineOfNumber lineNumbers
+number-short n = line-short (lineNumbers n)
+
+-- ---- the lines of the first numbers
+
+module _ {A B : Type 0} (f : A → List B) where
+  -- the images of two lists, one behind the other
+  pub flatMap-append : (k l : List A) → flatMap f (k ++ l) ≡ flatMap f k ++ flatMap f l
+  unfolding flatMap
+  flatMap-append [] l = refl
+  flatMap-append (x ∷ k) l = ap (λ (t : List B). f x ++ t) (flatMap-append k l) ∙ rw append-assoc refl
+
+  -- the images of a list and of one more element
+  pub flatMap-snoc : (l : List A) (x : A) → flatMap f (l ++ (x ∷ [])) ≡ flatMap f l ++ f x
+  unfolding flatMap
+  flatMap-snoc l x = flatMap-append l (x ∷ []) ∙ rw append-nil refl
+
+-- no numbers have no lines
+pub lines-none : linesOf [] ≡ []
+unfolding linesOf flatMap
+lines-none = refl
+
+-- one number more is one line more
+pub lines-snoc : (ns : List ℕ) (n : ℕ) → linesOf (ns ++ (n ∷ [])) ≡ linesOf ns ++ lineOfNumber n
+unfolding linesOf
+lines-snoc = flatMap-snoc lineOfNumber
+
+pub lines-more : (ns : List ℕ) (i : ℕ) → i < length ns → linesOf (take (i + 1) ns) ≡ linesOf (take i ns) ++ lineOfNumber (getD ns i 0)
+lines-more ns i h = ap linesOf (rw (add-one i) (take-suc ns i 0 h)) ∙ lines-snoc (take i ns) (getD ns i 0)
+
+-- the lines of the first numbers are no longer than those of more
+pub lines-within : (ns : List ℕ) (i n : ℕ) → i ≤ n → length (linesOf (take i ns)) ≤ length (linesOf (take n ns))
+unfolding linesOf
+lines-within ns i n h =
+    let all : n ≡ i + (n - i) = omega arith in
+    let rest = take (n - i) (drop i ns) in
+    let e = ap linesOf (ap (λ (k : ℕ). take k ns) all ∙ take-add i (n - i) ns) ∙ flatMap-append lineOfNumber (take i ns) rest in
+    omega (arith, ap length e, length-append (linesOf (take i ns)) (linesOf rest))

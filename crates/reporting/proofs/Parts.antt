@@ -1,19 +1,16 @@
--- The report in its four parts, and what a call gives for it.
+-- The report in its parts, and how long it is.
 use mathlib.Core.Path.{_≡_, refl, ap, _∙_}
-use mathlib.Core.List.{List, _++_, append-assoc}
-use Prim.Native.Nat.{ℕ, _+_, _≤_, _<_}
+use mathlib.Core.List.{List, [], _++_, map, append-assoc, flatMap}
+use Prim.Native.Nat.{_+_, _≤_}
 use native.Mathlib.Omega.{arith}
-use borrow.Author.Tests.{lt-ltb, le-ltb}
-use lib.ListN.{length, length-append}
-use Rattle.sorting.specs.declared.Row.{Row}
+use lib.ListN.{length, length-append, length-map}
+use Rattle.lists.proofs.Membership.{map-out}
 use Rattle.model.specs.Bytes.{Bytes, bytes}
-use Rattle.model.specs.Compare.{Result}
-use Rattle.model.specs.Report.{resultLine}
-use Rattle.model.specs.Answers.{numbered}
-use Rattle.model.specs.Calls.{Answer, refused, full, answer, lengthOf, bufferAfter}
-use Rattle.model.specs.Checks.{when, checkOutput}
-use Rattle.report.specs.Put.{Put}
-use Rattle.reporting.specs.Lines.{linesOf, pairLines, resultLines, reportFrom, outputAnswer}
+use Rattle.model.specs.Compare.{Finding, verdictOf, count, Result, resultOf}
+use Rattle.model.specs.Report.{findingLine, resultLine, report}
+use Rattle.model.proofs.Folds.{counts-total, verdict-low}
+use Rattle.reporting.specs.Lines.{resultNumbers, resultLines, reportFrom, maxVisits, SmallResult}
+use Rattle.reporting.proofs.Lines.{line-short}
 
 -- the texts of the report
 abbrev pub heading : Bytes
@@ -31,14 +28,6 @@ pub middle-length : length middle ≡ 51
 unfolding bytes
 middle-length = refl
 
--- the lines of the pairs, below their names
-pub pair-parts : (rows : List Row) → pairLines rows ≡ heading ++ linesOf rows
-unfolding pairLines
-pair-parts rows = refl
-
-pub pair-length : (rows : List Row) → length (pairLines rows) ≡ 28 + length (linesOf rows)
-pair-length rows = ap length (pair-parts rows) ∙ length-append heading (linesOf rows) ∙ omega (arith, heading-length)
-
 -- the result, below its names
 pub result-parts : (r : Result) → resultLines r ≡ middle ++ resultLine r
 unfolding resultLines
@@ -47,34 +36,41 @@ result-parts r = refl
 pub result-length : (r : Result) → length (resultLines r) ≡ 51 + length (resultLine r)
 result-length r = ap length (result-parts r) ∙ length-append middle (resultLine r) ∙ omega (arith, middle-length)
 
--- the report is the lines of the pairs and the result
-pub report-parts : (rows : List Row) (r : Result) → reportFrom rows r ≡ pairLines rows ++ resultLines r
-unfolding reportFrom pairLines resultLines
-report-parts rows r = simp append-assoc
+-- the names and the lines of the pairs, then the result
+pub report-parts : (lines : Bytes) (r : Result) → reportFrom lines r ≡ (heading ++ lines) ++ resultLines r
+unfolding reportFrom
+report-parts lines r = simp append-assoc
 
-pub report-length : (rows : List Row) (r : Result) → length (reportFrom rows r) ≡ length (pairLines rows) + length (resultLines r)
-report-length rows r = ap length (report-parts rows r) ∙ length-append (pairLines rows) (resultLines r)
+pub report-length : (lines : Bytes) (r : Result) → length (reportFrom lines r) ≡ 28 + length lines + length (resultLines r)
+report-length lines r =
+    ap length (report-parts lines r) ∙ length-append (heading ++ lines) (resultLines r)
+    ∙ omega (arith, length-append heading lines, heading-length)
 
--- ---- the answer of a call that writes an output into a buffer
+-- a report is as much longer than one without lines as its lines are
+pub report-size : (lines : Bytes) (r : Result) → length (reportFrom lines r) ≡ length (reportFrom [] r) + length lines
+report-size lines r = omega (arith, report-length lines r, report-length [] r)
 
-module _ (output old : Bytes) where
-  abbrev given : Answer Bytes
-  given = outputAnswer output (length old)
+-- the line of the result is short
+pub result-short : (r : Result) → length (resultLine r) ≤ 155
+unfolding resultLine
+result-short r = line-short (resultNumbers r)
 
-  long : length old < length output → given ≡ refused (numbered 11 7 0)
-  unfolding checkOutput when answer
-  long h = rw (lt-ltb (length old) (length output) h) refl
+-- a report without lines is its texts and that line, and short
+pub fixed-length : (r : Result) → length (reportFrom [] r) ≡ 79 + length (resultLine r)
+fixed-length r = omega (arith, report-length [] r, result-length r)
 
-  fits : length output ≤ length old → given ≡ full output
-  unfolding checkOutput when answer
-  fits h = rw (le-ltb (length old) (length output) h) refl
+pub fixed-short : (r : Result) → length (reportFrom [] r) ≤ 234
+fixed-short r = omega (arith, fixed-length r, result-short r)
 
-  -- an output that is longer than the buffer is refused, and the buffer is untouched
-  pub output-long : length old < length output → (refused (numbered 11 7 0) ≡ lengthOf given) × (old ≡ bufferAfter given old)
-  unfolding lengthOf bufferAfter
-  output-long h = rw (long h) (refl, refl)
+-- the report of the findings is made from their lines and their full result
+pub report-from : (fs : List Finding) → reportFrom (flatMap findingLine fs) (resultOf fs) ≡ report fs
+unfolding reportFrom resultLines report
+report-from fs = simp append-assoc
 
-  -- another is written, and its length is returned
-  pub output-written : {out : Bytes} {n : ℕ} → length output ≤ length old → Put output old out n → (full n ≡ lengthOf given) × (out ≡ bufferAfter given old)
-  unfolding lengthOf bufferAfter
-  output-written h p = rw (fits h) (ap full (p .count), p .stands)
+-- the counts of at most 1,000,000 findings are small
+pub result-small : (fs : List Finding) → length fs ≤ maxVisits → SmallResult (resultOf fs)
+unfolding resultOf
+result-small fs h =
+    let total : count 0 (map verdictOf fs) + count 1 (map verdictOf fs) + count 2 (map verdictOf fs) ≡ length fs =
+    counts-total (map verdictOf fs) (λ v m. let w = map-out verdictOf fs m in rw (w .2) (verdict-low (w .0))) ∙ length-map fs verdictOf in
+    record { equal = omega arith; partial = omega arith; different = omega arith }

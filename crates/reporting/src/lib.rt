@@ -1,72 +1,91 @@
-// The whole report, from the lines of the pairs and the full result of a comparison, into a lent buffer: length first, then bytes.
+// The report, from the lines of the pairs, each of them one number, and the full result of a comparison, into a lent buffer.
 ghost use mathlib.Core.Path.{_≡_};
-ghost use Prim.Native.Nat.{_+_, _≤_, _<_, _^_};
+ghost use mathlib.Core.List.{[], _∷_};
+ghost use Prim.Native.Nat.{_≤_};
 ghost use lib.IntN.{pos};
-ghost use lib.ListN.{length};
-ghost use Rattle.sorting.specs.Rows.{rowsOf};
-ghost use Rattle.model.specs.Answers.{verdictNumber, comparisonResult, writtenAnswer};
-ghost use Rattle.model.specs.Calls.{lengthOf, bufferAfter};
-ghost use Rattle.model.specs.Report.{resultLine};
+ghost use lib.ListN.{length, take};
+ghost use Rattle.model.specs.Answers.{verdictNumber, comparisonResult};
+ghost use Rattle.model.specs.Report.{lineOf};
 ghost use Rattle.report.specs.Put.{Put};
-ghost use Rattle.reporting.specs.Lines.{lineNumbers, resultNumbers, lineOfRow, linesOf, pairLines, resultLines, reportFrom, SmallRow, SmallLines, SmallResult, measured, outputAnswer};
+ghost use Rattle.reporting.specs.Lines.{lineNumbers, resultNumbers, lineOfNumber, linesOf, resultLines, reportFrom, SmallLine, SmallResult};
 use model::Comparison;
 use model::ROOT_STRIDE;
-use model::Reason;
 use model::Verdict;
-use model::Written;
-use sorting::Row;
+use model::verdict_number;
 
-// The list lengths of a pair are the specification's times this, and the implementation's.
-pub const LENGTH_STRIDE: usize = 4096;
+// What the number of a line without the length of a list counts for, and what the place of a pair without its verdict does.
+const LENGTH_STRIDE: usize = 4096;
+
+const VERDICT_STRIDE: usize = 4;
 
 // The lengths of the texts above the lines of the pairs and above the result.
 const HEADING_LENGTH: usize = 28;
 
 const MIDDLE_LENGTH: usize = 51;
 
-// The numbers of a row's line, taken out of the row.
-fn line_numbers(r: Row) -> [i64; 5]
-    requires { ⌜ SmallRow r ⌝ }
-    ensures { λ v. ⌜ v ≡ lineNumbers r ⌝ }
+// The line of a pair with these rows, this verdict and these list lengths, as one number.
+pub fn line_number(
+    root_row: usize,
+    leaf_row: usize,
+    verdict: Verdict,
+    spec: usize,
+    implementation: usize,
+) -> usize
+    requires { ⌜ SmallLine «root_row» «leaf_row» spec implementation ⌝ }
+    ensures { λ r. ⌜
+        lineOfNumber r
+        ≡ lineOf (pos «root_row» ∷ pos «leaf_row» ∷ pos (verdictNumber verdict) ∷ pos spec ∷ pos implementation ∷ []) ⌝ }
 {
-    let key = r.first as usize;
-    let lengths = r.third as usize;
+    let place = root_row * ROOT_STRIDE + leaf_row;
+    let judged = place * VERDICT_STRIDE + verdict_number(verdict);
+    (judged * LENGTH_STRIDE + spec) * LENGTH_STRIDE + implementation
+}
+
+// The five numbers that one number stands for.
+fn line_numbers(number: usize) -> [i64; 5]
+    ensures { λ v. ⌜ v ≡ lineNumbers number ⌝ }
+{
+    let judged = number / LENGTH_STRIDE / LENGTH_STRIDE;
+    let place = judged / VERDICT_STRIDE;
     [
-        (key / ROOT_STRIDE) as i64,
-        (key % ROOT_STRIDE) as i64,
-        r.second,
-        (lengths / LENGTH_STRIDE) as i64,
-        (lengths % LENGTH_STRIDE) as i64,
+        (place / ROOT_STRIDE) as i64,
+        (place % ROOT_STRIDE) as i64,
+        (judged % VERDICT_STRIDE) as i64,
+        (number / LENGTH_STRIDE % LENGTH_STRIDE) as i64,
+        (number % LENGTH_STRIDE) as i64,
     ]
 }
 
-// The length of a row's line.
-fn line_length(r: Row) -> usize
-    requires { ⌜ SmallRow r ⌝ }
-    ensures { λ n. ⌜ n ≡ length (lineOfRow r) ⌝ }
+// The length of a number's line.
+pub fn line_length(number: usize) -> usize
+    ensures { λ n. ⌜ n ≡ length (lineOfNumber number) ⌝ }
 {
-    let numbers = line_numbers(r);
+    let numbers = line_numbers(number);
     report::numbers_length(&numbers)
 }
 
-// Writes a row's line.
-fn put_line(out: &mut [u8], r: Row) -> usize
-    requires { ⌜ SmallRow r × (length (lineOfRow r) ≤ length (now out)) ⌝ }
-    ensures { λ n. ⌜ Put (lineOfRow r) (now (out .entry)) (now (out .exit)) n ⌝ }
+// Writes a number's line.
+fn put_line(out: &mut [u8], number: usize) -> usize
+    requires { ⌜ length (lineOfNumber number) ≤ length (now out) ⌝ }
+    ensures { λ n. ⌜ Put (lineOfNumber number) (now (out .entry)) (now (out .exit)) n ⌝ }
 {
-    let numbers = line_numbers(r);
+    let numbers = line_numbers(number);
     report::put_numbers(out, &numbers)
 }
 
-// The number of a verdict.
-fn verdict_number(v: Verdict) -> i64
-    ensures { λ r. ⌜ r ≡ pos (verdictNumber v) ⌝ }
+// Writes the lines of n numbers, each into what remains of the buffer.
+pub fn put_lines(out: &mut [u8], lines: &[usize], n: usize) -> usize
+    requires { ⌜ (n ≤ length (now lines)) × (length (linesOf (take n (now lines))) ≤ length (now out)) ⌝ }
+    ensures { λ r. ⌜ Put (linesOf (take n (now (lines .entry)))) (now (out .entry)) (now (out .exit)) r ⌝ }
 {
-    match v {
-        Verdict::Equal => 0,
-        Verdict::Partial => 1,
-        Verdict::Different => 2,
+    let mut at: usize = 0;
+    let mut i: usize = 0;
+    while i < n {
+        let number = lines[i];
+        at += put_line(&mut out[at..], number);
+        i += 1;
     }
+    at
 }
 
 // The numbers of the result's line.
@@ -76,7 +95,7 @@ fn result_numbers(result: Comparison) -> [i64; 7]
 {
     let verdict = result.verdict;
     [
-        verdict_number(verdict),
+        verdict_number(verdict) as i64,
         result.equal as i64,
         result.partial as i64,
         result.different as i64,
@@ -86,75 +105,13 @@ fn result_numbers(result: Comparison) -> [i64; 7]
     ]
 }
 
-// The length of the result's line.
-fn result_length(result: Comparison) -> usize
+// The length of a report with this result and no lines.
+pub fn fixed_length(result: Comparison) -> usize
     requires { ⌜ SmallResult (comparisonResult result) ⌝ }
-    ensures { λ n. ⌜ n ≡ length (resultLine (comparisonResult result)) ⌝ }
+    ensures { λ n. ⌜ n ≡ length (reportFrom [] (comparisonResult result)) ⌝ }
 {
     let numbers = result_numbers(result);
-    report::numbers_length(&numbers)
-}
-
-// Writes the result's line.
-fn put_result(out: &mut [u8], result: Comparison) -> usize
-    requires { ⌜ SmallResult (comparisonResult result) × (length (resultLine (comparisonResult result)) ≤ length (now out)) ⌝ }
-    ensures { λ n. ⌜ Put (resultLine (comparisonResult result)) (now (out .entry)) (now (out .exit)) n ⌝ }
-{
-    let numbers = result_numbers(result);
-    report::put_numbers(out, &numbers)
-}
-
-// The length of `fixed` bytes and the lines of n rows, or room + 1 where that is longer than room: rows behind that are not measured.
-pub fn lines_length(lines: &[i64], n: usize, fixed: usize, room: usize) -> usize
-    requires { ⌜ SmallLines (now lines) n × (fixed < 2 ^ 32) × (room < 2 ^ 63) ⌝ }
-    ensures { λ r. ⌜ r ≡ measured room (fixed + length (linesOf (rowsOf (now (lines .entry)) n))) ⌝ }
-{
-    let mut total: usize = fixed;
-    let mut i: usize = 0;
-    while i < n {
-        if total > room {
-            return room + 1;
-        }
-        total += line_length(sorting::row_at(lines, i));
-        i += 1;
-    }
-    if total > room {
-        return room + 1;
-    }
-    total
-}
-
-// The length of the report, or room + 1 where it is longer than room: measuring stops at the line that passes the room.
-pub fn report_length(lines: &[i64], n: usize, result: Comparison, room: usize) -> usize
-    requires { ⌜ SmallLines (now lines) n × SmallResult (comparisonResult result) × (room < 2 ^ 63) ⌝ }
-    ensures { λ r. ⌜ r ≡ measured room (length (reportFrom (rowsOf (now (lines .entry)) n) (comparisonResult result))) ⌝ }
-{
-    let fixed = HEADING_LENGTH + MIDDLE_LENGTH + result_length(result);
-    lines_length(lines, n, fixed, room)
-}
-
-// Writes the lines of n rows, each into what remains of the buffer.
-pub fn put_lines(out: &mut [u8], lines: &[i64], n: usize) -> usize
-    requires { ⌜ SmallLines (now lines) n × (length (linesOf (rowsOf (now lines) n)) ≤ length (now out)) ⌝ }
-    ensures { λ r. ⌜ Put (linesOf (rowsOf (now (lines .entry)) n)) (now (out .entry)) (now (out .exit)) r ⌝ }
-{
-    let mut at: usize = 0;
-    let mut i: usize = 0;
-    while i < n {
-        let row = sorting::row_at(lines, i);
-        at += put_line(&mut out[at..], row);
-        i += 1;
-    }
-    at
-}
-
-// Writes the names and, into what remains of the buffer, the lines of n rows.
-fn put_pairs(out: &mut [u8], lines: &[i64], n: usize) -> usize
-    requires { ⌜ SmallLines (now lines) n × (length (pairLines (rowsOf (now lines) n)) ≤ length (now out)) ⌝ }
-    ensures { λ r. ⌜ Put (pairLines (rowsOf (now (lines .entry)) n)) (now (out .entry)) (now (out .exit)) r ⌝ }
-{
-    let at = report::put_heading(out);
-    at + put_lines(&mut out[at..], lines, n)
+    HEADING_LENGTH + MIDDLE_LENGTH + report::numbers_length(&numbers)
 }
 
 // Writes an empty line and the names and, into what remains of the buffer, the result's line.
@@ -163,28 +120,6 @@ pub fn put_ending(out: &mut [u8], result: Comparison) -> usize
     ensures { λ r. ⌜ Put (resultLines (comparisonResult result)) (now (out .entry)) (now (out .exit)) r ⌝ }
 {
     let at = report::put_middle(out);
-    at + put_result(&mut out[at..], result)
-}
-
-// Writes a report that fits: the pairs and, into what remains of the buffer, the result.
-fn put_whole(lines: &[i64], n: usize, result: Comparison, out: &mut [u8]) -> usize
-    requires { ⌜ SmallLines (now lines) n × SmallResult (comparisonResult result) × (length (reportFrom (rowsOf (now lines) n) (comparisonResult result)) ≤ length (now out)) ⌝ }
-    ensures { λ r. ⌜ Put (reportFrom (rowsOf (now (lines .entry)) n) (comparisonResult result)) (now (out .entry)) (now (out .exit)) r ⌝ }
-{
-    let at = put_pairs(out, lines, n);
-    at + put_ending(&mut out[at..], result)
-}
-
-// Writes the report and returns its length. A report that is longer than the buffer is refused, and the buffer is untouched.
-pub fn put_report(lines: &[i64], n: usize, result: Comparison, out: &mut [u8]) -> Written
-    requires { ⌜ SmallLines (now lines) n × SmallResult (comparisonResult result) ⌝ }
-    ensures returned { λ r. ⌜ writtenAnswer r ≡ lengthOf (outputAnswer (reportFrom (rowsOf (now (lines .entry)) n) (comparisonResult result)) (length (now (out .entry)))) ⌝ }
-    ensures buffer { λ _. ⌜ now (out .exit) ≡ bufferAfter (outputAnswer (reportFrom (rowsOf (now (lines .entry)) n) (comparisonResult result)) (length (now (out .entry)))) (now (out .entry)) ⌝ }
-{
-    let room = out.len();
-    let length = report_length(lines, n, result, room);
-    if length > room {
-        return Written::Refused(Reason::LongOutput);
-    }
-    Written::Count(put_whole(lines, n, result, out))
+    let numbers = result_numbers(result);
+    at + report::put_numbers(&mut out[at..], &numbers)
 }

@@ -1,181 +1,198 @@
--- The pairs of a root row and of all root rows one after the other: their totals, and their rows in the table.
-use mathlib.Core.Path.{_≡_, refl, sym, subst, _∙_}
-use mathlib.Core.Logic.{_≢_}
-use mathlib.Core.List.{List, [], _∷_, _++_, map-append, flatMap}
-use Prim.Native.Nat.{ℕ, _+_, _*_, _/_, _≤_, _<_}
+-- Findings that are kept one after the other: those kept, with those that are left, are all of them.
+use mathlib.Core.Path.{_≡_, refl, sym, ap, subst, _∙_}
+use mathlib.Core.Bool.{Bool}
+use mathlib.Core.List.{List, [], _∷_, _++_, map, map-append, append-assoc, append-nil, flatMap}
+use Prim.Native.Nat.{ℕ, suc, _+_, _*_, _/_, _≤_, _<_}
+use native.Mathlib.Nat.{mul-le-mul}
+use native.Mathlib.Numerals.{add-one}
 use native.Mathlib.Omega.{arith}
 use lib.IntN.{ℤ}
-use lib.ListN.{length}
-use Rattle.model.specs.Limits.{pairWidth, rootStride}
-use Rattle.model.specs.Verdicts.{lowest}
-use Rattle.model.specs.Compare.{Tables, visits, Finding, findingOf, verdictOf}
-use Rattle.model.specs.Answers.{verdictNumber}
-use Rattle.sorting.specs.declared.Row.{Row}
-use Rattle.sorting.specs.Rows.{rowsOf}
-use Rattle.reporting.specs.Lines.{rowsOfFindings}
-use Rattle.visiting.specs.Visiting.{noKey, KeyBelow, withFinding, totalsFrom, totalsOf}
-use Rattle.visiting.proofs.Turns.{totals-nil, totals-cons, totals-append}
-use Rattle.visiting.proofs.Result.{address-first, key-below-next}
-use Rattle.pairs.specs.declared.Found.{Found}
-use Rattle.pairs.specs.Inputs.{Inputs, findingAt}
-use Rattle.pairs.specs.Found.{IsFinding}
-use Rattle.pairs.proofs.Rows.{rowsLeft, rows-next, rows-none}
+use lib.ListN.{length, drop, length-append, length-map}
+use Rattle.model.specs.Limits.{pairWidth, maxPairs, maxPaths}
+use Rattle.model.specs.Rows.{Pair, pairsFrom}
+use Rattle.model.specs.Compare.{Tables, rootRows, leafRows, Visit, visits, Finding, findingOf, findings}
+use Rattle.model.specs.Report.{findingLine}
+use Rattle.model.proofs.Visits.{visits-length}
+use Rattle.pairing.specs.Pairs.{pairAt}
+use Rattle.pairing.proofs.Pairs.{pairs-rest, pairs-end}
+use Rattle.pathlimit.specs.Inputs.{Inputs}
+use Rattle.pathlimit.proofs.Inputs.{root-row-below, leaf-row-below}
+use Rattle.pairs.specs.Found.{findingAt}
+use Rattle.reporting.specs.Lines.{maxVisits}
+use Rattle.reporting.proofs.Lines.{flatMap-append}
+use Rattle.totals.specs.declared.Found.{Found}
 use Rattle.totals.specs.declared.Kept.{Kept}
-use Rattle.totals.specs.Lines.{RowsHeld, Collected, foundRows}
-use Rattle.totals.specs.Kept.{asTotals, freshKept, PairKept}
-use Rattle.totals.proofs.Adding.{with-most, at-most-more}
-use Rattle.totals.proofs.Collecting.{collected-none, collected-on}
-use Rattle.survey.specs.Lines.{Between, findingsBetween, LinesHeld}
-use Rattle.survey.specs.Found.{findingsWith, rowFindings, KeptBefore, RowKept, SurveyPromise}
-use Rattle.survey.proofs.Between.{between-next, between-none}
-use Rattle.survey.proofs.Lines.{rows-append, rows-none-found, found-rows}
+use Rattle.totals.specs.Kept.{IsFinding, KeptOf, KeptNone, isAsked, PairAddable, Added}
+use Rattle.totals.proofs.Keeping.{kept-bytes}
+use Rattle.survey.specs.Survey.{rowFindings, RowRoom, RowKept, Surveyed}
+
+-- ---- what is left
+
+-- the pair rows from row i on
+abbrev pub rowsLeft : List ℤ → ℕ → List Pair
+rowsLeft ps i = pairsFrom i (drop (pairWidth * i) ps)
+
+-- row i, where it is there, and those behind it
+rows-next : (ps : List ℤ) (i : ℕ) → i < length ps / pairWidth → rowsLeft ps i ≡ pairAt ps i ∷ rowsLeft ps (i + 1)
+rows-next ps i h = subst (λ (k : ℕ). rowsLeft ps i ≡ pairAt ps i ∷ rowsLeft ps k) (sym (add-one i)) (pairs-rest ps i (omega arith))
+
+-- behind the last row there is none
+rows-none : (ps : List ℤ) (i : ℕ) → length ps / pairWidth ≤ i → rowsLeft ps i ≡ []
+rows-none ps i h = pairs-end ps i (omega arith)
+
+-- the findings of root row i from leaf row j on
+abbrev pub pairsLeft : Tables → ℕ → ℕ → List Finding
+pairsLeft t i j = map (findingOf t) (map (λ l. record { root = pairAt (t .rootPairs) i; leaf = l }) (rowsLeft (t .leafPairs) j))
+
+pub pairs-next : (t : Tables) (i j : ℕ) → j < length (t .leafPairs) / pairWidth → pairsLeft t i j ≡ findingAt t i j ∷ pairsLeft t i (j + 1)
+pairs-next t i j h = rw (rows-next (t .leafPairs) j h) refl
+
+pub pairs-none : (t : Tables) (i j : ℕ) → length (t .leafPairs) / pairWidth ≤ j → pairsLeft t i j ≡ []
+pairs-none t i j h = rw (rows-none (t .leafPairs) j h) refl
+
+-- the findings from root row i on
+unfoldable pub findingsLeft : Tables → ℕ → List Finding
+findingsLeft t i = map (findingOf t) (visits (rowsLeft (t .rootPairs) i) (leafRows t))
+
+pub findings-all : (t : Tables) → findingsLeft t 0 ≡ findings t
+unfolding findingsLeft findings
+findings-all t = refl
+
+pub findings-next : (t : Tables) (i : ℕ) → i < length (t .rootPairs) / pairWidth → findingsLeft t i ≡ rowFindings t i ++ findingsLeft t (i + 1)
+unfolding findingsLeft visits flatMap
+findings-next t i h = rw (rows-next (t .rootPairs) i h, map-append) refl
+
+pub findings-none : (t : Tables) (i : ℕ) → length (t .rootPairs) / pairWidth ≤ i → findingsLeft t i ≡ []
+unfolding findingsLeft visits flatMap
+findings-none t i h = rw (rows-none (t .rootPairs) i h) refl
+
+-- ---- how many there are
+
+rows-from-count : (i : ℕ) (ps : List ℤ) → length (pairsFrom i ps) ≡ length ps / pairWidth
+unfolding pairsFrom
+rows-from-count i [] = refl
+rows-from-count i (s ∷ []) = refl
+rows-from-count i (s ∷ m ∷ ps) = omega (arith, rows-from-count (suc i) ps)
+
+-- as many findings of a root row as leaf rows
+pub row-count : (t : Tables) (i : ℕ) → length (rowFindings t i) ≡ length (t .leafPairs) / pairWidth
+row-count t i =
+    let visited : Pair → Visit = λ l. record { root = pairAt (t .rootPairs) i; leaf = l } in
+    length-map (map visited (leafRows t)) (findingOf t) ∙ length-map (leafRows t) visited ∙ rows-from-count 0 (t .leafPairs)
+
+-- at most 1,000,000 in all
+pub findings-few : {t : Tables} → Inputs t → length (findings t) ≤ maxVisits
+unfolding findings
+findings-few {t} k =
+    let roots : length (rootRows t) ≤ maxPairs = omega (arith, rows-from-count 0 (t .rootPairs), k .rootShape .few) in
+    let leaves : length (leafRows t) ≤ maxPairs = omega (arith, rows-from-count 0 (t .leafPairs), k .leafShape .few) in
+    omega (
+      arith,
+      length-map (visits (rootRows t) (leafRows t)) (findingOf t),
+      visits-length (rootRows t) (leafRows t),
+      mul-le-mul roots leaves,
+    )
 
 -- ---- what is kept
 
--- of pairs whose places lie below n, also below any higher number
-pub kept-more : {n m : ℕ} {k : Kept} → n ≤ m → KeptBefore n k → KeptBefore m k
-kept-more h p =
-    record {
-      most = record { totals = at-most-more h (p .most .totals); count = omega (arith, p .most .count) };
-      key = λ n. omega (arith, p .key n);
-    }
+-- findings are kept that are, with those that are left, all of these
+pub record Passed (all left : List Finding) (lines : List ℕ) (k : Kept) : Type 0 where
+  pub fs : List Finding
+  pub kept : KeptOf fs lines k
+  pub split : fs ++ left ≡ all
 
--- with one more pair
-kept-next : {place : ℕ} {f : Found} {address : ℤ} {before after : Kept} {lines lines′ : List ℤ} → KeptBefore place before
-    → PairKept place f address before after lines lines′ → KeptBefore (place + 1) after
-kept-next {place} {f} {address} {before} {after} p q =
-    record {
-      most = record {
-        totals = with-most (verdictNumber (f .verdict)) place address (q .totals) (p .most .totals);
-        count = omega (arith, q .count, p .most .count);
-      };
-      key = subst (KeyBelow (place + 1)) (sym (q .totals)) (key-below-next (verdictNumber (f .verdict)) place address (asTotals (before .totals)) (p .key));
-    }
+module _ {all : List Finding} {lines : List ℕ} {k : Kept} where
+  -- some of those that are left are kept behind them
+  pub passed-on : {gs left : List Finding} {lines′ : List ℕ} {k′ : Kept} → Passed all (gs ++ left) lines k
+      → ((fs : List Finding) → KeptOf fs lines k → KeptOf (fs ++ gs) lines′ k′) → Passed all left lines′ k′
+  passed-on {gs} {left} p more = record { fs = p .fs ++ gs; kept = more (p .fs) (p .kept); split = append-assoc (p .fs) gs left ∙ p .split }
 
--- no row is held in any table
-held-none : (lines : List ℤ) → RowsHeld [] lines 0
-unfolding rowsOf
-held-none lines = record { counted = refl; rows = λ k. refl }
+  -- where none is left all are kept
+  pub passed-end : Passed all [] lines k → KeptOf all lines k
+  passed-end p = subst (λ (l : List Finding). KeptOf l lines k) (sym (append-nil (p .fs)) ∙ p .split) (p .kept)
+
+  -- as many as all
+  pub passed-count : {left : List Finding} (p : Passed all left lines k) → length (p .fs) + length left ≡ length all
+  passed-count {left} p = sym (length-append (p .fs) left) ∙ ap length (p .split)
+
+  -- and no more bytes than those of all
+  pub passed-bytes : {left : List Finding} → Passed all left lines k → k .bytes ≤ length (flatMap findingLine all)
+  passed-bytes {left} p =
+      omega (
+        arith,
+        p .kept .bytes,
+        ap (λ (l : List Finding). length (flatMap findingLine l)) (p .split),
+        ap length (flatMap-append findingLine (p .fs) left),
+        length-append (flatMap findingLine (p .fs)) (flatMap findingLine left),
+      )
 
 -- ---- the pairs of a root row
 
--- the findings of root row i with leaf row j and those behind it
-abbrev pub findingsFrom : Tables → ℕ → ℕ → List Finding
-findingsFrom t i j = findingsWith t i (rowsLeft (t .leafPairs) j)
-
--- the pairs of the leaf rows before row j are kept: with those of the leaf rows that are left they are those of the root row. Whatever the rows that are
--- left add to the table, all rows of the root row have then added
-pub record PairsPassed (t : Tables) (i : ℕ) (start : Kept) (before : List ℤ) (kept : Kept) (lines : List ℤ) (j : ℕ) : Type 0 where
-  pub below : KeptBefore (i * rootStride + j) kept
-  pub left : totalsFrom (asTotals (kept .totals)) (findingsFrom t i j) ≡ totalsFrom (asTotals (start .totals)) (rowFindings t i)
-  pub rows : (after : List ℤ) (m : ℕ) → Collected (rowsOfFindings (findingsFrom t i j)) lines (kept .count) after m
-      → Collected (rowsOfFindings (rowFindings t i)) before (start .count) after m
-  pub last : j ≤ length (t .leafPairs) / pairWidth
-
--- before the first leaf row
-pub pairs-start : (t : Tables) (i : ℕ) {start : Kept} (lines : List ℤ) → KeptBefore (i * rootStride) start → PairsPassed t i start lines start lines 0
-pairs-start t i lines p = record { below = kept-more (omega arith) p; left = refl; rows = λ after m c. c; last = omega arith }
-
-module _ {t : Tables} {i : ℕ} {start : Kept} {before : List ℤ} {kept : Kept} {lines : List ℤ} {j : ℕ} (p : PairsPassed t i start before kept lines j) where
-  -- one more leaf row: the address is that of the pair, unless it does not matter
-  pub pairs-next : j < length (t .leafPairs) / pairWidth → {place : ℕ} {f : Found} {address : ℤ} {kept′ : Kept} {lines′ : List ℤ}
-      → IsFinding (findingAt t i j) f → place ≡ i * rootStride + j → PairKept place f address kept kept′ lines lines′
-      → (kept .totals .key ≡ noKey → verdictNumber (f .verdict) ≢ 0 → address ≡ lowest (findingAt t i j .spec) (findingAt t i j .impl))
-      → PairsPassed t i start before kept′ lines′ (j + 1)
-  unfolding withFinding findingOf verdictOf
-  pairs-next h {place} {f} {address} {kept′} {lines′} q e c first =
+module _ (t : Tables) (i j : ℕ) where
+  -- what is found of root row i and leaf row j can be added
+  pub pair-addable : Inputs t → i < length (t .rootPairs) / pairWidth → j < length (t .leafPairs) / pairWidth → {f : Found} {lines lines′ : List ℕ} {k k′ : Kept}
+      → RowRoom t lines k → ((fs : List Finding) → KeptOf fs lines k → Passed (fs ++ rowFindings t i) (pairsLeft t i j) lines′ k′)
+      → (f .spec ≤ maxPaths) × (f .implementation ≤ maxPaths) → PairAddable k′ i j f
+  pair-addable inputs l h {lines′ = lines′} room passed few =
+      let p = passed (room .fs) (room .kept) in
       record {
-        below = kept-more (omega arith) (kept-next at c);
-        left = rw added (rw (rows-next (t .leafPairs) j h, totals-cons) at (p .left));
-        rows = λ after m d. p .rows after m (subst (λ (l : List Row). Collected l lines (kept .count) after m) stored (collected-on (c .rows) d));
-        last = omega (arith, h);
+        room = record {
+          fs = p .fs;
+          lines = lines′;
+          kept = p .kept;
+          few = omega (arith, passed-count p, ap length (pairs-next t i j h), length-append (room .fs) (rowFindings t i), row-count t i, room .few);
+        };
+        small = record { root = root-row-below inputs i l; leaf = leaf-row-below inputs j h; spec = few .0; impl = few .1 };
       }
-    where
-      at : KeptBefore place kept
-      at = rw e (p .below)
 
-      added : asTotals (kept′ .totals) ≡ withFinding (asTotals (kept .totals)) (findingAt t i j)
-      added =
-          c .totals
-          ∙ address-first (verdictNumber (f .verdict)) place address (lowest (findingAt t i j .spec) (findingAt t i j .impl)) (asTotals (kept .totals)) (at .key) first
-          ∙ rw (q .verdict, e) refl
+  -- and then one more is kept
+  pub pair-passed : j < length (t .leafPairs) / pairWidth → {all : List Finding} {asked : Bool} {f : Found} {lines lines′ : List ℕ} {k k′ : Kept}
+      → Passed all (pairsLeft t i j) lines k → IsFinding (findingAt t i j) asked f → asked ≡ isAsked k → Added k lines i j f k′ lines′ → Passed all (pairsLeft t i (j + 1)) lines′ k′
+  unfolding findingOf
+  pair-passed h {all} {f = f} {lines} {k = k} p q e a =
+      passed-on (subst (λ (l : List Finding). Passed all l lines k) (pairs-next t i j h) p) (λ fs kept. a .kept fs (findingAt t i j) refl refl (subst (λ (b : Bool). IsFinding (findingAt t i j) b f) e q) kept)
 
-      stored : foundRows place f ++ rowsOfFindings (findingsFrom t i (j + 1)) ≡ rowsOfFindings (findingsFrom t i j)
-      stored = rw (rows-next (t .leafPairs) j h, found-rows t i j q e) (sym (rows-append (findingAt t i j ∷ []) (findingsFrom t i (j + 1))))
+  -- behind the last leaf row all are kept
+  pub pairs-passed : length (t .leafPairs) / pairWidth ≤ j → {all : List Finding} {lines : List ℕ} {k : Kept} → Passed all (pairsLeft t i j) lines k
+      → KeptOf all lines k
+  pairs-passed h {all} {lines} {k} p = passed-end (subst (λ (l : List Finding). Passed all l lines k) (pairs-none t i j h) p)
 
-  -- at the end all pairs of the root row are kept
-  pub pairs-end : Inputs t → length (t .leafPairs) / pairWidth ≤ j → RowKept t i start kept before lines
-  pairs-end k h =
-      record {
-        found = rw (rows-none (t .leafPairs) j h, totals-nil) at (p .left);
-        rows = p .rows lines (kept .count) (subst (λ (l : List Row). Collected l lines (kept .count) lines (kept .count)) (sym none) (collected-none lines (kept .count)));
-        kept = kept-more (omega (arith, p .last, k .leafShape .few)) (p .below);
-      }
-    where
-      none : rowsOfFindings (findingsFrom t i j) ≡ []
-      none = rw (rows-none (t .leafPairs) j h) rows-none-found
+-- ---- the root rows
 
--- ---- the pairs of all root rows
+module _ (t : Tables) (i : ℕ) {all : List Finding} {lines : List ℕ} {k : Kept} (p : Passed all (findingsLeft t i) lines k) where
+  module _ (h : i < length (t .rootPairs) / pairWidth) where
+    -- root row i and those behind it are left
+    row-left : Passed all (rowFindings t i ++ findingsLeft t (i + 1)) lines k
+    row-left = subst (λ (l : List Finding). Passed all l lines k) (findings-next t i h) p
 
--- those of root row i, and those behind it
-between-findings : (t : Tables) (i to : ℕ) → i < to → to ≤ length (t .rootPairs) / pairWidth
-    → findingsBetween t i to ≡ rowFindings t i ++ findingsBetween t (i + 1) to
-unfolding findingsBetween visits flatMap
-between-findings t i to l h = rw (between-next (t .rootPairs) i to l h, map-append) refl
+    -- there is room for root row i
+    pub row-room : length all ≤ maxVisits → RowRoom t lines k
+    row-room few =
+        let rest = findingsLeft t (i + 1) in
+        record {
+          fs = row-left .fs;
+          kept = row-left .kept;
+          few = omega (arith, passed-count row-left, length-append (rowFindings t i) rest, row-count t i, few);
+        }
 
--- from the last on there is none
-between-ended : (t : Tables) (i to : ℕ) → to ≤ i → findingsBetween t i to ≡ []
-unfolding findingsBetween visits flatMap
-between-ended t i to h = rw (between-none (t .rootPairs) i to h) refl
+    -- and it is passed
+    pub row-passed : {lines′ : List ℕ} {k′ : Kept} → RowKept t i lines k lines′ k′ → Passed all (findingsLeft t (i + 1)) lines′ k′
+    row-passed more = passed-on row-left more
 
--- the pairs of the root rows before row i are kept: with those of the root rows that are left they are those of all. Whatever the rows that are left add
--- to the table, all rows are then held
-pub record RowsPassed (t : Tables) (from to : ℕ) (kept : Kept) (lines : List ℤ) (i : ℕ) : Type 0 where
-  pub below : KeptBefore (i * rootStride) kept
-  pub left : totalsFrom (asTotals (kept .totals)) (findingsBetween t i to) ≡ totalsOf (findingsBetween t from to)
-  pub rows : (after : List ℤ) (m : ℕ) → Collected (rowsOfFindings (findingsBetween t i to)) lines (kept .count) after m
-      → LinesHeld (findingsBetween t from to) after m
-  pub last : i ≤ to
+  -- behind the last root row all are kept
+  pub rows-passed : length (t .rootPairs) / pairWidth ≤ i → KeptOf all lines k
+  rows-passed h = passed-end (subst (λ (l : List Finding). Passed all l lines k) (findings-none t i h) p)
 
 -- before the first root row
-pub rows-start : {t : Tables} {from to : ℕ} {kept : Kept} (lines : List ℤ) → Between t from to → kept ≡ freshKept → RowsPassed t from to kept lines from
-rows-start {t} {from} {to} lines b e = rw e (record {
-  below = record {
-    most = record { totals = record { equal = omega arith; partial = omega arith; different = omega arith; key = omega arith }; count = omega arith };
-    key = λ n. absurd (n refl);
-  };
-  left = refl;
-  rows = λ after m c. c .held [] (held-none lines);
-  last = b .low;
-})
+pub rows-start : (t : Tables) {lines : List ℕ} {k : Kept} → KeptNone k → Passed (findings t) (findingsLeft t 0) lines k
+rows-start t {lines} none = record { fs = []; kept = none lines; split = findings-all t }
 
-module _ {t : Tables} {from to : ℕ} (b : Between t from to) {kept : Kept} {lines : List ℤ} {i : ℕ} (p : RowsPassed t from to kept lines i) where
-  -- one more root row
-  pub rows-on : i < to → {after : Kept} {lines′ : List ℤ} → RowKept t i kept after lines lines′ → RowsPassed t from to after lines′ (i + 1)
-  rows-on h {after} {lines′} q =
-      let row = rowFindings t i in
-      let rest = findingsBetween t (i + 1) to in
-      record {
-        below = q .kept;
-        left = rw (q .found) (sym (totals-append (asTotals (kept .totals)) row rest) ∙ (rw onward at (p .left)));
-        rows = λ final m c. p .rows final m (subst (λ (l : List Row). Collected l lines (kept .count) final m) stored (collected-on (q .rows) c));
-        last = omega (arith, h);
-      }
-    where
-      onward : findingsBetween t i to ≡ rowFindings t i ++ findingsBetween t (i + 1) to
-      onward = between-findings t i to h (b .high)
-
-      stored : rowsOfFindings (rowFindings t i) ++ rowsOfFindings (findingsBetween t (i + 1) to) ≡ rowsOfFindings (findingsBetween t i to)
-      stored = rw onward (sym (rows-append (rowFindings t i) (findingsBetween t (i + 1) to)))
-
-  -- at the end all pairs are kept
-  pub rows-end : to ≤ i → SurveyPromise t from to kept lines
-  rows-end h =
-      record {
-        found = rw (between-ended t i to h, totals-nil) at (p .left);
-        key = p .below .most .totals .key;
-        rows = p .rows lines (kept .count) (subst (λ (l : List Row). Collected l lines (kept .count) lines (kept .count)) (sym none) (collected-none lines (kept .count)));
-      }
-    where
-      none : rowsOfFindings (findingsBetween t i to) ≡ []
-      none = rw (between-ended t i to h) rows-none-found
+-- what a survey gives, from the root rows that were passed: all of them, or so many that their lines have more than `room` bytes
+pub surveyed : {t : Tables} {left : List Finding} {lines : List ℕ} {k : Kept} {room : ℕ} → Inputs t → Passed (findings t) left lines k
+    → (k .bytes ≤ room → KeptOf (findings t) lines k) → Surveyed t room k lines
+surveyed inputs p whole =
+    record {
+      within = whole;
+      past = λ h. omega (arith, passed-bytes p);
+      fits = omega (arith, kept-bytes (p .kept), passed-count p, findings-few inputs);
+    }

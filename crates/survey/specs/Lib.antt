@@ -1,4 +1,1 @@
-pub mod Lines
-pub mod Inputs
-pub mod Found
-pub mod UpTo
+pub mod Survey

@@ -1,4 +1,1 @@
-pub mod Taken
-pub mod Between
-pub mod Lengths
 pub mod Outcomes

@@ -19,11 +19,6 @@ unfoldable pub measuredOf : Answer Reported → Answer Measured
 measuredOf (refused r) = refused r
 measuredOf (full c) = full (record { bytes = length (c .report); verdict = c .verdict })
 
--- an answer by the report's length, with the whole verdict that the report states
-unfoldable pub stating : ℕ → Answer ℕ → Answer Measured
-stating verdict (refused r) = refused r
-stating verdict (full n) = full (record { bytes = n; verdict = verdict })
-
 -- length and whole verdict, or refused
 abbrev pub outcomeAnswer : Outcome → Answer Measured
 outcomeAnswer (outcome.Reported n v) = full (record { bytes = n; verdict = verdictNumber v })

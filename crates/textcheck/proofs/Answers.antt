@@ -21,7 +21,7 @@ use Rattle.mapfile.proofs.Cut.{front-answers}
 use Rattle.tablecheck.specs.declared.Outcome.{Outcome}
 use Rattle.tablecheck.specs.declared.Outcome.the-variants as outcome
 use Rattle.tablecheck.specs.Outcomes.{measuredOf, outcomeAnswer, Gives}
-use Rattle.textcheck.specs.Fronts.{Within}
+use Rattle.textcheck.specs.Fronts.{WithinSizes}
 use Rattle.textcheck.specs.Lengths.{lengthAlone}
 
 -- what is stored lies within the slice
@@ -35,7 +35,7 @@ given-tables text before after r g e = subst (λ (x : Read). ReadGiven text befo
 
 module _ {text : Bytes} where
   -- the tables that were read lie within the slices
-  pub read-within : {before after : Tables} {z : Sizes} → TablesRead text before after z → Within after z
+  pub read-within : {before after : Tables} {z : Sizes} → TablesRead text before after z → WithinSizes after z
   read-within r = record {
     specNodes = stored-within (r .specNodes);
     specEdges = stored-within (r .specEdges);

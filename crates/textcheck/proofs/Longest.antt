@@ -1,11 +1,11 @@
 -- How long a report can be: 131 bytes and 20 for each pair. Numbers are counted by their digits: rows have at most three, lists at most four, counts
 -- seven and an address seventeen.
-use mathlib.Core.Path.{_≡_, refl, sym, ap, subst, _∙_}
+use mathlib.Core.Path.{_≡_, refl, ap, subst, _∙_}
 use mathlib.Core.Bool.{Bool, true, false, cond, _&&_}
-use mathlib.Core.Logic.{_≢_}
+use mathlib.Core.Logic.{_≢_, ⊎-elim}
 use mathlib.Core.Option.{none}
-use mathlib.Core.List.{List, [], _∷_, _++_, map, flatMap, List·Memᴰ·head, List·Memᴰ·tail}
-use Prim.Native.Nat.{ℕ, suc, _+_, _*_, _≤_, _<_, _^_}
+use mathlib.Core.List.{List, [], _∷_, _++_, map, flatMap, List·Memᴰ·head, List·Memᴰ·tail, List·Memᴰ·not-nil, List·Memᴰ·cases-cons}
+use Prim.Native.Nat.{ℕ, zero, suc, _+_, _*_, _≤_, _<_, _^_}
 use native.Mathlib.Nat.{le-trans, lt-irrefl, lt-of-lt-of-le}
 use native.Mathlib.Omega.{arith}
 use lib.Dec.{eqb}
@@ -14,10 +14,10 @@ use lib.ListN.{length, length-append, length-map}
 use Rattle.integers.proofs.Tests.{Test, passed, failed, eq?}
 use Rattle.integers.proofs.Linear.{le-in}
 use Rattle.lists.specs.Lists.{_∈_, isNil}
-use Rattle.model.specs.Bytes.{Bytes, bytes, lineFeed, blank, dash, digits, shown, spaced}
-use Rattle.model.specs.Rows.{Pair}
-use Rattle.model.specs.Limits.{maxPairs}
-use Rattle.model.specs.Compare.{Tables, Visit, visits, Finding, findingOf, verdictOf, Place, nowhere, Result, rootRows, leafRows, findings, resultOf}
+use Rattle.model.specs.Bytes.{Bytes, lineFeed, blank, shown, spaced}
+use Rattle.model.specs.Rows.{Pair, pairsFrom}
+use Rattle.model.specs.Limits.{pairWidth, maxPairs}
+use Rattle.model.specs.Compare.{Tables, specGraph, implGraph, visits, Finding, findingOf, verdictOf, Place, nowhere, Result, rootRows, leafRows, findings, resultOf}
 use Rattle.model.specs.Checks.{checkTables}
 use Rattle.model.specs.Refusals.{NoneHolds, compareConditions, outputConditions}
 use Rattle.model.specs.Report.{lineOf, findingLine, resultLine, report}
@@ -27,11 +27,15 @@ use Rattle.model.proofs.Settled.{none-next, settled-none}
 use Rattle.model.proofs.Pairing.{compare-settled}
 use Rattle.model.proofs.Folds.{verdict-low, whole-low}
 use Rattle.model.proofs.Visits.{visits-in, visits-length}
-use Rattle.lists.proofs.Membership.{map-in}
+use Rattle.lists.proofs.Membership.{map-out}
 use Rattle.model.proofs.Demand.{compare-full, demand3}
 use Rattle.report.proofs.Digits.{digits-one, digits-within}
 use Rattle.reporting.specs.Lines.{SmallFinding, SmallResult}
-use Rattle.tablecheck.proofs.Taken.{findings-small, taken-result-small}
+use Rattle.reporting.proofs.Parts.{report-length, result-length, report-from, result-small}
+use Rattle.prepare.proofs.Checks.{tables-inputs}
+use Rattle.survey.proofs.Passing.{findings-few}
+use Rattle.pairs.proofs.Lists.{list-few}
+use Rattle.pathlimit.specs.Inputs.{Inputs, AllFew}
 
 -- ---- lines
 
@@ -119,14 +123,42 @@ pub record ShortPlace (p : Place) : Type 0 where
 nowhere-short : ShortPlace nowhere
 nowhere-short = record { root = omega (arith, shown-below); leaf = omega (arith, shown-below); address = omega (arith, shown-below) }
 
+-- the rows of a table of at most so many pairs lie below that number
+row-low : (i most : ℕ) (ps : List ℤ) {p : Pair} → length ps ≤ pairWidth * most → p ∈ pairsFrom i ps → p .row < i + most
+unfolding pairsFrom
+row-low i most [] h m = absurd (List·Memᴰ·not-nil m)
+row-low i most (s ∷ []) h m = absurd (List·Memᴰ·not-nil m)
+row-low i zero (s ∷ k ∷ ps) h m = absurd (omega arith)
+row-low i (suc most) (s ∷ k ∷ ps) {p} h m =
+    ⊎-elim (λ e. let q : p .row ≡ i = ap (λ (d : Pair). d .row) e in omega arith) (λ n. omega (arith, row-low (suc i) most ps (omega arith) n))
+    (List·Memᴰ·cases-cons m)
+
 module _ (t : Tables) (taken : checkTables t ≡ none) where
+  -- the tables are inputs, and each pair has few paths
+  inputs : Inputs t × AllFew t
+  inputs = tables-inputs t taken
+
   -- rows of pairs have at most three digits
   rows-low : {r l : Pair} → r ∈ rootRows t → l ∈ leafRows t → (r .row < maxPairs) × (l .row < maxPairs)
+  rows-low p q =
+      (row-low 0 maxPairs (t .rootPairs) (inputs .0 .rootShape .few) p, row-low 0 maxPairs (t .leafPairs) (inputs .0 .leafShape .few) q)
+
+  -- and lists at most four
+  findings-small : (f : Finding) → f ∈ findings t → SmallFinding f
   unfolding findings findingOf
-  rows-low {r} {l} p q =
-      let v : Visit = record { root = r; leaf = l } in
-      let small = findings-small t taken (findingOf t v) (map-in (findingOf t) (visits-in (rootRows t) (leafRows t) .1 (p, q))) in
-      (small .root, small .leaf)
+  findings-small f m =
+      let w = map-out (findingOf t) (visits (rootRows t) (leafRows t)) m in
+      let v = w .0 in
+      let paired = visits-in (rootRows t) (leafRows t) .0 (w .1) in
+      let low = rows-low (paired .0) (paired .1) in
+      let few = inputs .1 v (w .1) in
+      rw (w .2)
+      (record {
+        root = low .0;
+        leaf = low .1;
+        spec = omega (arith, list-few (specGraph t) (v .root .spec) (v .leaf .spec), few .0);
+        impl = omega (arith, list-few (implGraph t) (v .root .impl) (v .leaf .impl), few .1);
+      })
 
   difference-short : {res : Result} → FirstDifference t res → ShortPlace (res .place)
   difference-short d =
@@ -163,29 +195,6 @@ result-longest res low small place =
 
 -- ---- the report
 
-names-size : length (bytes "root leaf verdict spec impl\n") ≡ 28
-unfolding bytes
-names-size = refl
-
-middle-size : length (bytes "\nverdict equal partial different root leaf address\n") ≡ 51
-unfolding bytes
-middle-size = refl
-
-report-size : (fs : List Finding) → length (report fs) ≡ 79 + length (flatMap findingLine fs) + length (resultLine (resultOf fs))
-unfolding report
-report-size fs =
-    let names = bytes "root leaf verdict spec impl\n" in
-    let lines = flatMap findingLine fs in
-    let middle = bytes "\nverdict equal partial different root leaf address\n" in
-    omega (
-      arith,
-      names-size,
-      middle-size,
-      length-append names lines,
-      length-append (names ++ lines) middle,
-      length-append (names ++ lines ++ middle) (resultLine (resultOf fs)),
-    )
-
 findings-count : (t : Tables) → length (findings t) ≡ length (rootRows t) * length (leafRows t)
 unfolding findings
 findings-count t = length-map (visits (rootRows t) (leafRows t)) (findingOf t) ∙ visits-length (rootRows t) (leafRows t)
@@ -200,9 +209,11 @@ report-longest t h =
     subst (λ (n : ℕ). length (report (findings t)) ≤ 131 + 20 * n) (findings-count t)
     (omega (
       arith,
-      report-size (findings t),
+      ap length (report-from (findings t)),
+      report-length (flatMap findingLine (findings t)) res,
+      result-length res,
       lines-longest (findings t) (findings-small t taken),
-      result-longest res (whole-low (findings t)) (taken-result-small t taken refl) place,
+      result-longest res (whole-low (findings t)) (result-small (findings t) (findings-few (inputs t taken .0))) place,
     ))
 
 -- so with a buffer of that length no condition is met: refusal 11 is not given

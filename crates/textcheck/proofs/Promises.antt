@@ -8,16 +8,15 @@ use native.Mathlib.Omega.{arith}
 use lib.Dec.{eqb}
 use lib.IntN.{ℤ}
 use Rattle.integers.proofs.Tests.{Test, passed, failed, eq?}
-use Rattle.lists.specs.Lists.{_∈_}
 use Rattle.lists.proofs.Membership.{map-out}
-use lib.ListN.{length, drop}
+use lib.ListN.{length}
 use Rattle.model.specs.Bytes.{Bytes, bytes, lineFeed, shown, spaced}
 use Rattle.model.specs.Compare.{Tables, Finding, findings, resultOf}
 use Rattle.model.specs.Refusals.{NoneHolds, compareConditions, outputConditions}
 use Rattle.model.specs.Calls.{Answer, lengthOf, bufferAfter}
 use Rattle.model.specs.MapFile.{feeds}
 use Rattle.model.specs.Report.{lineOf, findingLine, report, resultLine}
-use Rattle.model.specs.TextCheck.{reportConditions, reportedOf, textAnswer, reportOf, textGives, textAfter}
+use Rattle.model.specs.TextCheck.{reportConditions, reportedOf, reportOf, textGives, textAfter}
 use Rattle.model.specs.Demands.{PartialByWalks}
 use Rattle.model.proofs.Settled.{none-next}
 use Rattle.model.proofs.Demand.{partial-by-walks}

@@ -5,7 +5,7 @@ use Rattle.model.specs.Compare.{Tables}
 use Rattle.mapfile.specs.declared.Sizes.{Sizes}
 
 -- each slice has as many numbers as its size
-pub record Within (t : Tables) (z : Sizes) : Type 0 where
+pub record WithinSizes (t : Tables) (z : Sizes) : Type 0 where
   pub specNodes : z .«spec_nodes» ≤ length (t .specNodes)
   pub specEdges : z .«spec_edges» ≤ length (t .specEdges)
   pub implNodes : z .«impl_nodes» ≤ length (t .implNodes)

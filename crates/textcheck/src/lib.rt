@@ -6,7 +6,7 @@ ghost use Rattle.model.specs.Calls.{full};
 ghost use Rattle.model.specs.TextCheck.{checkRead, textAnswer};
 ghost use Rattle.mapfile.specs.Given.{lent, front};
 ghost use Rattle.tablecheck.specs.Outcomes.{outcomeAnswer, Gives};
-ghost use Rattle.textcheck.specs.Fronts.{Within};
+ghost use Rattle.textcheck.specs.Fronts.{WithinSizes};
 ghost use Rattle.textcheck.specs.Lengths.{lengthAlone};
 ghost use Rattle.textcheck.specs.Promises.{asItIs, TextPromise};
 use mapfile::EDGE_ROOM;
@@ -28,7 +28,7 @@ fn check_front(
     sizes: Sizes,
     report: &mut [u8],
 ) -> Outcome
-    requires { ⌜ Within (lent (now «spec_nodes») (now «spec_edges») (now «impl_nodes») (now «impl_edges») (now «root_pairs») (now «leaf_pairs»)) sizes ⌝ }
+    requires { ⌜ WithinSizes (lent (now «spec_nodes») (now «spec_edges») (now «impl_nodes») (now «impl_edges») (now «root_pairs») (now «leaf_pairs»)) sizes ⌝ }
     ensures { λ r. ⌜
         Gives (checkRead (length (now (report .entry))) (full
         (front (lent (now («spec_nodes» .entry)) (now («spec_edges» .entry)) (now («impl_nodes» .entry)) (now («impl_edges» .entry))

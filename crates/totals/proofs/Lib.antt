@@ -1,3 +1,2 @@
-pub mod Adding
-pub mod Collecting
-pub mod Lines
+pub mod Results
+pub mod Keeping

@@ -1,88 +1,99 @@
--- What is kept of the pairs: the totals of their verdicts, and how many have a record. Assumes nothing.
+-- What is found of a pair, and what is kept of the pairs so far. Assumes nothing.
 use mathlib.Core.Path.{_≡_}
-use mathlib.Core.Bool.{cond}
-use mathlib.Core.List.{List}
-use Prim.Native.Nat.{ℕ, suc, _+_, _≤_}
-use lib.Dec.{eqb, ltb}
-use lib.IntN.{ℤ, negsuc}
-use Rattle.model.specs.Answers.{verdictNumber}
-use Rattle.visiting.specs.Visiting as visiting
-use Rattle.visiting.specs.Visiting.{noKey, withVerdict}
-use Rattle.pairs.specs.declared.Found.{Found}
-use Rattle.totals.specs.declared.Totals.{Totals}
+use mathlib.Core.Bool.{Bool, true, not, cond, _&&_}
+use mathlib.Core.List.{List, [], _∷_, _++_, flatMap}
+use mathlib.Core.Logic.{_≢_}
+use Prim.Native.Nat.{ℕ, suc, _+_, _≤_, max}
+use lib.Dec.{eqb}
+use lib.IntN.{pos}
+use lib.ListN.{length, take}
+use lib.Signed.{ltZ}
+use Rattle.lists.specs.Lists.{_∈_}
+use Rattle.model.specs.Answers.{verdictNumber, comparisonResult}
+use Rattle.model.specs.Compare.{Finding, verdictOf, Place, Result, resultOf}
+use Rattle.model.specs.Report.{findingLine}
+use Rattle.model.specs.Verdicts.{lowest}
+use Rattle.reporting.specs.Lines.{linesOf, maxVisits, SmallLine}
+use Rattle.totals.specs.declared.Found.{Found}
 use Rattle.totals.specs.declared.Kept.{Kept}
-use Rattle.totals.specs.Lines.{Collected, foundRows}
+use Rattle.totals.specs.declared.Place as declared
 
--- the totals that the code holds
-abbrev pub asTotals : Totals → visiting.Totals
-asTotals t = record { equal = t .equal; partial = t .partial; different = t .different; key = t .key; address = t .address }
+-- ---- one pair
 
--- totals of at most n pairs
-pub record AtMost (n : ℕ) (t : Totals) : Type 0 where
-  pub equal : t .equal ≤ n
-  pub partial : t .partial ≤ n
-  pub different : t .different ≤ n
-  pub key : t .key ≤ noKey
+-- what is found of a pair is the verdict of its finding, the lengths of its lists and, where the address is asked for and the pair is unequal, the
+-- lowest bit address at which they differ
+pub record IsFinding (f : Finding) (asked : Bool) (r : Found) : Type 0 where
+  pub verdict : verdictNumber (r .verdict) ≡ verdictOf f
+  pub spec : r .spec ≡ length (f .spec)
+  pub impl : r .implementation ≡ length (f .impl)
+  pub address : asked ≡ true → verdictOf f ≢ 0 → r .address ≡ lowest (f .spec) (f .impl)
 
--- totals with one more pair of this verdict
-unfoldable pub withCount : ℕ → visiting.Totals → visiting.Totals
-withCount v t =
+-- neither list has a record
+pub record Bare (f : Finding) : Type 0 where
+  pub spec : f .spec ≡ []
+  pub impl : f .impl ≡ []
+
+-- ---- the full result with one more pair
+
+-- how often a verdict was given, with one more verdict v
+abbrev pub counted : ℕ → ℕ → ℕ → ℕ
+counted verdict v n = cond (eqb v verdict) (suc n) n
+
+-- the place that the code holds
+abbrev pub asPlace : declared.Place → Place
+asPlace p = record { root = p .root; leaf = p .leaf; address = p .address }
+
+-- the place of the first unequal pair, with one more pair of verdict v
+abbrev pub firstPlace : ℕ → Place → Place → Place
+firstPlace v place first = cond (not (eqb v 0) && ltZ (first .root) (pos 0)) place first
+
+-- the full result, with one more pair of verdict v
+unfoldable pub resultWith : ℕ → Place → Result → Result
+resultWith v place r =
     record {
-      equal = cond (eqb v 0) (suc (t .equal)) (t .equal);
-      partial = cond (eqb v 1) (suc (t .partial)) (t .partial);
-      different = cond (eqb v 2) (suc (t .different)) (t .different);
-      key = t .key;
-      address = t .address;
+      equal = counted 0 v (r .equal);
+      partial = counted 1 v (r .partial);
+      different = counted 2 v (r .different);
+      verdict = max (r .verdict) v;
+      place = firstPlace v place (r .place);
     }
 
--- totals with this place and address, where the place is below the one kept
-unfoldable pub placed : ℕ → ℤ → visiting.Totals → visiting.Totals
-placed place address t =
-    record {
-      equal = t .equal;
-      partial = t .partial;
-      different = t .different;
-      key = cond (ltb place (t .key)) place (t .key);
-      address = cond (ltb place (t .key)) address (t .address);
-    }
+-- ---- what is kept
 
--- what is kept of at most n pairs
-pub record KeptMost (n : ℕ) (k : Kept) : Type 0 where
-  pub totals : AtMost n (k .totals)
-  pub count : k .count ≤ n
+-- what is kept of these findings: their full result, how many bytes their lines have and, where no more lines are counted than there is room for, the
+-- numbers of their lines
+pub record KeptOf (fs : List Finding) (lines : List ℕ) (k : Kept) : Type 0 where
+  pub result : comparisonResult (k .result) ≡ resultOf fs
+  pub count : k .count ≤ length fs
+  pub bytes : k .bytes ≡ length (flatMap findingLine fs)
+  pub held : k .count ≤ length lines → linesOf (take (k .count) lines) ≡ flatMap findingLine fs
 
--- totals with n more equal pairs
-abbrev pub equalTotals : ℕ → visiting.Totals → visiting.Totals
-equalTotals n t = record { equal = t .equal + n; partial = t .partial; different = t .different; key = t .key; address = t .address }
+-- what is kept of no finding, whatever stands in the lines
+abbrev pub KeptNone : Kept → Type 0
+KeptNone k = (lines : List ℕ) → KeptOf [] lines k
 
--- what is kept with n more pairs that are equal and have no record
-abbrev pub equalKept : ℕ → Kept → Kept
-equalKept n k =
-    record {
-      totals = record {
-        equal = k .totals .equal + n;
-        partial = k .totals .partial;
-        different = k .totals .different;
-        key = k .totals .key;
-        address = k .totals .address;
-      };
-      count = k .count;
-    }
+-- the address of the next unequal pair is asked for: no unequal pair was met
+abbrev pub isAsked : Kept → Bool
+isAsked k = ltZ (k .result .root) (pos 0)
 
--- before the first pair
-abbrev pub freshKept : Kept
-freshKept = record { totals = record { equal = 0; partial = 0; different = 0; key = noKey; address = negsuc 0 }; count = 0 }
+-- k is kept of findings that, with n more, are at most 1,000,000
+pub record RoomFor (n : ℕ) (k : Kept) : Type 0 where
+  pub fs : List Finding
+  pub lines : List ℕ
+  pub kept : KeptOf fs lines k
+  pub few : length fs + n ≤ maxVisits
 
--- more than n rows: no totals, and one row more than n
-abbrev pub pastKept : ℕ → Kept
-pastKept n = record { totals = freshKept .totals; count = n + 1 }
+-- what is found of the pair of root row i and leaf row j can be added
+pub record PairAddable (k : Kept) (i j : ℕ) (r : Found) : Type 0 where
+  pub room : RoomFor 1 k
+  pub small : SmallLine i j (r .spec) (r .implementation)
 
--- what is kept where at most n rows are counted
-unfoldable pub keptUpTo : ℕ → Kept → Kept
-keptUpTo n k = cond (ltb n (k .count)) (pastKept n) k
+-- it is added: whatever findings were kept, its finding is kept behind them
+pub record Added (k : Kept) (lines : List ℕ) (i j : ℕ) (r : Found) (k′ : Kept) (lines′ : List ℕ) : Type 0 where
+  pub kept : (fs : List Finding) (f : Finding) → f .visit .root .row ≡ i → f .visit .leaf .row ≡ j → IsFinding f (isAsked k) r
+      → KeptOf fs lines k → KeptOf (fs ++ (f ∷ [])) lines′ k′
 
--- what is kept with one more pair: its verdict, place and address are added to the totals, and its row, where it has one, to the table
-pub record PairKept (place : ℕ) (f : Found) (address : ℤ) (before after : Kept) (lines lines′ : List ℤ) : Type 0 where
-  pub totals : asTotals (after .totals) ≡ withVerdict (verdictNumber (f .verdict)) place address (asTotals (before .totals))
-  pub rows : Collected (foundRows place f) lines (before .count) lines′ (after .count)
-  pub count : after .count ≤ before .count + 1
+-- n findings without a record are added
+pub record EqualAdded (k : Kept) (n : ℕ) (k′ : Kept) : Type 0 where
+  pub kept : (fs gs : List Finding) (lines : List ℕ) → length gs ≡ n → ((g : Finding) → g ∈ gs → Bare g) → KeptOf fs lines k
+      → KeptOf (fs ++ gs) lines k′

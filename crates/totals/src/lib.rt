@@ -1,187 +1,192 @@
-// What is kept of the pairs of a comparison, and how what is found of one pair is added to it: its verdict is counted, the lowest place of an unequal
-// pair is kept, and its row is stored behind the others.
+// What is kept of the pairs of a comparison, taken in visiting order, and how what is found of one pair is added to it: its verdict is counted, the
+// place of the first unequal pair is kept, and the number of its line is stored behind the others.
 ghost use mathlib.Core.Path.{_≡_};
-ghost use Prim.Native.Nat.{_+_, _*_, _≤_};
+ghost use Prim.Native.Nat.{_≤_, _<_, max};
 ghost use lib.IntN.{pos};
-ghost use lib.ListN.{length};
+ghost use lib.ListN.{set};
 ghost use Rattle.model.specs.Limits.{maxPairs};
-ghost use Rattle.model.specs.Answers.{verdictNumber};
-ghost use Rattle.visiting.specs.Visiting.{withVerdict};
-ghost use Rattle.totals.specs.Lines.{Collected, FewFound, foundRow, foundRows};
-ghost use Rattle.totals.specs.Kept.{asTotals, AtMost, placed, withCount, KeptMost, equalKept, freshKept, keptUpTo, PairKept};
+ghost use Rattle.model.specs.Answers.{verdictNumber, comparisonResult};
+ghost use Rattle.reporting.specs.Lines.{maxVisits, SmallResult};
+ghost use Rattle.totals.specs.Kept.{counted, firstPlace, resultWith, asPlace, KeptNone, isAsked, RoomFor, PairAddable, Added, EqualAdded};
+use model::Comparison;
 use model::Verdict;
-use pairs::Found;
-use reporting::LENGTH_STRIDE;
-use sorting::Row;
-use sorting::put_row;
+use model::verdict_number;
+use reporting::line_length;
+use reporting::line_number;
 
-// Numbers of a line's row.
-const LINE_WIDTH: usize = 3;
-
-// Above every place of a pair.
-pub const NO_KEY: usize = 1000000;
-
-// How often each verdict was given, and the lowest place of an unequal pair with that pair's lowest differing bit address.
-pub struct Totals {
-    pub equal: usize,
-    pub partial: usize,
-    pub different: usize,
-    pub key: usize,
+// What is found of a pair: its verdict, the lengths of its lists, and, where it was asked for and the pair is unequal, the lowest bit address at which
+// they differ.
+pub struct Found {
+    pub verdict: Verdict,
+    pub spec: usize,
+    pub implementation: usize,
     pub address: i64,
 }
 
-// What is kept of the pairs: the totals of their verdicts, and how many have a record on either side.
+// What is kept of the pairs so far: their full result, how many have a line, and how many bytes these lines have.
 pub struct Kept {
-    pub totals: Totals,
+    pub result: Comparison,
     pub count: usize,
+    pub bytes: usize,
+}
+
+// Root row and leaf row of a pair, and a bit address.
+struct Place {
+    root: i64,
+    leaf: i64,
+    address: i64,
 }
 
 // What is kept before the first pair.
 pub fn no_pair() -> Kept
-    ensures { λ r. ⌜ r ≡ freshKept ⌝ }
+    ensures { λ r. ⌜ KeptNone r ⌝ }
 {
-    let totals = Totals {
+    let result = Comparison {
         equal: 0,
         partial: 0,
         different: 0,
-        key: NO_KEY,
+        verdict: Verdict::Equal,
+        root: -1,
+        leaf: -1,
         address: -1,
     };
     Kept {
-        totals: totals,
+        result: result,
         count: 0,
+        bytes: 0,
     }
 }
 
-// What is kept where at most `most` rows are counted; where more are, no totals, and one row more than that.
-pub fn up_to(kept: Kept, most: usize) -> Kept
-    ensures { λ r. ⌜ r ≡ keptUpTo most kept ⌝ }
+// Whether the lowest bit address of the next pair is asked for, should it be unequal: no unequal pair was met.
+pub fn address_asked(kept: Kept) -> bool
+    ensures { λ r. ⌜ r ≡ isAsked kept ⌝ }
 {
-    if most < kept.count {
-        let none = no_pair();
-        let totals = none.totals;
-        return Kept {
-            totals: totals,
-            count: most + 1,
-        };
-    }
-    kept
+    let result = kept.result;
+    result.root < 0
 }
 
-// The totals with this place and address, where the place is below the one kept.
-fn with_place(t: Totals, place: usize, address: i64) -> Totals
-    ensures { λ r. ⌜ asTotals r ≡ placed place address (asTotals t) ⌝ }
+// How often a verdict was given, with one more verdict.
+fn counted(verdict: usize, given: usize, count: usize) -> usize
+    requires { ⌜ count ≤ maxVisits ⌝ }
+    ensures { λ r. ⌜ r ≡ counted verdict given count ⌝ }
 {
-    if place < t.key {
-        return Totals {
-            equal: t.equal,
-            partial: t.partial,
-            different: t.different,
-            key: place,
-            address: address,
-        };
-    }
-    t
-}
-
-// The totals with one more pair of this verdict.
-fn counted(t: Totals, verdict: Verdict) -> Totals
-    requires { ⌜ AtMost (maxPairs * maxPairs) t ⌝ }
-    ensures { λ r. ⌜ asTotals r ≡ withCount (verdictNumber verdict) (asTotals t) ⌝ }
-{
-    let mut next = t;
-    match verdict {
-        Verdict::Equal => {
-            next.equal += 1;
-        }
-        Verdict::Partial => {
-            next.partial += 1;
-        }
-        Verdict::Different => {
-            next.different += 1;
-        }
-    }
-    next
-}
-
-// The totals with one more pair: its verdict is counted, and where it is unequal its place may be the lowest, with this address.
-fn with_found(t: Totals, place: usize, found: Found, address: i64) -> Totals
-    requires { ⌜ AtMost (maxPairs * maxPairs) t ⌝ }
-    ensures { λ r. ⌜ asTotals r ≡ withVerdict (verdictNumber (found .verdict)) place address (asTotals t) ⌝ }
-{
-    let verdict = found.verdict;
-    let next = counted(t, verdict);
-    match verdict {
-        Verdict::Equal => next,
-        Verdict::Partial => with_place(next, place, address),
-        Verdict::Different => with_place(next, place, address),
-    }
-}
-
-// What is kept with so many more pairs that are equal and have no record.
-pub fn with_equal(kept: Kept, pairs: usize) -> Kept
-    requires { ⌜ KeptMost (maxPairs * maxPairs) kept × (pairs ≤ maxPairs) ⌝ }
-    ensures { λ r. ⌜ r ≡ equalKept pairs kept ⌝ }
-{
-    let mut totals = kept.totals;
-    totals.equal += pairs;
-    Kept {
-        totals: totals,
-        count: kept.count,
-    }
-}
-
-// The number of a verdict.
-fn verdict_number(v: Verdict) -> i64
-    ensures { λ r. ⌜ r ≡ pos (verdictNumber v) ⌝ }
-{
-    match v {
-        Verdict::Equal => 0,
-        Verdict::Partial => 1,
-        Verdict::Different => 2,
-    }
-}
-
-// The row of what is found of the pair with this place.
-fn line_of(place: usize, found: Found) -> Row
-    requires { ⌜ FewFound place found ⌝ }
-    ensures { λ r. ⌜ r ≡ foundRow place found ⌝ }
-{
-    let verdict = found.verdict;
-    Row {
-        first: place as i64,
-        second: verdict_number(verdict),
-        third: (found.spec * LENGTH_STRIDE + found.implementation) as i64,
-    }
-}
-
-// Stores the row of a pair with a record on either side behind `count` rows, while there is room. Returns how many such pairs there are with it.
-fn with_line(lines: &mut [i64], count: usize, place: usize, found: Found) -> usize
-    requires { ⌜ (count ≤ maxPairs * maxPairs) × FewFound place found ⌝ }
-    ensures { λ r. ⌜ Collected (foundRows place found) (now (lines .entry)) count (now (lines .exit)) r ⌝ }
-    ensures { λ r. ⌜ r ≤ count + 1 ⌝ }
-{
-    if found.spec + found.implementation == 0 {
-        return count;
-    }
-    if lines.len() < LINE_WIDTH * count + LINE_WIDTH {
+    if given == verdict {
         return count + 1;
     }
-    put_row(lines, count, line_of(place, found));
-    count + 1
+    count
 }
 
-// What is kept with one more pair: its verdict is counted, where it is unequal its place may be the lowest, with this address, and its row is stored
-// behind the others, while there is room.
-pub fn with_pair(lines: &mut [i64], kept: Kept, place: usize, found: Found, address: i64) -> Kept
-    requires { ⌜ KeptMost (maxPairs * maxPairs) kept × FewFound place found ⌝ }
-    ensures { λ r. ⌜ PairKept place found address kept r (now (lines .entry)) (now (lines .exit)) ⌝ }
+// The higher of two verdicts.
+fn higher(one: Verdict, other: Verdict) -> Verdict
+    ensures { λ r. ⌜ verdictNumber r ≡ max (verdictNumber one) (verdictNumber other) ⌝ }
 {
-    let totals = kept.totals;
-    let totals = with_found(totals, place, found, address);
-    let count = with_line(lines, kept.count, place, found);
+    if verdict_number(one) < verdict_number(other) {
+        return other;
+    }
+    one
+}
+
+// The place of the first unequal pair, with one more pair of this place.
+fn first_place(first: Place, place: Place, given: usize) -> Place
+    ensures { λ r. ⌜ asPlace r ≡ firstPlace given (asPlace place) (asPlace first) ⌝ }
+{
+    if given == 0 {
+        return first;
+    }
+    if first.root < 0 {
+        return place;
+    }
+    first
+}
+
+// The full result with one more pair.
+fn with_found(result: Comparison, root_row: usize, leaf_row: usize, found: Found) -> Comparison
+    requires { ⌜ SmallResult (comparisonResult result) × («root_row» < maxPairs) × («leaf_row» < maxPairs) ⌝ }
+    ensures { λ r. ⌜
+        comparisonResult r
+        ≡ resultWith (verdictNumber (found .verdict)) (record { root = pos «root_row»; leaf = pos «leaf_row»; address = found .address })
+        (comparisonResult result) ⌝ }
+{
+    let verdict = found.verdict;
+    let given = verdict_number(verdict);
+    let whole = result.verdict;
+    let first = Place {
+        root: result.root,
+        leaf: result.leaf,
+        address: result.address,
+    };
+    let place = Place {
+        root: root_row as i64,
+        leaf: leaf_row as i64,
+        address: found.address,
+    };
+    let first = first_place(first, place, given);
+    Comparison {
+        equal: counted(0, given, result.equal),
+        partial: counted(1, given, result.partial),
+        different: counted(2, given, result.different),
+        verdict: higher(whole, verdict),
+        root: first.root,
+        leaf: first.leaf,
+        address: first.address,
+    }
+}
+
+// Stores the number of a line behind `count` others, while there is room.
+fn hold_line(lines: &mut [usize], count: usize, number: usize)
+    ensures { λ _. ⌜ now (lines .exit) ≡ set (now (lines .entry)) count number ⌝ }
+{
+    if count < lines.len() {
+        lines[count] = number;
+    }
+}
+
+// What is kept with one more pair.
+pub fn with_pair(
+    lines: &mut [usize],
+    kept: Kept,
+    root_row: usize,
+    leaf_row: usize,
+    found: Found,
+) -> Kept
+    requires { ⌜ PairAddable kept «root_row» «leaf_row» found ⌝ }
+    ensures { λ r. ⌜ Added kept (now (lines .entry)) «root_row» «leaf_row» found r (now (lines .exit)) ⌝ }
+{
+    let result = kept.result;
+    let result = with_found(result, root_row, leaf_row, found);
+    if found.spec + found.implementation == 0 {
+        return Kept {
+            result: result,
+            count: kept.count,
+            bytes: kept.bytes,
+        };
+    }
+    let verdict = found.verdict;
+    let number = line_number(
+        root_row,
+        leaf_row,
+        verdict,
+        found.spec,
+        found.implementation,
+    );
+    hold_line(lines, kept.count, number);
     Kept {
-        totals: totals,
-        count: count,
+        result: result,
+        count: kept.count + 1,
+        bytes: kept.bytes + line_length(number),
+    }
+}
+
+// What is kept with so many more pairs that have no record.
+pub fn with_equal(kept: Kept, pairs: usize) -> Kept
+    requires { ⌜ RoomFor pairs kept ⌝ }
+    ensures { λ r. ⌜ EqualAdded kept pairs r ⌝ }
+{
+    let mut result = kept.result;
+    result.equal += pairs;
+    Kept {
+        result: result,
+        count: kept.count,
+        bytes: kept.bytes,
     }
 }

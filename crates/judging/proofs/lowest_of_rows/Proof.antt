@@ -1,69 +1,70 @@
--- Each call leaves a list of small records, normalised, and they are the lists whose rows were there.
-use mathlib.Core.Path.{_≡_, ap₂, _∙_}
+-- Where it is not asked for, or the verdict is 0, nothing is said of the address. Else each call leaves a list of small records, normalised, and they are
+-- the lists whose rows were there.
+use mathlib.Core.Path.{sym, ap, ap₂, _∙_}
+use mathlib.Core.Bool.{not, true≢false}
 use native.Mathlib.Omega.{arith}
 use mir.Syntax.{w64}
-use mir.Val.{SFits, ofZ, toZ}
+use mir.Val.{SFits}
 use mir.Facts.{toZ-ofZ}
 use borrow.Author.Needs.{needs}
 use Rattle.model.specs.Verdicts.{lowest}
-use Rattle.judging.specs.Judging.{OfLists}
+use Rattle.model.specs.Answers.{verdictNumber}
 use Rattle.judging.proofs.Judging.{rows-small, rows-list, rows-back}
 use Rattle.judging.proofs.lowest_of_rows.Statement.{statement}
 use Rattle.judging.proofs.lowest_of_rows.Tie as tie
 
+-- from the second call back to the first, and from there to where the function begins
+abbrev first : tie.After-normalise2 → tie.After-normalise
+first c = c .before .before .before .before .before
+
+abbrev start : tie.After-normalise → tie.Start
+start c = c .before .before .before .before .before
+
+returns : tie.Need-returns
+returns c l m p q e f a n = absurd (true≢false (sym (c .if1 .taken) ∙ ap not a))
+
+returns-2 : tie.Need-returns-2
+returns-2 c l m p q e f a n = absurd (n (ap verdictNumber (c .enum-told .given .1)))
+
 normalise-requires : tie.Need-normalise-requires
-normalise-requires c κs = let s = c .before .before in (s .pre .0 .within, s .pre .2, rows-small (s .pre .0))
+normalise-requires c κs = let p = c .before .before .before .before .pre in (p .0 .within, p .2, rows-small (p .0))
 
 normalise-requires-2 : tie.Need-normalise-requires-2
 normalise-requires-2 c κs =
     let n = c .before .before .before .before in
-    let s = n .before .before .before in
-    (s .pre .1 .within, omega (arith, n .normalise .kept .1 .1 .0, s .pre .3), rows-small (s .pre .1))
+    let p = start n .pre in
+    (p .1 .within, omega (arith, n .normalise .kept .1 .1 .0, p .3), rows-small (p .1))
 
 lowest-of-requires : tie.Need-lowest-of-requires
 lowest-of-requires c κs =
     let k = c .before .before .before .before in
-    let n = k .before .before .before .before .before in
-    let s = n .before .before .before in (
-      rows-list (s .pre .0) _ (n .normalise .last .0) (n .normalise .ensures .0) (n .normalise .ensures .1 .0) (n .normalise .ensures .1 .1 .0),
-      rows-list (s .pre .1) _ (k .normalise2 .last .0) (k .normalise2 .ensures .0) (k .normalise2 .ensures .1 .0) (k .normalise2 .ensures .1 .1 .0),
+    let n = first k in
+    let p = start n .pre in (
+      rows-list (p .0) _ (n .normalise .last .0) (n .normalise .ensures .0) (n .normalise .ensures .1 .0) (n .normalise .ensures .1 .1 .0),
+      rows-list (p .1) _ (k .normalise2 .last .0) (k .normalise2 .ensures .0) (k .normalise2 .ensures .1 .0) (k .normalise2 .ensures .1 .1 .0),
     )
 
-same-length : tie.Need-same-length
-same-length c = search needs
-
-same-length-2 : tie.Need-same-length-2
-same-length-2 c = search needs
-
-same-length-3 : tie.Need-same-length-3
-same-length-3 c = search needs
-
--- the lowest address is that of the lists
-found : (c : tie.After-lowest-of) → let s = c .before .before .before .before .before .before .before .before .before .before .before .before .before in
-    OfLists (s .args .spec .now) (s .args .ns) (s .args .imp .now) (s .args .ni) (λ l m. toZ w64 (ofZ w64 (c .lowest-of .result)) ≡ lowest l m)
-found c l m p q e f =
+returns-3 : tie.Need-returns-3
+returns-3 c l m p q e f a u =
     let k = c .before .before .before .before .before in
-    let n = k .before .before .before .before .before in
-    let s = n .before .before .before in
+    let n = first k in
+    let s = start n .pre in
     let fits : SFits w64 (c .lowest-of .result) = search needs in
     toZ-ofZ fits ∙ c .lowest-of .ensures
-    ∙ ap₂ lowest (rows-back (s .pre .0) _ (n .normalise .last .0) (n .normalise .ensures .0) (n .normalise .ensures .1 .0) p e)
-    (rows-back (s .pre .1) _ (k .normalise2 .last .0) (k .normalise2 .ensures .0) (k .normalise2 .ensures .1 .0) q f)
-
-returns : tie.Need-returns
-returns c =
-    let k = c .before .before .before .before .before in
-    let n = k .before .before .before .before .before in
-    (found c, (n .normalise .ensures .1 .1 .0, k .normalise2 .ensures .1 .1 .0, k .normalise2 .ensures .1 .1 .1 ∙ n .normalise .ensures .1 .1 .1))
+    ∙ ap₂ lowest (rows-back (s .0) _ (n .normalise .last .0) (n .normalise .ensures .0) (n .normalise .ensures .1 .0) p e)
+    (rows-back (s .1) _ (k .normalise2 .last .0) (k .normalise2 .ensures .0) (k .normalise2 .ensures .1 .0) q f)
 
 pub lowest-of-rows-spec : {M : Type 1} → statement M
 lowest-of-rows-spec =
     tie.close
     (tie.spec
+    returns
+    (λ c. search needs)
+    returns-2
     normalise-requires
     normalise-requires-2
     lowest-of-requires
-    same-length
-    same-length-2
-    same-length-3
-    returns)
+    (λ c. search needs)
+    (λ c. search needs)
+    (λ c. search needs)
+    returns-3)

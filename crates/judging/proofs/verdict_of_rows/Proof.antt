@@ -13,9 +13,6 @@ unlike c =
     let s = c .before .before in
     rows-unlike (s .args .spec .now) (s .args .imp .now) (s .args .ns) (s .args .ni) (sym (c .before .same-lists .ensures) ∙ c .if1 .left)
 
-same-lists-requires : tie.Need-same-lists-requires
-same-lists-requires c κs = search needs
-
 returns : tie.Need-returns
 returns c l m p q e f =
     let s = c .before .before in
@@ -26,9 +23,6 @@ returns-2 : tie.Need-returns-2
 returns-2 c l m p q e f =
     let s = c .before .before .before in
     judged-empty p q e f (unlike (c .before)) (rows-length (s .args .imp .now) (s .args .ni) ∙ c .if2 .taken)
-
-covered-requires : tie.Need-covered-requires
-covered-requires c κs = search needs
 
 returns-3 : tie.Need-returns-3
 returns-3 c l m p q e f =
@@ -44,4 +38,4 @@ returns-4 c l m p q e f =
 
 pub verdict-of-rows-spec : {M : Type 1} → statement M
 verdict-of-rows-spec =
-    tie.close (tie.spec same-lists-requires returns returns-2 covered-requires returns-3 returns-4)
+    tie.close (tie.spec (λ c κs. search needs) returns returns-2 (λ c κs. search needs) returns-3 returns-4)

@@ -1,64 +1,132 @@
--- The list of each leaf is asked of its graph, and the verdict is that of the two.
+-- The list of each leaf is asked of its graph, and the two are judged where they stand.
+use mathlib.Core.Path.{_≡_, sym, _∙_}
+use Prim.Native.Nat.{_*_, _≤_}
 use native.Mathlib.Omega.{arith}
-use Rattle.model.specs.Paths.{Leaf}
-use Rattle.model.specs.Compare.{Tables, specGraph, implGraph}
-use Rattle.pairing.specs.Pairs.{pairAt, tablesOf}
-use Rattle.pairs.proofs.Inputs.{row-leaves}
-use Rattle.pairs.proofs.Pairs.{spec-askable, impl-askable, asked-behind, pair-found}
-use borrow.Author.Needs.{needs}
+use lib.IntN.{natAbs}
+use lib.ListN.{length}
+use mir.Syntax.{w64}
+use mir.Facts.{toZ-ofZ}
+use borrow.Author.Needs.{needs, sfits-of}
+use Rattle.lists.specs.Lists.{_∈_}
+use Rattle.model.specs.Rows.{pairRows}
+use Rattle.model.specs.Compare.{findingOf, verdictOf}
+use Rattle.pairing.specs.Pairs.{pairAt}
+use Rattle.pairing.proofs.Pairs.{pair-member}
+use Rattle.arrivals.specs.State.{rowWidth, stateRoom}
+use Rattle.arrivals.specs.Sweep.{Answered}
+use Rattle.pairs.proofs.Sides.{Side, spec-side, impl-side, side-normal, side-askable, side-count, side-rows, side-few, side-small, side-swept}
 use Rattle.pairs.proofs.pair_found.Statement.{statement}
 use Rattle.pairs.proofs.pair_found.Tie as tie
 
--- where the function begins, and the tables there
+-- where the function begins, from the leaf of the specification; that leaf from its list; that list from the leaf of the implementation; that leaf from its
+-- list; and that list from where the two are judged
 abbrev start : tie.After-spec-node → tie.Start
 start c = c .before .before .before
 
-abbrev tables : tie.Start → Tables
-tables s =
-    let a = s .args in
-    tablesOf (a .spec-nodes .now) (a .spec-edges .now) (a .impl-nodes .now) (a .impl-edges .now) (a .root-pairs .now) (a .leaf-pairs .now)
-
--- from the first list back to the leaf that it is asked of
 abbrev specNode : tie.After-list-at → tie.After-spec-node
 specNode c = c .before .before .before
 
--- from the second list back to its leaf, and to the first
+abbrev specList : tie.After-impl-node → tie.After-list-at
+specList c = c .before .before .before
+
 abbrev implNode : tie.After-list-at2 → tie.After-impl-node
 implNode c = c .before .before .before
 
-abbrev first : tie.After-impl-node → tie.After-list-at
-first c = c .before .before .before
+abbrev implList : tie.After-struct-known2 → tie.After-list-at2
+implList c = c .before .before .before .before
 
--- the nodes of the leaf row are leaves
-leaves : (s : tie.Start) → let p = pairAt (s .args .leaf-pairs .now) (s .args .leaf-row) in
-    Leaf (specGraph (tables s)) (p .spec) × Leaf (implGraph (tables s)) (p .impl)
-leaves s = row-leaves (s .pre .0 .inputs) (s .args .leaf-row) (s .pre .1)
+-- its root row and its leaf row are there
+rows : (s : tie.Start) → let a = s .args in
+    (pairAt (a .root-pairs .now) (a .root-row) ∈ pairRows (a .root-pairs .now)) × (pairAt (a .leaf-pairs .now) (a .leaf-row) ∈ pairRows (a .leaf-pairs .now))
+rows s =
+    let a = s .args in
+    (pair-member (a .root-pairs .now) (a .root-row) (omega (arith, s .pre .0 .row)), pair-member (a .leaf-pairs .now) (a .leaf-row) (omega (arith, s .pre .1)))
+
+-- the two graphs of the pair
+abbrev specSide : (s : tie.Start) → let a = s .args in
+    Side (a .spec-nodes .now) (a .spec-edges .now) (a .spec-plan .now) (pairAt (a .root-pairs .now) (a .root-row) .spec) (pairAt (a .leaf-pairs .now) (a .leaf-row) .spec)
+specSide s = spec-side (s .pre .0 .ready) (rows s .0) (rows s .1)
+
+abbrev implSide : (s : tie.Start) → let a = s .args in
+    Side (a .impl-nodes .now) (a .impl-edges .now) (a .impl-plan .now) (pairAt (a .root-pairs .now) (a .root-row) .impl) (pairAt (a .leaf-pairs .now) (a .leaf-row) .impl)
+implSide s = impl-side (s .pre .0 .ready) (rows s .0) (rows s .1)
 
 spec-node-requires : tie.Need-spec-node-requires
-spec-node-requires c κs = let s = c .before .before in (omega (arith, s .pre .1), leaves s .0 .row .low)
+spec-node-requires c κs = let s = c .before .before in (omega (arith, s .pre .1), specSide s .leaf .row .low)
 
 list-at-requires : tie.Need-list-at-requires
-list-at-requires c κs = let n = c .before .before in let s = start n in spec-askable (s .pre .0) (s .pre .1) (n .spec-node .ensures)
+list-at-requires c κs =
+    let n = c .before .before in
+    let s = start n in
+    side-askable (specSide s) (n .spec-node .ensures) (s .pre .0 .spec) (s .pre .0 .rooms .list)
 
 impl-node-requires : tie.Need-impl-node-requires
-impl-node-requires c κs = let s = start (specNode (c .before .before)) in (omega (arith, s .pre .1), leaves s .1 .row .low)
+impl-node-requires c κs = let s = start (specNode (c .before .before)) in (omega (arith, s .pre .1), implSide s .leaf .row .low)
 
 list-at-requires-2 : tie.Need-list-at-requires-2
 list-at-requires-2 c κs =
     let n = c .before .before in
-    let l = first n in
+    let l = specList n in
     let s = start (specNode l) in
-    impl-askable (s .pre .0) (s .pre .1) (l .list-at .last .1 .1 .1 .1 .1 .0) (n .impl-node .ensures)
-    (omega (arith, s .pre .0 .spareRoom, l .list-at .kept .1 .1 .1 .1 .1 .0))
+    side-askable (implSide s) (n .impl-node .ensures) (s .pre .0 .impl) (l .list-at .kept .1 .1 .1 .1 .1 .0 ∙ s .pre .0 .rooms .list)
 
-verdict-behind-requires : tie.Need-verdict-behind-requires
-verdict-behind-requires c κs =
-    let m = c .before .before .before .before in
+-- what is answered of each
+specAnswer : (l : tie.After-list-at) → let s = start (specNode l) in let a = s .args in
+    Answered (a .spec-nodes .now) (a .spec-edges .now) (a .spec-plan .now) (natAbs (pairAt (a .root-pairs .now) (a .root-row) .spec))
+    (specNode l .spec-node .result) (l .list-at .last .1 .1 .1 .1 .0) (l .list-at .result)
+specAnswer l = let s = start (specNode l) in l .list-at .ensures _ (s .pre .0 .spec)
+
+implAnswer : (m : tie.After-list-at2) → let s = start (specNode (specList (implNode m))) in let a = s .args in
+    Answered (a .impl-nodes .now) (a .impl-edges .now) (a .impl-plan .now) (natAbs (pairAt (a .root-pairs .now) (a .root-row) .impl))
+    (implNode m .impl-node .result) (m .list-at2 .last .1 .1 .1 .1 .0) (m .list-at2 .result)
+implAnswer m = let s = start (specNode (specList (implNode m))) in m .list-at2 .ensures _ (s .pre .0 .impl)
+
+-- each lies in its state, which has the room that it had
+specAt : (l : tie.After-list-at) → let new = l .list-at .last .1 .1 .1 .1 .0 in (rowWidth * l .list-at .result .row ≤ length new) × (length new ≡ stateRoom)
+specAt l = (omega (arith, specAnswer l .within), l .list-at .kept .1 .1 .1 .1 .0 ∙ start (specNode l) .pre .0 .rooms .spec)
+
+implAt : (m : tie.After-list-at2) → let new = m .list-at2 .last .1 .1 .1 .1 .0 in (rowWidth * m .list-at2 .result .row ≤ length new) × (length new ≡ stateRoom)
+implAt m =
+    (omega (arith, implAnswer m .within), m .list-at2 .kept .1 .1 .1 .1 .0 ∙ start (specNode (specList (implNode m))) .pre .0 .rooms .impl)
+
+mul-spec-at : tie.Need-mul-spec-at
+mul-spec-at c = omega (arith, specAt (specList (implNode (c .before .before .before))))
+
+mul-impl-at : tie.Need-mul-impl-at
+mul-impl-at c = omega (arith, implAt (implList c))
+
+mul-judge : tie.Need-mul-judge
+mul-judge c = omega (arith, specAt (specList (implNode (implList c))))
+
+sub-judge : tie.Need-sub-judge
+sub-judge c = specAt (specList (implNode (implList c))) .0
+
+part-judge-start : tie.Need-part-judge-start
+part-judge-start c = specAt (specList (implNode (implList c))) .0
+
+mul-judge-2 : tie.Need-mul-judge-2
+mul-judge-2 c = omega (arith, implAt (implList (c .before)))
+
+sub-judge-2 : tie.Need-sub-judge-2
+sub-judge-2 c = implAt (implList (c .before)) .0
+
+part-judge-start-2 : tie.Need-part-judge-start-2
+part-judge-start-2 c = implAt (implList (c .before)) .0
+
+judge-requires : tie.Need-judge-requires
+judge-requires c κs =
+    let m = implList (c .before .before .before) in
     let n = implNode m in
-    let l = first n in
+    let l = specList n in
     let s = start (specNode l) in
-    let rows = asked-behind (s .pre .0) (s .pre .1) (specNode l .spec-node .ensures) (n .impl-node .ensures) (l .list-at .ensures) (m .list-at2 .ensures) in
-    search (rows .0, rows .1)
+    let isSpec = specNode l .spec-node .ensures in
+    let isImpl = n .impl-node .ensures in
+    let room = m .list-at2 .kept .1 .1 .1 .1 .1 .0 ∙ l .list-at .kept .1 .1 .1 .1 .1 .0 ∙ s .pre .0 .rooms .list in (
+      side-small (specSide s) isSpec (specAnswer l),
+      side-small (implSide s) isImpl (implAnswer m),
+      omega (arith, side-few (specSide s) isSpec (specAnswer l), room),
+      omega (arith, side-few (implSide s) isImpl (implAnswer m), room),
+    )
 
 same-length : tie.Need-same-length
 same-length c = search needs
@@ -70,14 +138,29 @@ same-length-3 : tie.Need-same-length-3
 same-length-3 c = search needs
 
 returns : tie.Need-returns
+unfolding findingOf verdictOf
 returns c =
-    let m = c .before .before .before .before .before in
+    let j = c .before .before .before .before in
+    let m = implList (j .before .before .before .before) in
     let n = implNode m in
-    let l = first n in
+    let l = specList n in
     let s = start (specNode l) in
-    pair-found (s .pre .0) (s .pre .1) (specNode l .spec-node .ensures) (n .impl-node .ensures) (l .list-at .ensures) (m .list-at2 .ensures)
-    (c .verdict-behind .result) (m .list-at2 .last .1 .1 .1 .1 .1 .0)
-    (omega (arith, s .pre .0 .spareRoom, l .list-at .kept .1 .1 .1 .1 .1 .0, m .list-at2 .kept .1 .1 .1 .1 .1 .0)) (c .verdict-behind .ensures)
+    let isSpec = specNode l .spec-node .ensures in
+    let isImpl = n .impl-node .ensures in
+    let k = s .pre .0 in
+    let judged = j .judge .ensures _ _ (side-normal (specSide s)) (side-normal (implSide s)) (side-rows (specSide s) isSpec (specAnswer l)) (side-rows (implSide s) isImpl (implAnswer m)) in
+    let spec = side-swept (specSide s) isSpec (specAnswer l) (j .judge .last .0) (j .judge .kept .0) in
+    let impl = side-swept (implSide s) isImpl (implAnswer m) (j .judge .last .1 .1 .0) (j .judge .kept .1 .1 .0) in
+    record {
+      ready = record { ready = k .ready; rooms = record { spec = same-length c ∙ k .rooms .spec; impl = same-length-2 c ∙ k .rooms .impl; list = same-length-3 c ∙ k .rooms .list }; row = k .row; spec = spec; impl = impl };
+      found = record {
+        verdict = judged .verdict;
+        spec = side-count (specSide s) isSpec (specAnswer l);
+        impl = side-count (implSide s) isImpl (implAnswer m);
+        address = λ a u. toZ-ofZ (sfits-of {w = w64} (j .judge .ok .1 .1 .1 .0 .1)) ∙ judged .address a (λ z. u (sym (judged .verdict) ∙ z));
+      };
+      few = (side-few (specSide s) isSpec (specAnswer l), side-few (implSide s) isImpl (implAnswer m));
+    }
 
 pub pair-found-spec : {M : Type 1} → statement M
 pair-found-spec =
@@ -87,7 +170,17 @@ pair-found-spec =
     list-at-requires
     impl-node-requires
     list-at-requires-2
-    verdict-behind-requires
+    mul-spec-at
+    mul-impl-at
+    mul-judge
+    sub-judge
+    part-judge-start
+    (λ c. search needs)
+    mul-judge-2
+    sub-judge-2
+    part-judge-start-2
+    (λ c. search needs)
+    judge-requires
     same-length
     same-length-2
     same-length-3

@@ -12,9 +12,6 @@ use Rattle.report.proofs.field_length.Tie as tie
 counted : (c : tie.After-number-length) → c .number-length .result ≡ length (shown (c .before .args .v))
 counted c = rw (toZ-ofZ (c .before .fits .v)) at (c .number-length .ensures)
 
-number-length-requires : tie.Need-number-length-requires
-number-length-requires c κs = search needs
-
 returns : tie.Need-returns
 returns c =
     let s = c .before .before .args in
@@ -29,4 +26,4 @@ returns-2 c =
     omega (arith, counted (c .before), ap length (field-later (s .place) (s .v) (c .if1 .left)))
 
 pub field-length-spec : {M : Type 1} → statement M
-field-length-spec = tie.close (tie.spec number-length-requires returns add-result returns-2)
+field-length-spec = tie.close (tie.spec (λ c κs. search needs) returns add-result returns-2)

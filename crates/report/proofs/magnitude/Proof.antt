@@ -46,9 +46,6 @@ cast-result-2 c =
     let s = c .before in
     rw (toZ-ofZ (s .fits .v)) (yes-nonNeg (other-held (s .fits .v) (c .if1 .left)), fits-natAbs tt (s .fits .v))
 
-returns-2 : tie.Need-returns-2
-returns-2 c = search needs
-
 pub magnitude-spec : {M : Type 1} → statement M
 magnitude-spec =
-    tie.close (tie.spec sub-result cast-result add-result returns cast-result-2 returns-2)
+    tie.close (tie.spec sub-result cast-result add-result returns cast-result-2 (λ c. search needs))

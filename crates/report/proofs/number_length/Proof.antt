@@ -14,12 +14,6 @@ use Rattle.report.proofs.number_length.Tie as tie
 counted : (c : tie.After-digits-length) → c .digits-length .result ≡ length (digits 20 (natAbs (c .before .before .args .v)))
 counted c = rw (c .before .magnitude .ensures, toZ-ofZ (c .before .before .fits .v)) at (c .digits-length .ensures)
 
-magnitude-requires : tie.Need-magnitude-requires
-magnitude-requires c κs = search needs
-
-digits-length-requires : tie.Need-digits-length-requires
-digits-length-requires c κs = search needs
-
 add-result : tie.Need-add-result
 add-result c = omega (arith, counted (c .before), digits-short 20 (natAbs (c .before .before .before .args .v)))
 
@@ -35,4 +29,4 @@ returns-2 c =
 
 pub number-length-spec : {M : Type 1} → statement M
 number-length-spec =
-    tie.close (tie.spec magnitude-requires digits-length-requires add-result returns returns-2)
+    tie.close (tie.spec (λ c κs. search needs) (λ c κs. search needs) add-result returns returns-2)

@@ -26,9 +26,6 @@ module _ (c : tie.Else1) where
 put-number-requires : tie.Need-put-number-requires
 put-number-requires c κs = rw (toZ-ofZ (c .before .before .before .fits .v)) (omega (arith, ap length (first-line (c .before))))
 
-same-length : tie.Need-same-length
-same-length c = search needs
-
 returns : tie.Need-returns
 returns c =
     let p = c .before .before in
@@ -43,9 +40,6 @@ sub-put-number c = rw length-set (omega (arith, room c))
 
 part-put-number-start : tie.Need-part-put-number-start
 part-put-number-start c = rw length-set (omega (arith, room c))
-
-part-put-number-end : tie.Need-part-put-number-end
-part-put-number-end c = search needs
 
 put-number-requires-2 : tie.Need-put-number-requires-2
 put-number-requires-2 c κs =
@@ -72,12 +66,12 @@ put-field-spec =
     tie.close
     (tie.spec
     put-number-requires
-    same-length
+    (λ c. search needs)
     returns
     slice-write-out
     sub-put-number
     part-put-number-start
-    part-put-number-end
+    (λ c. search needs)
     put-number-requires-2
     add-result
     same-length-2

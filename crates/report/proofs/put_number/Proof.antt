@@ -31,9 +31,6 @@ other-line c =
     let s = c .before .before .before in
     rw (distance (c .before)) at (shown-other (s .args .v) (other-held (s .fits .v) (c .if1 .left)))
 
-magnitude-requires : tie.Need-magnitude-requires
-magnitude-requires c κs = search needs
-
 slice-write-out : tie.Need-slice-write-out
 slice-write-out c = omega (arith, room c)
 
@@ -42,9 +39,6 @@ sub-put-digits c = rw length-set (omega (arith, room c))
 
 part-put-digits-start : tie.Need-part-put-digits-start
 part-put-digits-start c = rw length-set (omega (arith, room c))
-
-part-put-digits-end : tie.Need-part-put-digits-end
-part-put-digits-end c = search needs
 
 put-digits-requires : tie.Need-put-digits-requires
 put-digits-requires c κs =
@@ -68,9 +62,6 @@ same-length c = put-length (returns c) (c .before .before .before .before .befor
 put-digits-requires-2 : tie.Need-put-digits-requires-2
 put-digits-requires-2 c κs = omega (arith, ap length (other-line (c .before)))
 
-same-length-2 : tie.Need-same-length-2
-same-length-2 c = search needs
-
 returns-2 : tie.Need-returns-2
 returns-2 c = let p = c .before .before in rw (other-line (p .before .before)) (p .put-digits2 .ensures)
 
@@ -78,15 +69,15 @@ pub put-number-spec : {M : Type 1} → statement M
 put-number-spec =
     tie.close
     (tie.spec
-    magnitude-requires
+    (λ c κs. search needs)
     slice-write-out
     sub-put-digits
     part-put-digits-start
-    part-put-digits-end
+    (λ c. search needs)
     put-digits-requires
     add-result
     same-length
     returns
     put-digits-requires-2
-    same-length-2
+    (λ c. search needs)
     returns-2)

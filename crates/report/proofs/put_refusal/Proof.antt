@@ -37,15 +37,6 @@ module _ (c : tie.Start) where
 put-refusal-heading-requires : tie.Need-put-refusal-heading-requires
 put-refusal-heading-requires c κs = omega (arith, room (c .before .before))
 
-cast-t9 : tie.Need-cast-t9
-cast-t9 c = search needs
-
-cast-t10 : tie.Need-cast-t10
-cast-t10 c = search needs
-
-cast-t11 : tie.Need-cast-t11
-cast-t11 c = search needs
-
 sub-put-numbers : tie.Need-sub-put-numbers
 sub-put-numbers c =
     let p = c .before .before in
@@ -55,12 +46,6 @@ part-put-numbers-start : tie.Need-part-put-numbers-start
 part-put-numbers-start c =
     let p = c .before .before in
     omega (arith, room (p .before .before .before), p .put-refusal-heading .ensures .count, p .put-refusal-heading .kept .0)
-
-part-put-numbers-end : tie.Need-part-put-numbers-end
-part-put-numbers-end c = search needs
-
-slice-aggregate-put-numbers : tie.Need-slice-aggregate-put-numbers
-slice-aggregate-put-numbers c = search needs
 
 put-numbers-requires : tie.Need-put-numbers-requires
 put-numbers-requires c κs =
@@ -76,9 +61,6 @@ add-result c =
     let s = p .before .before .before in
     omega (arith, room s, p .put-refusal-heading .ensures .count, rw (casts s) at (q .put-numbers .ensures .count))
 
-same-length : tie.Need-same-length
-same-length c = search needs
-
 returns : tie.Need-returns
 returns c =
     let q = c .before .before in
@@ -91,14 +73,14 @@ put-refusal-spec =
     tie.close
     (tie.spec
     put-refusal-heading-requires
-    cast-t9
-    cast-t10
-    cast-t11
+    (λ c. search needs)
+    (λ c. search needs)
+    (λ c. search needs)
     sub-put-numbers
     part-put-numbers-start
-    part-put-numbers-end
-    slice-aggregate-put-numbers
+    (λ c. search needs)
+    (λ c. search needs)
     put-numbers-requires
     add-result
-    same-length
+    (λ c. search needs)
     returns)

@@ -1,61 +1,70 @@
 -- The names go to the front of the buffer and the result's line into what remains of it.
-use Prim.Native.Nat.{_+_, _≤_}
+use Prim.Native.Nat.{_+_, _-_, _≤_}
 use native.Mathlib.Omega.{arith}
 use borrow.Author.Needs.{needs}
-use lib.ListN.{length}
+use lib.ListN.{length, take, drop}
 use Rattle.model.specs.Answers.{comparisonResult}
 use Rattle.model.specs.Report.{resultLine}
+use Rattle.report.specs.Put.{Put}
 use Rattle.report.proofs.Tail.{tail-length, put-tail}
-use Rattle.reporting.proofs.Parts.{middle, middle-length, result-parts, result-length}
+use Rattle.reporting.proofs.Parts.{middle-length, result-parts, result-length}
 use Rattle.reporting.proofs.put_ending.Statement.{statement}
 use Rattle.reporting.proofs.put_ending.Tie as tie
 
-room : (s : tie.Start) → length middle + length (resultLine (comparisonResult (s .args .result))) ≤ length (s .args .out .now)
-room s = omega (arith, result-length (comparisonResult (s .args .result)), middle-length, s .pre .1)
-
 put-middle-requires : tie.Need-put-middle-requires
-put-middle-requires c κs = omega (arith, room (c .before .before))
+put-middle-requires c κs = let s = c .before .before in omega (arith, result-length (comparisonResult (s .args .result)), middle-length, s .pre .1)
 
-sub-put-result : tie.Need-sub-put-result
-sub-put-result c = let p = c .before .before in omega (arith, room (p .before .before .before), p .put-middle .ensures .count, p .put-middle .kept .0)
-
-part-put-result-start : tie.Need-part-put-result-start
-part-put-result-start c = let p = c .before .before in omega (arith, room (p .before .before .before), p .put-middle .ensures .count, p .put-middle .kept .0)
-
-part-put-result-end : tie.Need-part-put-result-end
-part-put-result-end c = search needs
-
-put-result-requires : tie.Need-put-result-requires
-put-result-requires c κs =
-    let p = c .before .before .before in
+-- the result's line has room behind the names
+room : (p : tie.After-put-middle) → let r = comparisonResult (p .before .before .before .args .result) in
+    p .put-middle .result + length (resultLine r) ≤ length (p .put-middle .last .0)
+room p =
     let s = p .before .before .before in
-    (s .pre .0, rw (tail-length (p .put-middle .last .0) (p .put-middle .result)) (omega (arith, room s, p .put-middle .ensures .count, p .put-middle .kept .0)))
+    omega (arith, result-length (comparisonResult (s .args .result)), middle-length, s .pre .1, p .put-middle .ensures .count, p .put-middle .kept .0)
+
+sub-put-numbers : tie.Need-sub-put-numbers
+sub-put-numbers c = omega (arith, room (c .before .before .before))
+
+part-put-numbers-start : tie.Need-part-put-numbers-start
+part-put-numbers-start c = omega (arith, room (c .before .before .before))
+
+put-numbers-requires : tie.Need-put-numbers-requires
+unfolding resultLine
+put-numbers-requires c κs =
+    let n = c .before .before in
+    let p = n .before .before .before in
+    rw (n .result-numbers .ensures, tail-length (p .put-middle .last .0) (p .put-middle .result)) (omega (arith, room p))
+
+abbrev middle-of : tie.After-put-numbers → tie.After-put-middle
+middle-of q = q .before .before .before .before .before .before
+
+-- the numbers that are written are those of the result's line
+written : (q : tie.After-put-numbers) → let p = middle-of q in
+    Put (resultLine (comparisonResult (p .before .before .before .args .result)))
+    (take (length (p .put-middle .last .0) - p .put-middle .result) (drop (p .put-middle .result) (p .put-middle .last .0))) (q .put-numbers .last .0)
+    (q .put-numbers .result)
+unfolding resultLine
+written q = rw (q .before .before .before .result-numbers .ensures) at (q .put-numbers .ensures)
 
 add-result : tie.Need-add-result
-add-result c =
-    let q = c .before .before in
-    let p = q .before .before .before .before in
-    omega (arith, room (p .before .before .before), p .put-middle .ensures .count, q .put-result .ensures .count)
-
-same-length : tie.Need-same-length
-same-length c = search needs
+add-result c = let q = c .before .before in omega (arith, room (middle-of q), written q .count)
 
 returns : tie.Need-returns
 returns c =
     let q = c .before .before in
-    let p = q .before .before .before .before in
-    let s = p .before .before .before in
-    rw (result-parts (comparisonResult (s .args .result))) (put-tail (p .put-middle .ensures) (q .put-result .ensures))
+    let p = middle-of q in
+    rw (result-parts (comparisonResult (p .before .before .before .args .result))) (put-tail (p .put-middle .ensures) (written q))
 
 pub put-ending-spec : {M : Type 1} → statement M
 put-ending-spec =
     tie.close
     (tie.spec
     put-middle-requires
-    sub-put-result
-    part-put-result-start
-    part-put-result-end
-    put-result-requires
+    (λ c κs. search needs)
+    sub-put-numbers
+    part-put-numbers-start
+    (λ c. search needs)
+    (λ c. search needs)
+    put-numbers-requires
     add-result
-    same-length
+    (λ c. search needs)
     returns)

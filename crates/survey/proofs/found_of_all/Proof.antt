@@ -1,104 +1,113 @@
--- The invariant: what is kept of the root rows passed, with those that are left, is what is kept of all pairs, and the work areas keep their sizes. The
--- measure is what is left of the root rows.
+-- The invariant: the findings of the root rows passed are kept, and the work areas have their room. The measure is what is left of the root rows.
 use mathlib.Core.Path.{_≡_, refl, sym, _∙_}
 use Prim.Native.Nat.{_-_, _/_, _<_}
 use native.Mathlib.Omega.{arith}
+use borrow.Author.Needs.{needs}
 use lib.ListN.{length}
 use Rattle.model.specs.Limits.{pairWidth}
+use Rattle.model.specs.Compare.{Tables, findings}
 use Rattle.pairing.specs.Pairs.{tablesOf}
-use Rattle.pairs.proofs.Inputs.{root-row-below}
-use Rattle.survey.proofs.Sizes.{WorkSizes, work-same, work-on}
-use Rattle.survey.proofs.Passing.{RowsPassed, rows-start, rows-on}
-use Rattle.survey.proofs.Stopping.{taken-there, passed-up-to}
-use Rattle.survey.proofs.Ready.{rows-ready-on}
-use borrow.Author.Needs.{needs}
+use Rattle.pathlimit.proofs.Inputs.{root-row-below}
+use Rattle.pairs.specs.Found.{Rooms}
+use Rattle.survey.proofs.Passing.{findingsLeft, findings-few, Passed, row-room, row-passed, rows-passed, rows-start, surveyed}
 use Rattle.survey.proofs.found_of_all.Statement.{statement}
 use Rattle.survey.proofs.found_of_all.Tie as tie
 
 abbrev Inv-loop : tie.InvT-loop
-Inv-loop spec-nodes spec-edges impl-nodes impl-edges root-pairs leaf-pairs spec-plan impl-plan spec-state₀ impl-state₀ spare₀ most lines₀ to kept₀ row₀ spec-state impl-state spare lines kept row =
-    RowsPassed (tablesOf spec-nodes spec-edges impl-nodes impl-edges root-pairs leaf-pairs) row₀ to kept lines row
-    × WorkSizes spec-state₀ impl-state₀ spare₀ spec-state impl-state spare × (length lines ≡ length lines₀)
+Inv-loop spec-nodes spec-edges impl-nodes impl-edges root-pairs leaf-pairs spec-plan impl-plan spec-state₀ impl-state₀ spare₀ room lines₀ count kept₀ row₀ spec-state impl-state spare lines kept row =
+    let t = tablesOf spec-nodes spec-edges impl-nodes impl-edges root-pairs leaf-pairs in
+    Passed (findings t) (findingsLeft t row) lines kept × Rooms spec-state impl-state spare × (length lines ≡ length lines₀)
 
 abbrev μ-loop : tie.MeasureT-loop
-μ-loop spec-nodes spec-edges impl-nodes impl-edges root-pairs leaf-pairs spec-plan impl-plan spec-state₀ impl-state₀ spare₀ most lines₀ to kept₀ row₀ spec-state impl-state spare lines kept row = to - row
+μ-loop spec-nodes spec-edges impl-nodes impl-edges root-pairs leaf-pairs spec-plan impl-plan spec-state₀ impl-state₀ spare₀ room lines₀ count kept₀ row₀ spec-state impl-state spare lines kept row = count - row
 
--- where the function begins
+-- where the function begins, and the tables there
 abbrev start : tie.At-loop Inv-loop μ-loop → tie.Start Inv-loop μ-loop
-start l = l .before .before .before .before
+start l = l .before .before .before .before .before
+
+abbrev tables : tie.Start Inv-loop μ-loop → Tables
+tables s =
+    let a = s .args in
+    tablesOf (a .spec-nodes .now) (a .spec-edges .now) (a .impl-nodes .now) (a .impl-edges .now) (a .root-pairs .now) (a .leaf-pairs .now)
 
 -- from the end of a turn back to its root row, and from there to its beginning
-abbrev rowed : tie.After-lines Inv-loop μ-loop → tie.After-found-of-row Inv-loop μ-loop
-rowed c = c .before .before .before .before
+abbrev rowed : tie.After-slice-known2 Inv-loop μ-loop → tie.After-found-of-row Inv-loop μ-loop
+rowed c = c .before .before .before .before .before
 
-abbrev turn : tie.After-found-of-row-arg4 Inv-loop μ-loop → tie.Then1 Inv-loop μ-loop
-turn c = c .before .before .before .before
+abbrev turn : tie.After-found-of-row-arg4 Inv-loop μ-loop → tie.In-loop Inv-loop μ-loop
+turn c = c .before .before .before .before .before .before
 
--- the root row of a turn is taken up
-taken : (c : tie.Then1 Inv-loop μ-loop) → let l = c .before .before in l .loop .row < start l .args .rows .to
-taken c =
-    let g = c .before in
-    let l = g .before in
-    taken-there (l .loop .row) (start l .args .rows .to) (l .loop .kept .count) (start l .args .most) (sym (g .goes-on .ensures) ∙ c .if1 .taken)
-
--- and is there
-there : (c : tie.Then1 Inv-loop μ-loop) → let l = c .before .before in l .loop .row < length (start l .args .root-pairs .now) / pairWidth
-there c = omega (arith, taken c, start (c .before .before) .pre .1 .high)
+-- the root row of a turn is there
+there : (c : tie.In-loop Inv-loop μ-loop) → c .before .loop .row < length (start (c .before) .args .root-pairs .now) / pairWidth
+there c = omega (arith, c .loop-test .taken)
 
 no-pair-requires : tie.Need-no-pair-requires Inv-loop μ-loop
 no-pair-requires c κs = search needs
 
 loop-holds : tie.Need-loop-holds Inv-loop μ-loop
-loop-holds c =
-    let s = c .before .before .before in
-    (rows-start (s .args .lines .now) (s .pre .1) (c .no-pair .ensures), work-same, refl)
+loop-holds c = let s = c .before .before .before .before in (rows-start (tables s) (c .no-pair .ensures), s .pre .1, refl)
 
-goes-on-requires : tie.Need-goes-on-requires Inv-loop μ-loop
-goes-on-requires c κs = search needs
+same-length : tie.Need-same-length Inv-loop μ-loop
+same-length c = let l = c .before .before .before in l .loop .inv .1 .spec ∙ sym (start l .pre .1 .spec)
+
+same-length-2 : tie.Need-same-length-2 Inv-loop μ-loop
+same-length-2 c = let l = c .before .before .before in l .loop .inv .1 .impl ∙ sym (start l .pre .1 .impl)
+
+same-length-3 : tie.Need-same-length-3 Inv-loop μ-loop
+same-length-3 c = let l = c .before .before .before in l .loop .inv .1 .list ∙ sym (start l .pre .1 .list)
+
+same-length-4 : tie.Need-same-length-4 Inv-loop μ-loop
+same-length-4 c = c .before .before .before .loop .inv .2
+
+returns : tie.Need-returns Inv-loop μ-loop
+returns c =
+    let l = c .before .before .before in
+    surveyed (start l .pre .0 .plans .inputs) (l .loop .inv .0) (λ h. absurd (omega (arith, c .if1 .taken)))
 
 found-of-row-requires : tie.Need-found-of-row-requires Inv-loop μ-loop
 found-of-row-requires c κs =
-    let l = turn c .before .before in
-    (rows-ready-on (start l .pre .0) (l .loop .inv .1), there (turn c), l .loop .inv .0 .below)
+    let l = turn c in
+    let s = start (l .before) in
+    let i = l .before .loop .inv in
+    (s .pre .0, i .1, omega (arith, there l), row-room (tables s) (l .before .loop .row) (i .0) (there l) (findings-few (s .pre .0 .plans .inputs)))
 
 add-row : tie.Need-add-row Inv-loop μ-loop
 add-row c =
-    let t = turn (rowed c .before) in
-    let l = t .before .before in
-    omega (arith, root-row-below (start l .pre .0 .inputs) (l .loop .row) (there t))
+    let l = turn (rowed c .before) in
+    omega (arith, root-row-below (start (l .before) .pre .0 .plans .inputs) (l .before .loop .row) (there l))
 
 loop-less : tie.Need-loop-less Inv-loop μ-loop
-loop-less c = omega (arith, taken (turn (rowed c .before)))
+loop-less c = omega (arith, turn (rowed c .before) .loop-test .taken)
 
 loop-again : tie.Need-loop-again Inv-loop μ-loop
 loop-again c =
     let f = rowed c in
-    let t = turn (f .before) in
-    let l = t .before .before in
-    let i = l .loop .inv in
+    let l = turn (f .before) in
+    let s = start (l .before) in
+    let i = l .before .loop .inv in
     let sizes = f .found-of-row .kept .1 .1 .1 .1 .1 .1 .1 .1 in (
-      rows-on (start l .pre .1) (i .0) (taken t) (f .found-of-row .ensures),
-      work-on (i .1) (record { spec = sizes .0; impl = sizes .1 .0; spare = sizes .1 .1 .0 }),
+      row-passed (tables s) (l .before .loop .row) (i .0) (there l) (f .found-of-row .ensures),
+      record { spec = sizes .0 ∙ i .1 .spec; impl = sizes .1 .0 ∙ i .1 .impl; list = sizes .1 .1 .0 ∙ i .1 .list },
       sizes .1 .1 .1 .1 .0 ∙ i .2,
     )
 
-same-length : tie.Need-same-length Inv-loop μ-loop
-same-length c = c .before .before .loop .inv .1 .spec
+same-length-5 : tie.Need-same-length-5 Inv-loop μ-loop
+same-length-5 c = c .before .loop .inv .1 .spec ∙ sym (start (c .before) .pre .1 .spec)
 
-same-length-2 : tie.Need-same-length-2 Inv-loop μ-loop
-same-length-2 c = c .before .before .loop .inv .1 .impl
+same-length-6 : tie.Need-same-length-6 Inv-loop μ-loop
+same-length-6 c = c .before .loop .inv .1 .impl ∙ sym (start (c .before) .pre .1 .impl)
 
-same-length-3 : tie.Need-same-length-3 Inv-loop μ-loop
-same-length-3 c = c .before .before .loop .inv .1 .spare
+same-length-7 : tie.Need-same-length-7 Inv-loop μ-loop
+same-length-7 c = c .before .loop .inv .1 .list ∙ sym (start (c .before) .pre .1 .list)
 
-same-length-4 : tie.Need-same-length-4 Inv-loop μ-loop
-same-length-4 c = c .before .before .loop .inv .2
+same-length-8 : tie.Need-same-length-8 Inv-loop μ-loop
+same-length-8 c = c .before .loop .inv .2
 
-returns : tie.Need-returns Inv-loop μ-loop
-returns c =
-    let l = c .before .before in
+returns-2 : tie.Need-returns-2 Inv-loop μ-loop
+returns-2 c =
+    let l = c .before in
     let s = start l in
-    passed-up-to (s .pre .0 .inputs) (s .pre .1) (l .loop .inv .0) (s .args .most) (sym (c .before .goes-on .ensures) ∙ c .if1 .left)
+    surveyed (s .pre .0 .plans .inputs) (l .loop .inv .0) (λ h. rows-passed (tables s) (l .loop .row) (l .loop .inv .0) (c .loop-test .left))
 
 pub found-of-all-spec : {M : Type 1} → statement M
 found-of-all-spec =
@@ -108,13 +117,17 @@ found-of-all-spec =
     μ-loop
     no-pair-requires
     loop-holds
-    goes-on-requires
-    found-of-row-requires
-    add-row
-    loop-less
-    loop-again
     same-length
     same-length-2
     same-length-3
     same-length-4
-    returns)
+    returns
+    found-of-row-requires
+    add-row
+    loop-less
+    loop-again
+    same-length-5
+    same-length-6
+    same-length-7
+    same-length-8
+    returns-2)

@@ -1,129 +1,108 @@
--- Where neither plan has an edge all pairs of the root row are equal; else both graphs are swept from its roots.
-use Prim.Native.Nat.{_*_, _≤_}
+-- Where neither plan has an edge no pair of the root row has a record; else both graphs are swept from its roots.
+use mathlib.Core.Path.{_≡_, _∙_}
+use Prim.Native.Nat.{_*_}
 use native.Mathlib.Omega.{arith}
+use borrow.Author.Needs.{needs}
 use lib.ListN.{length}
 use Rattle.model.specs.Limits.{maxPaths}
 use Rattle.model.specs.Graph.{graphOf}
 use Rattle.model.specs.Paths.{Root}
-use Rattle.pairing.specs.Pairs.{pairAt}
-use Rattle.pairs.proofs.Inputs.{row-roots, root-row-below}
-use Rattle.totals.proofs.Adding.{at-most-more}
+use Rattle.model.specs.Compare.{Tables}
+use Rattle.pairing.specs.Pairs.{pairAt, tablesOf}
+use Rattle.pathlimit.proofs.Inputs.{row-roots}
+use Rattle.arrivals.specs.State.{rowWidth}
+use Rattle.survey.specs.Survey.{rowFindings}
+use Rattle.survey.proofs.Passing.{row-count}
 use Rattle.survey.proofs.Ready.{spec-sweepable, impl-sweepable, pairs-ready}
-use Rattle.survey.proofs.Unplanned.{unplanned-kept}
-use borrow.Author.Needs.{needs}
+use Rattle.survey.proofs.Unplanned.{row-bare}
 use Rattle.survey.proofs.found_of_row.Statement.{statement}
 use Rattle.survey.proofs.found_of_row.Tie as tie
 
--- where the function begins
+-- where the function begins, and the tables there
 abbrev start : tie.After-passed-count2 → tie.Start
-start c = c .before .before .before .before
+start c = c .before .before .before .before .before
 
--- from the pairs of the row back to the second sweep, from there to the first, and to where the plans have an edge
-abbrev second : tie.After-found-of-pairs-arg4 → tie.After-sweep-root2
-second c = c .before .before .before .before .before .before
+abbrev tables : tie.Start → Tables
+tables s =
+    let a = s .args in
+    tablesOf (a .spec-nodes .now) (a .spec-edges .now) (a .impl-nodes .now) (a .impl-edges .now) (a .root-pairs .now) (a .leaf-pairs .now)
+
+-- from the first sweep back to where the function begins, from the second to the first, and from the pairs of the row to the second
+abbrev planned : tie.After-sweep-root-arg2 → tie.Start
+planned c = start (c .before .before .before .before)
 
 abbrev first : tie.After-sweep-root-arg4 → tie.After-sweep-root
 first c = c .before .before .before .before .before
 
-abbrev planned : tie.After-sweep-root-arg2 → tie.Else1
-planned c = c .before .before .before
+abbrev second : tie.After-found-of-pairs-arg4 → tie.After-sweep-root2
+second c = c .before .before .before .before .before .before
 
 -- the nodes of the root row are roots
 roots : (s : tie.Start) → let a = s .args in let p = pairAt (a .root-pairs .now) (a .root-row) in
     Root (graphOf (a .spec-nodes .now) (a .spec-edges .now)) (p .spec) × Root (graphOf (a .impl-nodes .now) (a .impl-edges .now)) (p .impl)
-roots s = row-roots (s .pre .0 .inputs) (s .args .root-row) (s .pre .1)
+roots s = row-roots (s .pre .0 .plans .inputs) (s .args .root-row) (s .pre .2)
 
-passed-count-requires : tie.Need-passed-count-requires
-passed-count-requires c κs = c .before .before .pre .0 .spec .room
-
-passed-count-requires-2 : tie.Need-passed-count-requires-2
-passed-count-requires-2 c κs = c .before .before .before .pre .0 .impl .room
-
-add-if1 : tie.Need-add-if1
-add-if1 c =
-    let s = start c in
-    omega (arith, c .before .passed-count .ensures, c .passed-count2 .ensures, s .pre .0 .spec .few, s .pre .0 .impl .few)
-
-with-equal-requires : tie.Need-with-equal-requires
-with-equal-requires c κs =
-    let s = start (c .before) in
-    let k = s .pre .0 .inputs in
-    let p = s .pre .2 .most in
-    let few = root-row-below k (s .args .root-row) (s .pre .1) in
-    (record { totals = at-most-more (omega (arith, few)) (p .totals); count = omega (arith, p .count, few) }, omega (arith, k .leafShape .few))
+-- the spare area has its room after the first sweep
+list-room : (c : tie.After-sweep-root) → length (c .sweep-root .last .1 .1 .1 .1 .1 .0) ≡ rowWidth * maxPaths
+list-room c = c .sweep-root .kept .1 .1 .1 .1 .1 .0 ∙ planned (c .before) .pre .1 .list
 
 returns : tie.Need-returns
-returns c =
-    let e = c .before in
-    let p = e .before in
+returns c fs k =
+    let p = c .before .before in
     let s = start p in
-    rw (c .with-equal .ensures)
-    (unplanned-kept (s .pre .0) (s .pre .1) (omega (arith, e .if1 .taken, p .before .passed-count .ensures, p .passed-count2 .ensures)) (s .pre .2))
+    let t = tables s in
+    let i = s .args .root-row in
+    c .with-equal .ensures .kept fs (rowFindings t i) (s .args .lines .now) (row-count t i)
+    (row-bare (s .pre .0) (s .pre .2) (omega (arith, c .before .if1 .taken, p .before .passed-count .ensures, p .passed-count2 .ensures))) k
 
 spec-node-requires : tie.Need-spec-node-requires
-spec-node-requires c κs = let s = start (c .before) in (omega (arith, s .pre .1), roots s .0 .row .low)
+spec-node-requires c κs = let s = start (c .before) in (omega (arith, s .pre .2), roots s .0 .row .low)
 
 sweep-root-requires : tie.Need-sweep-root-requires
 sweep-root-requires c κs =
-    let s = start (planned c .before) in
-    spec-sweepable (s .pre .0) (s .pre .1) (c .before .before .spec-node .ensures)
+    let s = planned c in
+    spec-sweepable (s .pre .0) (s .pre .2) (c .before .before .spec-node .ensures) (s .pre .1 .spec) (s .pre .1 .list)
 
 impl-node-requires : tie.Need-impl-node-requires
-impl-node-requires c κs = let s = start (planned (c .before .before .before) .before) in (omega (arith, s .pre .1), roots s .1 .row .low)
-
--- the spare area has room after the first sweep
-swept-room : (c : tie.After-sweep-root) → 3 * maxPaths ≤ length (c .sweep-root .last .1 .1 .1 .1 .1 .0)
-swept-room c =
-    let s = start (planned (c .before) .before) in
-    omega (arith, s .pre .0 .spareRoom, c .sweep-root .kept .1 .1 .1 .1 .1 .0)
+impl-node-requires c κs = let s = planned (c .before .before .before) in (omega (arith, s .pre .2), roots s .1 .row .low)
 
 sweep-root-requires-2 : tie.Need-sweep-root-requires-2
 sweep-root-requires-2 c κs =
     let f = first c in
-    let s = start (planned (f .before) .before) in
-    impl-sweepable (s .pre .0) (s .pre .1) _ (c .before .before .impl-node .ensures) (swept-room f)
+    let s = planned (f .before) in
+    impl-sweepable (s .pre .0) (s .pre .2) (c .before .before .impl-node .ensures) (s .pre .1 .impl) (list-room f)
 
 found-of-pairs-requires : tie.Need-found-of-pairs-requires
 found-of-pairs-requires c κs =
     let m = second c in
     let f = first (m .before) in
-    let s = start (planned (f .before) .before) in (
-      pairs-ready (s .pre .0) (s .pre .1) (f .before .before .before .spec-node .ensures) (m .before .before .before .impl-node .ensures)
-          (f .sweep-root .ensures) (m .sweep-root2 .ensures) (omega (arith, swept-room f, m .sweep-root2 .kept .1 .1 .1 .1 .1 .0)),
-      s .pre .2,
+    let s = planned (f .before) in
+    let rooms = s .pre .1 in (
+      pairs-ready (s .pre .0) (s .pre .2) (f .before .before .before .spec-node .ensures) (m .before .before .before .impl-node .ensures)
+          (f .sweep-root .ensures) (m .sweep-root2 .ensures) (record {
+            spec = f .sweep-root .kept .1 .1 .1 .1 .0 ∙ rooms .spec;
+            impl = m .sweep-root2 .kept .1 .1 .1 .1 .0 ∙ rooms .impl;
+            list = m .sweep-root2 .kept .1 .1 .1 .1 .1 .0 ∙ list-room f;
+          }),
+      s .pre .3,
     )
-
-same-length : tie.Need-same-length
-same-length c = search needs
-
-same-length-2 : tie.Need-same-length-2
-same-length-2 c = search needs
-
-same-length-3 : tie.Need-same-length-3
-same-length-3 c = search needs
-
-same-length-4 : tie.Need-same-length-4
-same-length-4 c = search needs
-
-returns-2 : tie.Need-returns-2
-returns-2 c = search needs
 
 pub found-of-row-spec : {M : Type 1} → statement M
 found-of-row-spec =
     tie.close
     (tie.spec
-    passed-count-requires
-    passed-count-requires-2
-    add-if1
-    with-equal-requires
+    (λ c κs. search needs)
+    (λ c κs. search needs)
+    (λ c. search needs)
+    (λ c κs. search needs)
     returns
     spec-node-requires
     sweep-root-requires
     impl-node-requires
     sweep-root-requires-2
     found-of-pairs-requires
-    same-length
-    same-length-2
-    same-length-3
-    same-length-4
-    returns-2)
+    (λ c. search needs)
+    (λ c. search needs)
+    (λ c. search needs)
+    (λ c. search needs)
+    (λ c. search needs))

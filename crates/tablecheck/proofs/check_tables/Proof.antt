@@ -1,101 +1,135 @@
--- Lines that do not fit by their number are refused; a refusal of the comparison is that of the check; else the report is written from what the
--- comparison gives.
-use mathlib.Core.Path.{ap}
+-- The tables are refused, or all pairs are surveyed; then the report is too long, by its lines alone or with the rest, or it is written.
+use mathlib.Core.Path.{_≡_, ap}
+use mathlib.Core.Option.{none}
+use Prim.Native.Nat.{ℕ}
 use native.Mathlib.Omega.{arith}
 use borrow.Author.Needs.{needs}
-use Rattle.model.specs.Compare.{Tables}
-use Rattle.model.specs.Answers.{comparedAnswer}
+use lib.ListN.{length, length-replicate}
+use Rattle.model.specs.Compare.{Tables, findings}
+use Rattle.model.specs.Checks.{checkTables}
+use Rattle.model.specs.Answers.{comparisonResult}
 use Rattle.pairing.specs.Pairs.{tablesOf}
-use Rattle.compare.specs.Promises.{ComparePromise}
-use Rattle.tablecheck.proofs.Lengths.{report-least}
-use Rattle.tablecheck.proofs.Outcomes.{outcome-long, outcome-refused, outcome-taken, outcome-result, outcome-written}
+use Rattle.prepare.proofs.Checks.{prepared-none, prepared-some}
+use Rattle.reporting.specs.Lines.{SmallResult}
+use Rattle.reporting.proofs.Parts.{fixed-short}
+use Rattle.totals.specs.Kept.{KeptOf}
+use Rattle.totals.proofs.Keeping.{kept-small}
+use Rattle.survey.proofs.Passing.{findings-few}
+use Rattle.tablecheck.proofs.Outcomes.{lines-short, kept-report, kept-length, outcome-refused, outcome-long, outcome-written}
 use Rattle.tablecheck.proofs.check_tables.Statement.{statement}
 use Rattle.tablecheck.proofs.check_tables.Tie as tie
 
+-- the tables
 abbrev tables : tie.Start → Tables
 tables s =
-    tablesOf (s .args .spec-nodes .now) (s .args .spec-edges .now) (s .args .impl-nodes .now) (s .args .impl-edges .now) (s .args .root-pairs .now)
-    (s .args .leaf-pairs .now)
+    let a = s .args in
+    tablesOf (a .spec-nodes .now) (a .spec-edges .now) (a .impl-nodes .now) (a .impl-edges .now) (a .root-pairs .now) (a .leaf-pairs .now)
 
--- the comparison, of which few enough rows are counted, as it is known before and after the report is written
-abbrev few-of : tie.After-table-report-arg → tie.Else1
-few-of a = a .before .before .before .before .before
+-- the checks of the tables, from the survey, and the entry of the function
+abbrev told : tie.After-survey → tie.After-enum-told
+told v = v .before .before .before .before
 
-abbrev compared-of : tie.Else1 → tie.After-compare-lines
-compared-of e = e .before .before .before
+abbrev start : tie.After-enum-told → tie.Start
+start k = k .before .before .before .before .before .before .before .before
 
-abbrev start : tie.After-compare-lines → tie.Start
-start k = k .before .before .before
+-- the tables are taken
+taken : (k : tie.After-enum-told) → checkTables (tables (start k)) ≡ none
+taken k = prepared-none (k .before .before .before .before .prepare .ensures) (k .enum-told .given .1)
 
--- what it promises
-promise : (e : tie.Else1) → let k = compared-of e in ComparePromise (tables (start k)) (k .compare-lines .result .compared)
-promise e = compared-of e .compare-lines .ensures .compared (e .if1 .left)
+-- what is kept of all pairs, where their lines fit
+kept : (e : tie.Else1)
+    → let v = e .before .before .before in KeptOf (findings (tables (start (told v)))) (v .survey .last .1 .1 .1 .1 .1 .1 .1 .1 .1 .0) (v .survey .result)
+kept e = e .before .before .before .survey .ensures .within (omega (arith, e .if1 .left))
 
-slice-aggregate-compare-lines : tie.Need-slice-aggregate-compare-lines
-slice-aggregate-compare-lines c = search needs
-
-compare-lines-requires : tie.Need-compare-lines-requires
-compare-lines-requires c κs = search needs
+-- their full result is small
+small : (e : tie.Else1) → SmallResult (comparisonResult (e .before .before .before .survey .result .result))
+small e =
+    let k = told (e .before .before .before) in
+    kept-small (kept e) (findings-few (k .before .before .before .before .prepare .ensures .ready (k .enum-told .given .1) .plans .inputs))
 
 returns : tie.Need-returns
-returns c = let k = c .before .before .before in
-    let t = tables (start k) in
-    let p = k .compare-lines .ensures in
-    let taken = p .taken (c .if1 .taken) in
-    outcome-long t taken (start k .args .report .now) (omega (arith, p .past (c .if1 .taken), report-least t taken))
+returns c =
+    let p = c .before .before .before .before .before in
+    let s = p .before .before .before .before in
+    outcome-refused (tables s) (s .args .report .now) (prepared-some (p .prepare .ensures) (c .before .c .given .1))
 
-enum-known-compared : tie.Need-enum-known-compared
-enum-known-compared c = search needs
-
-enum-known-compared-2 : tie.Need-enum-known-compared-2
-enum-known-compared-2 c = search needs
-
-slice-aggregate-table-report : tie.Need-slice-aggregate-table-report
-slice-aggregate-table-report c = search needs
-
-table-report-requires : tie.Need-table-report-requires
-table-report-requires c κs = let few = few-of c in
-    let k = compared-of few in
-    let e = c .before .before .before .compared2 .given .1 in
-    let t = tables (start k) in (
-      record {
-        taken = outcome-taken t (promise few) e;
-        room = omega (arith, k .compare-lines .kept .1 .1 .1 .1 .1 .1 .1 .0);
-      },
-      outcome-result t (promise few) e,
-      k .compare-lines .ensures .lined (few .if1 .left) .held _ (ap comparedAnswer e),
-    )
-
-outcome-of-requires : tie.Need-outcome-of-requires
-outcome-of-requires c κs = search needs
+survey-requires : tie.Need-survey-requires
+survey-requires c κs = let k = c .before .before .before in k .before .before .before .before .prepare .ensures .ready (k .enum-told .given .1)
 
 returns-2 : tie.Need-returns-2
-returns-2 c = let few = c .before .before .before in
-    let s = start (compared-of few) in
-    outcome-refused (tables s) (promise few) (c .before .compared .given .1) (s .args .report .now)
+returns-2 c =
+    let v = c .before .before .before in
+    let k = told v in
+    let t = tables (start k) in
+    outcome-long t (start k .args .report .now) (taken k) (omega (arith, v .survey .ensures .past (c .if1 .taken), lines-short (findings t)))
 
-same-length : tie.Need-same-length
-same-length c = search needs
+fixed-length-requires : tie.Need-fixed-length-requires
+fixed-length-requires c κs = small (c .before)
+
+add-length : tie.Need-add-length
+add-length c =
+    let e = c .before .before .before in
+    let v = e .before .before .before in
+    omega (arith, c .before .fixed-length .ensures, fixed-short (comparisonResult (v .survey .result .result)), v .survey .ensures .fits)
 
 returns-3 : tie.Need-returns-3
-returns-3 c = let p = c .before .before .before .before in
-    let few = few-of (p .before) in
-    let e = p .before .before .before .before .compared2 .given .1 in
-    outcome-written (tables (start (compared-of few))) (promise few) e (p .table-report .result) (c .outcome-of .result) (p .table-report .ensures .0)
-    (p .table-report .ensures .1) (c .outcome-of .ensures)
+returns-3 c =
+    let f = c .before .before in
+    let e = f .before .before in
+    let k = told (e .before .before .before) in
+    outcome-long (tables (start k)) (start k .args .report .now) (taken k) (omega (arith, f .fixed-length .ensures, kept-length (kept e), c .if2 .taken))
+
+put-report-requires : tie.Need-put-report-requires
+put-report-requires c κs =
+    let b = c .before .before .before .before in
+    let f = b .before .before in
+    let e = f .before .before in
+    let v = e .before .before .before in
+    let k = told v in (
+      record {
+        ready = k .before .before .before .before .prepare .ensures .ready (k .enum-told .given .1);
+        held = kept e .held;
+        room = omega (arith, v .survey .kept .1 .1 .1 .1 .1 .1 .1 .1 .1 .0, length-replicate {A = ℕ} 6554 0);
+      },
+      small e,
+      omega (arith, ap length (kept-report (kept e)), kept-length (kept e), f .fixed-length .ensures, b .if2 .left),
+    )
+
+returns-4 : tie.Need-returns-4
+returns-4 c =
+    let p = c .before .before .before in
+    let b = p .before .before .before .before .before in
+    let f = b .before .before in
+    let e = f .before .before in
+    let v = e .before .before .before in
+    let k = told v in
+    let t = tables (start k) in
+    let whole = kept-length (kept e) in
+    outcome-written t (start k .args .report .now) (taken k) (v .survey .result .result)
+    (rw (kept-report (kept e)) at (p .put-report .ensures))
+    (omega (arith, whole, f .fixed-length .ensures, b .if2 .left)) (omega (arith, whole, f .fixed-length .ensures)) (kept e .result)
 
 pub check-tables-spec : {M : Type 1} → statement M
 check-tables-spec =
     tie.close
     (tie.spec
-    slice-aggregate-compare-lines
-    compare-lines-requires
+    (λ c. search needs)
+    (λ c. search needs)
+    (λ c κs. search needs)
+    (λ c. search needs)
     returns
-    enum-known-compared
-    enum-known-compared-2
-    slice-aggregate-table-report
-    table-report-requires
-    outcome-of-requires
+    (λ c. search needs)
+    (λ c. search needs)
+    (λ c. search needs)
+    (λ c. search needs)
+    survey-requires
     returns-2
-    same-length
-    returns-3)
+    fixed-length-requires
+    add-length
+    returns-3
+    (λ c. search needs)
+    (λ c. search needs)
+    (λ c. search needs)
+    put-report-requires
+    (λ c. search needs)
+    returns-4)

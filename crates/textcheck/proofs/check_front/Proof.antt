@@ -23,15 +23,6 @@ slice-aggregate-check-tables-5 c = let s = c .before .before .before .before .be
 slice-aggregate-check-tables-6 : tie.Need-slice-aggregate-check-tables-6
 slice-aggregate-check-tables-6 c = let s = c .before .before .before .before .before .before .before in sym (length-take-le (s .args .sizes .«leaf_pairs») (s .args .leaf-pairs .now) (s .pre .leafPairs))
 
-check-tables-requires : tie.Need-check-tables-requires
-check-tables-requires c κs = search needs
-
-same-length : tie.Need-same-length
-same-length c = search needs
-
-returns : tie.Need-returns
-returns c = search needs
-
 pub check-front-spec : {M : Type 1} → statement M
 check-front-spec =
     tie.close
@@ -42,6 +33,6 @@ check-front-spec =
     slice-aggregate-check-tables-4
     slice-aggregate-check-tables-5
     slice-aggregate-check-tables-6
-    check-tables-requires
-    same-length
-    returns)
+    (λ c κs. search needs)
+    (λ c. search needs)
+    (λ c. search needs))

@@ -11,51 +11,6 @@ start k = k .before .before .before .before .before .before .before .before .bef
 abbrev read-of : tie.After-check-front-arg → tie.After-read-map
 read-of a = a .before .before .before .before .before .before .before .before .before .before .before .before .before .before .before .before
 
-slice-aggregate-read-map : tie.Need-slice-aggregate-read-map
-slice-aggregate-read-map c = search needs
-
-slice-aggregate-read-map-2 : tie.Need-slice-aggregate-read-map-2
-slice-aggregate-read-map-2 c = search needs
-
-slice-aggregate-read-map-3 : tie.Need-slice-aggregate-read-map-3
-slice-aggregate-read-map-3 c = search needs
-
-slice-aggregate-read-map-4 : tie.Need-slice-aggregate-read-map-4
-slice-aggregate-read-map-4 c = search needs
-
-slice-aggregate-read-map-5 : tie.Need-slice-aggregate-read-map-5
-slice-aggregate-read-map-5 c = search needs
-
-slice-aggregate-read-map-6 : tie.Need-slice-aggregate-read-map-6
-slice-aggregate-read-map-6 c = search needs
-
-read-map-requires : tie.Need-read-map-requires
-read-map-requires c κs = search needs
-
-enum-known-read : tie.Need-enum-known-read
-enum-known-read c = search needs
-
-enum-known-read-2 : tie.Need-enum-known-read-2
-enum-known-read-2 c = search needs
-
-slice-aggregate-check-front : tie.Need-slice-aggregate-check-front
-slice-aggregate-check-front c = search needs
-
-slice-aggregate-check-front-2 : tie.Need-slice-aggregate-check-front-2
-slice-aggregate-check-front-2 c = search needs
-
-slice-aggregate-check-front-3 : tie.Need-slice-aggregate-check-front-3
-slice-aggregate-check-front-3 c = search needs
-
-slice-aggregate-check-front-4 : tie.Need-slice-aggregate-check-front-4
-slice-aggregate-check-front-4 c = search needs
-
-slice-aggregate-check-front-5 : tie.Need-slice-aggregate-check-front-5
-slice-aggregate-check-front-5 c = search needs
-
-slice-aggregate-check-front-6 : tie.Need-slice-aggregate-check-front-6
-slice-aggregate-check-front-6 c = search needs
-
 check-front-requires : tie.Need-check-front-requires
 check-front-requires c κs = let k = read-of c in read-within (given-tables (start k .args .text .now) _ _ (k .read-map .result) (k .read-map .ensures) (c .before .before .before .before .before .before .before .before .read2 .given .1))
 
@@ -63,9 +18,6 @@ returns : tie.Need-returns
 returns c = let k = c .before .before .before .before .before .before .before .before .before in
     let s = start k in
     read-refused (s .args .text .now) (s .args .report .now) (rw (c .before .read .given .1) at (k .read-map .ensures))
-
-same-length : tie.Need-same-length
-same-length c = search needs
 
 returns-2 : tie.Need-returns-2
 returns-2 c = let f = c .before .before in
@@ -77,22 +29,22 @@ pub check-map-spec : {M : Type 1} → statement M
 check-map-spec =
     tie.close
     (tie.spec
-    slice-aggregate-read-map
-    slice-aggregate-read-map-2
-    slice-aggregate-read-map-3
-    slice-aggregate-read-map-4
-    slice-aggregate-read-map-5
-    slice-aggregate-read-map-6
-    read-map-requires
-    enum-known-read
-    enum-known-read-2
-    slice-aggregate-check-front
-    slice-aggregate-check-front-2
-    slice-aggregate-check-front-3
-    slice-aggregate-check-front-4
-    slice-aggregate-check-front-5
-    slice-aggregate-check-front-6
+    (λ c. search needs)
+    (λ c. search needs)
+    (λ c. search needs)
+    (λ c. search needs)
+    (λ c. search needs)
+    (λ c. search needs)
+    (λ c κs. search needs)
+    (λ c. search needs)
+    (λ c. search needs)
+    (λ c. search needs)
+    (λ c. search needs)
+    (λ c. search needs)
+    (λ c. search needs)
+    (λ c. search needs)
+    (λ c. search needs)
     check-front-requires
     returns
-    same-length
+    (λ c. search needs)
     returns-2)

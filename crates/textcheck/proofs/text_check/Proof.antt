@@ -7,15 +7,6 @@ use Rattle.textcheck.proofs.Promises.{text-promise}
 use Rattle.textcheck.proofs.text_check.Statement.{statement}
 use Rattle.textcheck.proofs.text_check.Tie as tie
 
-check-map-requires : tie.Need-check-map-requires
-check-map-requires c κs = search needs
-
-written-of-requires : tie.Need-written-of-requires
-written-of-requires c κs = search needs
-
-same-length : tie.Need-same-length
-same-length c = search needs
-
 returns : tie.Need-returns
 returns c = let k = c .before .before .before in
     let s = k .before .before .before .before in
@@ -23,4 +14,4 @@ returns c = let k = c .before .before .before in
     text-promise asItIs text (s .args .report .now) (c .written-of .ensures ∙ given-length text (k .check-map .ensures)) (given-buffer text (k .check-map .ensures))
 
 pub text-check-spec : {M : Type 1} → statement M
-text-check-spec = tie.close (tie.spec check-map-requires written-of-requires same-length returns)
+text-check-spec = tie.close (tie.spec (λ c κs. search needs) (λ c κs. search needs) (λ c. search needs) returns)

@@ -5,12 +5,6 @@ use Rattle.textcheck.specs.Lengths.{lengthAlone}
 use Rattle.textcheck.proofs.written_of.Statement.{statement}
 use Rattle.textcheck.proofs.written_of.Tie as tie
 
-enum-known-outcome : tie.Need-enum-known-outcome
-enum-known-outcome c = search needs
-
-enum-known-outcome-2 : tie.Need-enum-known-outcome-2
-enum-known-outcome-2 c = search needs
-
 returns : tie.Need-returns
 unfolding lengthAlone
 returns c = rw (c .before .outcome .given .1) refl
@@ -20,4 +14,4 @@ unfolding lengthAlone
 returns-2 c = rw (c .before .outcome2 .given .1) refl
 
 pub written-of-spec : {M : Type 1} → statement M
-written-of-spec = tie.close (tie.spec enum-known-outcome enum-known-outcome-2 returns returns-2)
+written-of-spec = tie.close (tie.spec (λ c. search needs) (λ c. search needs) returns returns-2)

@@ -1,0 +1,25 @@
+-- The work areas are new, and have their room.
+use lib.IntN.{ℤ, pos}
+use lib.ListN.{length-replicate}
+use borrow.Author.Needs.{needs}
+use Rattle.arrivals.specs.State.{stateRoom}
+use Rattle.survey.proofs.put_all.Statement.{statement}
+use Rattle.survey.proofs.put_all.Tie as tie
+
+put-rows-requires : tie.Need-put-rows-requires
+put-rows-requires c κs =
+    let s = c .before .before .before .before .before .before .before .before .before in
+    let state = length-replicate {A = ℤ} stateRoom (pos 0) in
+    (s .pre .0, record { spec = state; impl = state; list = search needs }, s .pre .1, s .pre .2)
+
+pub put-all-spec : {M : Type 1} → statement M
+put-all-spec =
+    tie.close
+    (tie.spec
+    (λ c. search needs)
+    (λ c. search needs)
+    (λ c. search needs)
+    put-rows-requires
+    (λ c. search needs)
+    (λ c. search needs)
+    (λ c. search needs))

@@ -1,0 +1,177 @@
+-- The invariant: the lines of the root rows passed are written, and the work areas have their room. The measure is what is left of the root rows.
+use mathlib.Core.Path.{_≡_, refl, sym, _∙_}
+use mathlib.Core.List.{[]}
+use Prim.Native.Nat.{_+_, _-_, _/_, _≤_, _<_}
+use native.Mathlib.Omega.{arith}
+use borrow.Author.Needs.{needs}
+use lib.ListN.{length, take}
+use Rattle.model.specs.Limits.{pairWidth, maxPairs}
+use Rattle.model.specs.Compare.{Tables}
+use Rattle.report.proofs.Tail.{tail-length}
+use Rattle.reporting.specs.Lines.{linesOf}
+use Rattle.pairing.specs.Pairs.{tablesOf}
+use Rattle.pathlimit.proofs.Inputs.{root-row-below}
+use Rattle.pairs.specs.Found.{Rooms}
+use Rattle.totals.specs.Kept.{KeptOf}
+use Rattle.survey.specs.Survey.{rowFindings}
+use Rattle.survey.proofs.Putting.{Putting, putting-start, putting-length, putting-end, row-held, row-fits, putting-on}
+use Rattle.survey.proofs.put_rows.Statement.{statement}
+use Rattle.survey.proofs.put_rows.Tie as tie
+
+abbrev Inv-loop : tie.InvT-loop
+Inv-loop spec-nodes spec-edges impl-nodes impl-edges root-pairs leaf-pairs spec-plan impl-plan spec-state₀ impl-state₀ spare₀ lines₀ out₀ count at₀ written₀ spec-state impl-state spare lines out at written =
+    Putting (tablesOf spec-nodes spec-edges impl-nodes impl-edges root-pairs leaf-pairs) written out₀ out at
+    × Rooms spec-state impl-state spare × (length lines ≡ length lines₀)
+
+abbrev μ-loop : tie.MeasureT-loop
+μ-loop spec-nodes spec-edges impl-nodes impl-edges root-pairs leaf-pairs spec-plan impl-plan spec-state₀ impl-state₀ spare₀ lines₀ out₀ count at₀ written₀ spec-state impl-state spare lines out at written = count - written
+
+-- where the function begins, and the tables there
+abbrev start : tie.At-loop Inv-loop μ-loop → tie.Start Inv-loop μ-loop
+start l = l .before .before .before .before .before
+
+abbrev tables : tie.Start Inv-loop μ-loop → Tables
+tables s =
+    let a = s .args in
+    tablesOf (a .spec-nodes .now) (a .spec-edges .now) (a .impl-nodes .now) (a .impl-edges .now) (a .root-pairs .now) (a .leaf-pairs .now)
+
+-- from a root row back to the beginning of its turn, from where its lines are written to the row, and from the end of the turn to there
+abbrev turn : tie.After-no-pair Inv-loop μ-loop → tie.In-loop Inv-loop μ-loop
+turn c = c .before .before .before .before .before
+
+abbrev rowed : tie.After-slice-known3 Inv-loop μ-loop → tie.After-found-of-row Inv-loop μ-loop
+rowed c = c .before .before .before .before .before
+
+abbrev linesPut : tie.After-slice-known4 Inv-loop μ-loop → tie.After-put-lines Inv-loop μ-loop
+linesPut c = c .before .before
+
+-- the root row of a turn is there
+there : (c : tie.In-loop Inv-loop μ-loop) → c .before .loop .written < length (start (c .before) .args .root-pairs .now) / pairWidth
+there c = omega (arith, c .loop-test .taken)
+
+-- its findings are kept
+kept : (f : tie.After-found-of-row Inv-loop μ-loop) → let l = turn (f .before) .before in
+    KeptOf (rowFindings (tables (start l)) (l .loop .written)) (f .found-of-row .last .1 .1 .1 .1 .1 .1 .1 .1 .1 .1 .1 .1 .0) (f .found-of-row .result)
+kept f = f .found-of-row .ensures [] (f .before .no-pair .ensures _)
+
+-- there is room for their lines in the table
+enough : (f : tie.After-found-of-row Inv-loop μ-loop) → maxPairs ≤ length (f .found-of-row .last .1 .1 .1 .1 .1 .1 .1 .1 .1 .1 .1 .1 .0)
+enough f =
+    let l = turn (f .before) .before in
+    omega (arith, f .found-of-row .kept .1 .1 .1 .1 .1 .1 .1 .1 .1 .1 .1 .1 .0, l .loop .inv .2, start l .pre .2)
+
+-- and in the buffer, which keeps its length
+fits : (f : tie.After-found-of-row Inv-loop μ-loop) → let l = turn (f .before) .before in
+    l .loop .at + length (linesOf (take (f .found-of-row .result .count) (f .found-of-row .last .1 .1 .1 .1 .1 .1 .1 .1 .1 .1 .1 .1 .0)))
+    ≤ length (start l .args .out .now)
+fits f =
+    let t = turn (f .before) in
+    let l = t .before in
+    let s = start l in
+    row-fits (tables s) (l .loop .written) (l .loop .inv .0) (s .pre .0 .plans .inputs) (there t) (kept f) (enough f) (s .pre .3)
+
+long : (l : tie.At-loop Inv-loop μ-loop) → length (l .loop .out) ≡ length (start l .args .out .now)
+long l = let s = start l in putting-length (tables s) (l .loop .written) (l .loop .inv .0) (s .pre .3)
+
+loop-holds : tie.Need-loop-holds Inv-loop μ-loop
+loop-holds c = let s = c .before .before .before .before in (putting-start (tables s) (s .args .out .now), s .pre .1, refl)
+
+no-pair-requires : tie.Need-no-pair-requires Inv-loop μ-loop
+no-pair-requires c κs = search needs
+
+found-of-row-requires : tie.Need-found-of-row-requires Inv-loop μ-loop
+found-of-row-requires c κs =
+    let l = turn c in
+    let s = start (l .before) in
+    let few = s .pre .0 .plans .inputs .leafShape .few in
+    (s .pre .0, l .before .loop .inv .1, there l, record { fs = []; kept = c .no-pair .ensures _; few = omega arith })
+
+sub-put-lines : tie.Need-sub-put-lines Inv-loop μ-loop
+sub-put-lines c = let f = rowed c in omega (arith, fits f, long (turn (f .before) .before))
+
+part-put-lines-start : tie.Need-part-put-lines-start Inv-loop μ-loop
+part-put-lines-start c = let f = rowed c in omega (arith, fits f, long (turn (f .before) .before))
+
+part-put-lines-end : tie.Need-part-put-lines-end Inv-loop μ-loop
+part-put-lines-end c = search needs
+
+put-lines-requires : tie.Need-put-lines-requires Inv-loop μ-loop
+put-lines-requires c κs =
+    let f = rowed (c .before .before) in
+    let l = turn (f .before) .before in
+    let s = start l in (
+      row-held (tables s) (l .loop .written) (l .loop .inv .0) (s .pre .0 .plans .inputs) (there (turn (f .before))) (kept f) (enough f),
+      rw (tail-length (l .loop .out) (l .loop .at)) (omega (arith, fits f, long l)),
+    )
+
+add-at : tie.Need-add-at Inv-loop μ-loop
+add-at c =
+    let w = linesPut c in
+    let f = rowed (w .before .before .before) in
+    omega (arith, w .put-lines .ensures .count, fits f, start (turn (f .before) .before) .good .1 .1 .1 .1 .1 .1 .1 .1 .1 .1 .1 .1 .0 .0)
+
+add-written : tie.Need-add-written Inv-loop μ-loop
+add-written c =
+    let t = turn (rowed (linesPut c .before .before .before) .before) in
+    omega (arith, root-row-below (start (t .before) .pre .0 .plans .inputs) (t .before .loop .written) (there t))
+
+loop-less : tie.Need-loop-less Inv-loop μ-loop
+loop-less c = omega (arith, turn (rowed (linesPut c .before .before .before) .before) .loop-test .taken)
+
+loop-again : tie.Need-loop-again Inv-loop μ-loop
+loop-again c =
+    let w = linesPut c in
+    let f = rowed (w .before .before .before) in
+    let t = turn (f .before) in
+    let l = t .before in
+    let s = start l in
+    let i = l .loop .inv in
+    let sizes = f .found-of-row .kept .1 .1 .1 .1 .1 .1 .1 .1 in (
+      putting-on (tables s) (l .loop .written) (i .0) (s .pre .0 .plans .inputs) (there t) (kept f) (enough f) (w .put-lines .ensures),
+      record { spec = sizes .0 ∙ i .1 .spec; impl = sizes .1 .0 ∙ i .1 .impl; list = sizes .1 .1 .0 ∙ i .1 .list },
+      sizes .1 .1 .1 .1 .0 ∙ i .2,
+    )
+
+same-length : tie.Need-same-length Inv-loop μ-loop
+same-length c = c .before .loop .inv .1 .spec ∙ sym (start (c .before) .pre .1 .spec)
+
+same-length-2 : tie.Need-same-length-2 Inv-loop μ-loop
+same-length-2 c = c .before .loop .inv .1 .impl ∙ sym (start (c .before) .pre .1 .impl)
+
+same-length-3 : tie.Need-same-length-3 Inv-loop μ-loop
+same-length-3 c = c .before .loop .inv .1 .list ∙ sym (start (c .before) .pre .1 .list)
+
+same-length-4 : tie.Need-same-length-4 Inv-loop μ-loop
+same-length-4 c = c .before .loop .inv .2
+
+same-length-5 : tie.Need-same-length-5 Inv-loop μ-loop
+same-length-5 c = long (c .before)
+
+returns : tie.Need-returns Inv-loop μ-loop
+returns c =
+    let l = c .before in
+    putting-end (tables (start l)) (l .loop .written) (l .loop .inv .0) (c .loop-test .left)
+
+pub put-rows-spec : {M : Type 1} → statement M
+put-rows-spec =
+    tie.close
+    (tie.spec
+    Inv-loop
+    μ-loop
+    loop-holds
+    no-pair-requires
+    found-of-row-requires
+    sub-put-lines
+    part-put-lines-start
+    part-put-lines-end
+    put-lines-requires
+    add-at
+    add-written
+    loop-less
+    loop-again
+    same-length
+    same-length-2
+    same-length-3
+    same-length-4
+    same-length-5
+    returns)

@@ -13,7 +13,7 @@ use Rattle.model.specs.Limits.{maxNodes, maxEdges, maxPairs}
 use Rattle.model.specs.Bytes.{Bytes}
 use Rattle.model.specs.MapFile.{Table, nodeTable, edgeTable, pairTable, lines}
 use Rattle.model.specs.Refusals.{Refusal}
-use Rattle.model.specs.Calls.{Answer, refused, full, answer}
+use Rattle.model.specs.Calls.{refused, full, answer}
 use Rattle.model.specs.Answers.{numbered}
 use Rattle.model.specs.Reader.{fieldsOf, columns, Reading, stopped, rows, stop, readValues, readTable, checkText, tablesOf, readThird, readSecond, readFirst, readMap}
 use Rattle.characters.proofs.Text.{checked}

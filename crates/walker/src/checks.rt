@@ -1,29 +1,28 @@
 // The calls under test, each held against what the walk by single addresses says.
-use crate::numbers::at;
-use crate::numbers::cell;
-use crate::numbers::draw;
-use crate::numbers::less;
-use crate::numbers::number;
-use crate::numbers::part;
-use crate::numbers::put;
-use crate::numbers::quotient;
-use crate::numbers::rest;
-use crate::numbers::size;
-use crate::numbers::sum;
 use crate::records;
 use crate::records::first_difference;
 use crate::records::record;
 use crate::records::same;
-use crate::rows;
-use crate::rows::place;
 use crate::tally;
 use crate::verdicts;
 use crate::walks;
+use generator::numbers::at;
+use generator::numbers::draw;
+use generator::numbers::less;
+use generator::numbers::number;
+use generator::numbers::part;
+use generator::numbers::put;
+use generator::numbers::quotient;
+use generator::numbers::rest;
+use generator::numbers::size;
+use generator::numbers::sum;
+use generator::rows;
+use generator::rows::place;
 use model::Checked;
 use model::Compared;
 use model::Comparison;
-use model::Verdict;
 use model::Written;
+use model::verdict_number;
 
 // Addresses walked of each list, and those of them that lie outside every root.
 const ADDRESSES: usize = 10;
@@ -504,14 +503,6 @@ fn try_pairs(
             counts,
             seed,
         );
-    }
-}
-
-fn verdict_number(verdict: Verdict) -> usize {
-    match verdict {
-        Verdict::Equal => verdicts::EQUAL,
-        Verdict::Partial => verdicts::PARTIAL,
-        Verdict::Different => verdicts::DIFFERENT,
     }
 }
 

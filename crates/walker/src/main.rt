@@ -1,21 +1,19 @@
 // Maps by a seeded generator, small enough to walk bit by bit: every list, walk, verdict, count, first pair and address of the calls under test
 // is held against a walk that knows only single bit addresses. Prints what was tried, and the differences found.
 mod checks;
-mod derive;
-mod maps;
-mod numbers;
-mod orders;
 mod records;
-mod rows;
 mod tally;
 mod verdicts;
 mod walks;
 
-use maps::Shape;
-use numbers::draw;
-use numbers::front;
-use numbers::sum;
-use numbers::times;
+use generator::maps;
+use generator::maps::Shape;
+use generator::numbers::draw;
+use generator::numbers::front;
+use generator::numbers::sum;
+use generator::numbers::times;
+use generator::orders;
+use generator::rows;
 
 // Maps tried.
 const MAPS: usize = 5000;
@@ -171,9 +169,9 @@ fn change_more(
     if draw(seed, SECOND) > 0 {
         return shape;
     }
-    let habit = draw(seed, derive::CROSSWISE);
+    let habit = draw(seed, habits::CROSSWISE);
     tally::count(counts, sum(tally::HABITS, habit));
-    derive::change(nodes, edges, shape, habit, seed)
+    habits::change(nodes, edges, shape, habit, seed)
 }
 
 // Changes a plain map by a habit, and sometimes by a second one.
@@ -187,7 +185,7 @@ fn change_map(
 ) -> Shape {
     tally::count(counts, sum(tally::HABITS, habit));
     let often = sum(2, draw(seed, MORE_OFTEN));
-    let changed = derive::change_often(nodes, edges, shape, habit, often, seed);
+    let changed = habits::change_often(nodes, edges, shape, habit, often, seed);
     change_more(nodes, edges, changed, counts, seed)
 }
 
@@ -280,7 +278,7 @@ fn try_spec(
     let mut impl_nodes = [0i64; NODE_NUMBERS];
     let mut impl_edges = [0i64; EDGE_NUMBERS];
     let mut order = [0usize; rows::MAX_NODES];
-    let habit = derive::draw_habit(seed);
+    let habit = habits::draw_habit(seed);
     let changed = make_impl(
         nodes,
         edges,
@@ -300,7 +298,7 @@ fn try_spec(
         spec_order,
         &order,
         shape,
-        derive::turn_of(habit),
+        habits::turn_of(habit),
         map,
         counts,
         seed,

@@ -1,17 +1,18 @@
 // The records of a reached set, bit by bit. A record row here is first, last and first leaf bit.
-use crate::numbers::at;
-use crate::numbers::cell;
-use crate::numbers::difference;
-use crate::numbers::less;
-use crate::numbers::number;
-use crate::numbers::put;
-use crate::numbers::size;
-use crate::numbers::store;
-use crate::numbers::sum;
-use crate::rows::place;
 use crate::walks::NO_BIT;
 use crate::walks::REACHED;
+use crate::walks::ROOT_BITS;
 use crate::walks::SLOTS;
+use generator::numbers::at;
+use generator::numbers::cell;
+use generator::numbers::difference;
+use generator::numbers::less;
+use generator::numbers::number;
+use generator::numbers::put;
+use generator::numbers::size;
+use generator::numbers::store;
+use generator::numbers::sum;
+use generator::rows::place;
 
 // Records of a list at most, and the numbers of them.
 pub(crate) const MAX_RECORDS: usize = 128;
@@ -78,7 +79,7 @@ fn add_bit(records: &mut [usize], count: usize, root_bit: usize, leaf_bit: usize
 // Adds what slot t holds, if anything. Of one root bit the highest leaf bit comes first: its displacement is the lowest.
 fn add_slot(reached: &[i64], t: usize, records: &mut [usize], count: usize) -> usize {
     let root_bit = t / SLOTS;
-    if root_bit > REACHED {
+    if root_bit >= ROOT_BITS {
         return count;
     }
     let bit = at(reached, root_bit * SLOTS + (SLOTS - 1 - t % SLOTS));

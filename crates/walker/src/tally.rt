@@ -1,7 +1,7 @@
 // What was tried, counted by kind, and printed line by line.
-use crate::numbers::cell;
-use crate::numbers::store;
-use crate::numbers::sum;
+use generator::numbers::cell;
+use generator::numbers::store;
+use generator::numbers::sum;
 
 // What is counted, in the order in which it is printed.
 pub(crate) const MAPS: usize = 0;

@@ -1,11 +1,11 @@
 // The verdict on a pair, by what each side reaches: root bits with their leaf bits, and no records.
-use crate::numbers::at;
-use crate::numbers::sum;
 use crate::records::same;
 use crate::walks::NO_BIT;
 use crate::walks::REACHED;
 use crate::walks::SLOTS;
 use crate::walks::first_slot;
+use generator::numbers::at;
+use generator::numbers::sum;
 
 // Verdicts by their numbers.
 pub(crate) const EQUAL: usize = 0;

@@ -1,16 +1,16 @@
 // The walk of document 01 by single bit addresses: no runs, no lists. From each bit address of a root it notes every place, a node and an
 // address there, that a walk comes to, and keeps the leaf bits.
-use crate::numbers::at;
-use crate::numbers::bits;
-use crate::numbers::cell;
-use crate::numbers::depth_of;
-use crate::numbers::less;
-use crate::numbers::number;
-use crate::numbers::put;
-use crate::numbers::size;
-use crate::numbers::store;
-use crate::numbers::sum;
-use crate::rows;
+use generator::numbers::at;
+use generator::numbers::bits;
+use generator::numbers::cell;
+use generator::numbers::depth_of;
+use generator::numbers::less;
+use generator::numbers::number;
+use generator::numbers::put;
+use generator::numbers::size;
+use generator::numbers::store;
+use generator::numbers::sum;
+use generator::rows;
 
 // No root of a map here has a bit address as large as this.
 pub(crate) const ROOT_BITS: usize = 640;

@@ -13,18 +13,6 @@ use Rattle.characters.proofs.check_text.Tie as tie
 returns : tie.Need-returns
 returns c = text-long (c .before .before .args .text .now) (c .if1 .taken)
 
-check-bytes-requires : tie.Need-check-bytes-requires
-check-bytes-requires c κs = search needs
-
-enum-known-pass : tie.Need-enum-known-pass
-enum-known-pass c = search needs
-
-enum-known-pass-2 : tie.Need-enum-known-pass-2
-enum-known-pass-2 c = search needs
-
-is-broken-off-requires : tie.Need-is-broken-off-requires
-is-broken-off-requires c κs = search needs
-
 returns-2 : tie.Need-returns-2
 returns-2 c =
     let p = c .before in
@@ -54,10 +42,10 @@ check-text-spec =
     tie.close
     (tie.spec
     returns
-    check-bytes-requires
-    enum-known-pass
-    enum-known-pass-2
-    is-broken-off-requires
+    (λ c κs. search needs)
+    (λ c. search needs)
+    (λ c. search needs)
+    (λ c κs. search needs)
     returns-2
     returns-3
     returns-4)

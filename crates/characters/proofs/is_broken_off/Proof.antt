@@ -9,14 +9,8 @@ use Rattle.characters.proofs.is_broken_off.Tie as tie
 returns : tie.Need-returns
 returns c = let s = c .before .args in sym (broken-none (s .text .now) (c .if1 .taken))
 
-sub-result : tie.Need-sub-result
-sub-result c = search needs
-
-shared-slice-read-result : tie.Need-shared-slice-read-result
-shared-slice-read-result c = search needs
-
 returns-2 : tie.Need-returns-2
 returns-2 c = let s = c .before .before .args in sym (broken-last (s .text .now) (omega arith))
 
 pub is-broken-off-spec : {M : Type 1} → statement M
-is-broken-off-spec = tie.close (tie.spec returns sub-result shared-slice-read-result returns-2)
+is-broken-off-spec = tie.close (tie.spec returns (λ c. search needs) (λ c. search needs) returns-2)

@@ -10,26 +10,8 @@ use Rattle.columns.proofs.with_name.Tie as tie
 
 -- The name is missing, or it is found.
 
-add-next : tie.Need-add-next
-add-next c = search needs
-
 returns : tie.Need-returns
 returns c = name-lost (c .before .before .before .args .cs) (not-true _ (c .if1 .taken)) _
-
-column-of-requires : tie.Need-column-of-requires
-column-of-requires c κs = search needs
-
-enum-known-column : tie.Need-enum-known-column
-enum-known-column c = search needs
-
-mul-next : tie.Need-mul-next
-mul-next c = search needs
-
-element-write-next : tie.Need-element-write-next
-element-write-next c = search needs
-
-enum-told : tie.Need-enum-told
-enum-told c = search needs
 
 returns-2 : tie.Need-returns-2
 returns-2 c =
@@ -49,12 +31,12 @@ pub with-name-spec : {M : Type 1} → statement M
 with-name-spec =
     tie.close
     (tie.spec
-    add-next
+    (λ c. search needs)
     returns
-    column-of-requires
-    enum-known-column
-    mul-next
-    element-write-next
-    enum-told
+    (λ c κs. search needs)
+    (λ c. search needs)
+    (λ c. search needs)
+    (λ c. search needs)
+    (λ c. search needs)
     returns-2
     returns-3)

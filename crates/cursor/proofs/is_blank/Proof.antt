@@ -7,9 +7,6 @@ use Rattle.cursor.specs.Parts.{blankFirst}
 use Rattle.cursor.proofs.is_blank.Statement.{statement}
 use Rattle.cursor.proofs.is_blank.Tie as tie
 
-shared-slice-read-result : tie.Need-shared-slice-read-result
-shared-slice-read-result c = search needs
-
 returns : tie.Need-returns
 unfolding blankFirst
 returns c = let s = c .before .before .args in rw (drop-cons (s .text .now) (s .at) 0 (c .before .if1 .taken)) refl
@@ -19,4 +16,4 @@ unfolding blankFirst
 returns-2 c = let s = c .before .args in rw (drop-of-length-le (s .text .now) {i = s .at} (c .if1 .left)) refl
 
 pub is-blank-spec : {M : Type 1} → statement M
-is-blank-spec = tie.close (tie.spec shared-slice-read-result returns returns-2)
+is-blank-spec = tie.close (tie.spec (λ c. search needs) returns returns-2)

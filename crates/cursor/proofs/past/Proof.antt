@@ -7,16 +7,10 @@ use lib.ListN.{drop-of-length-le}
 use Rattle.cursor.proofs.past.Statement.{statement}
 use Rattle.cursor.proofs.past.Tie as tie
 
-add-result : tie.Need-add-result
-add-result c = search needs
-
-returns : tie.Need-returns
-returns c = search needs
-
 returns-2 : tie.Need-returns-2
 returns-2 c =
     let s = c .before .args in
     (omega arith, drop-of-length-le (s .text .now) {i = s .end} (omega arith) ∙ sym (drop-of-length-le (s .text .now) {i = s .end + 1} (omega arith)))
 
 pub past-spec : {M : Type 1} → statement M
-past-spec = tie.close (tie.spec add-result returns returns-2)
+past-spec = tie.close (tie.spec (λ c. search needs) (λ c. search needs) returns-2)

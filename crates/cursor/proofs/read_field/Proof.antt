@@ -7,26 +7,11 @@ use Rattle.cursor.proofs.Fields.{end-within, end-behind, end-part}
 use Rattle.cursor.proofs.read_field.Statement.{statement}
 use Rattle.cursor.proofs.read_field.Tie as tie
 
-field-end-requires : tie.Need-field-end-requires
-field-end-requires c κs = search needs
-
-is-blank-requires : tie.Need-is-blank-requires
-is-blank-requires c κs = search needs
-
-sub-signed-value : tie.Need-sub-signed-value
-sub-signed-value c = search needs
-
-part-signed-value-start : tie.Need-part-signed-value-start
-part-signed-value-start c = search needs
-
 part-signed-value-end : tie.Need-part-signed-value-end
 part-signed-value-end c =
     let f = c .before in
     let s = f .before .before in
     end-within (s .args .text .now) (s .args .at) (f .field-end .result) (s .pre) (f .field-end .ensures)
-
-signed-value-requires : tie.Need-signed-value-requires
-signed-value-requires c κs = search needs
 
 returns : tie.Need-returns
 returns c =
@@ -46,10 +31,10 @@ pub read-field-spec : {M : Type 1} → statement M
 read-field-spec =
     tie.close
     (tie.spec
-    field-end-requires
-    is-blank-requires
-    sub-signed-value
-    part-signed-value-start
+    (λ c κs. search needs)
+    (λ c κs. search needs)
+    (λ c. search needs)
+    (λ c. search needs)
     part-signed-value-end
-    signed-value-requires
+    (λ c κs. search needs)
     returns)

@@ -8,12 +8,6 @@ use Rattle.mapcheck.proofs.print_text.Tie as tie
 slice-aggregate-put-printed : tie.Need-slice-aggregate-put-printed
 slice-aggregate-put-printed c = let s = c .before .before in front-length (s .args .text .now) (omega (arith, s .pre))
 
-slice-aggregate-put-printed-2 : tie.Need-slice-aggregate-put-printed-2
-slice-aggregate-put-printed-2 c = search needs
-
-put-printed-requires : tie.Need-put-printed-requires
-put-printed-requires c κs = search needs
-
 slice-aggregate-write-printed : tie.Need-slice-aggregate-write-printed
 slice-aggregate-write-printed c = let s = c .before .before .before .before .before .before in front-length (s .args .text .now) (omega (arith, s .pre))
 
@@ -26,18 +20,15 @@ slice-aggregate-write-printed-2 c = let p = c .before .before .before in front-l
 write-printed-requires : tie.Need-write-printed-requires
 write-printed-requires c κs = put-front (c .before .before .before .put-printed .ensures)
 
-returns : tie.Need-returns
-returns c = search needs
-
 pub print-text-spec : {M : Type 1} → statement M
 print-text-spec =
     tie.close
     (tie.spec
     slice-aggregate-put-printed
-    slice-aggregate-put-printed-2
-    put-printed-requires
+    (λ c. search needs)
+    (λ c κs. search needs)
     slice-aggregate-write-printed
     array-share-prefix-out
     slice-aggregate-write-printed-2
     write-printed-requires
-    returns)
+    (λ c. search needs))

@@ -5,7 +5,7 @@ use borrow.Author.Needs.{needs}
 use Rattle.model.specs.Calls.{refused}
 use Rattle.model.specs.Answers.{writtenAnswer}
 use Rattle.model.specs.TextCheck.{textGives}
-use Rattle.refusals.specs.Small.{refusalNumbers, Small}
+use Rattle.refusals.specs.Small.{refusalNumbers, SmallRefusal}
 use Rattle.refusals.proofs.Texts.{gives-small}
 use Rattle.mapcheck.proofs.Printing.{printed-report, printed-untouched, printed-refusal}
 use Rattle.mapcheck.proofs.put_printed.Statement.{statement}
@@ -22,20 +22,8 @@ module _ (c : tie.After-refusal-numbers) where
   told : refused (refusalNumbers (c .refusal-numbers .result)) ≡ textGives (start checked .args .text .now) (start checked .args .out .now)
   told = ap refused (c .refusal-numbers .ensures) ∙ ap writtenAnswer (sym (c .before .before .written2 .given .1)) ∙ checked .text-check .ensures .answer
 
-  small : Small (refusalNumbers (c .refusal-numbers .result))
+  small : SmallRefusal (refusalNumbers (c .refusal-numbers .result))
   small = gives-small (start checked .args .text .now) (start checked .args .out .now) told
-
-text-check-requires : tie.Need-text-check-requires
-text-check-requires c κs = search needs
-
-enum-known-written : tie.Need-enum-known-written
-enum-known-written c = search needs
-
-enum-known-written-2 : tie.Need-enum-known-written-2
-enum-known-written-2 c = search needs
-
-refusal-numbers-requires : tie.Need-refusal-numbers-requires
-refusal-numbers-requires c κs = search needs
 
 put-refusal-requires : tie.Need-put-refusal-requires
 put-refusal-requires c κs = let r = c .before in
@@ -43,16 +31,10 @@ put-refusal-requires c κs = let r = c .before in
     let s = small r in
     (omega (arith, k .text-check .kept .1 .0, start k .pre), omega (arith, s .number), omega (arith, s .table), omega (arith, s .row))
 
-same-length : tie.Need-same-length
-same-length c = search needs
-
 returns : tie.Need-returns
 returns c = let k = c .before .before .before .before .before in
     let s = start k in
     printed-report (s .args .text .now) (s .args .out .now) (s .pre) (k .text-check .ensures .buffer) (ap writtenAnswer (sym (c .before .written .given .1)) ∙ k .text-check .ensures .answer)
-
-same-length-2 : tie.Need-same-length-2
-same-length-2 c = search needs
 
 returns-2 : tie.Need-returns-2
 returns-2 c = let p = c .before .before in
@@ -66,12 +48,12 @@ pub put-printed-spec : {M : Type 1} → statement M
 put-printed-spec =
     tie.close
     (tie.spec
-    text-check-requires
-    enum-known-written
-    enum-known-written-2
-    refusal-numbers-requires
+    (λ c κs. search needs)
+    (λ c. search needs)
+    (λ c. search needs)
+    (λ c κs. search needs)
     put-refusal-requires
-    same-length
+    (λ c. search needs)
     returns
-    same-length-2
+    (λ c. search needs)
     returns-2)

@@ -13,33 +13,6 @@ use Rattle.columns.proofs.ColumnLists.{Reached, reached-none, reached-more, rea
 use Rattle.mapfile.proofs.edge_columns.Statement.{statement}
 use Rattle.mapfile.proofs.edge_columns.Tie as tie
 
-none-requires : tie.Need-none-requires
-none-requires c κs = search needs
-
-slice-aggregate-with-name : tie.Need-slice-aggregate-with-name
-slice-aggregate-with-name c = search needs
-
-with-name-requires : tie.Need-with-name-requires
-with-name-requires c κs = search needs
-
-slice-aggregate-with-name-2 : tie.Need-slice-aggregate-with-name-2
-slice-aggregate-with-name-2 c = search needs
-
-with-name-requires-2 : tie.Need-with-name-requires-2
-with-name-requires-2 c κs = search needs
-
-slice-aggregate-with-name-3 : tie.Need-slice-aggregate-with-name-3
-slice-aggregate-with-name-3 c = search needs
-
-with-name-requires-3 : tie.Need-with-name-requires-3
-with-name-requires-3 c κs = search needs
-
-slice-aggregate-with-name-4 : tie.Need-slice-aggregate-with-name-4
-slice-aggregate-with-name-4 c = search needs
-
-with-name-requires-4 : tie.Need-with-name-requires-4
-with-name-requires-4 c κs = search needs
-
 returns : tie.Need-returns
 unfolding bytes edgeTable
 returns c =
@@ -64,13 +37,13 @@ pub edge-columns-spec : {M : Type 1} → statement M
 edge-columns-spec =
     tie.close
     (tie.spec
-    none-requires
-    slice-aggregate-with-name
-    with-name-requires
-    slice-aggregate-with-name-2
-    with-name-requires-2
-    slice-aggregate-with-name-3
-    with-name-requires-3
-    slice-aggregate-with-name-4
-    with-name-requires-4
+    (λ c κs. search needs)
+    (λ c. search needs)
+    (λ c κs. search needs)
+    (λ c. search needs)
+    (λ c κs. search needs)
+    (λ c. search needs)
+    (λ c κs. search needs)
+    (λ c. search needs)
+    (λ c κs. search needs)
     returns)

@@ -73,31 +73,10 @@ PairsGiven p =
     RowsGiven (readTable true pairTable (c .line) (lines (drop (c .at) (s .text .now)))) (s .text .now) pairRoom
     (s .root-pairs .now) (p .read-table3 .last .1 .1 .1 .0) (s .leaf-pairs .now) (p .read-table3 .last .1 .1 .1 .1 .0)
 
-check-text-requires : tie.Need-check-text-requires
-check-text-requires c κs = search needs
-
-enum-known-checked : tie.Need-enum-known-checked
-enum-known-checked c = search needs
-
 returns : tie.Need-returns
 returns c =
     let k = c .before .before .before in
     map-checked (k .before .before .args .text .now) (ap checkedAnswer (sym (c .before .checked .given .1)) ∙ k .check-text .ensures)
-
-enum-told : tie.Need-enum-told
-enum-told c = search needs
-
-start-requires : tie.Need-start-requires
-start-requires c κs = search needs
-
-read-table-requires : tie.Need-read-table-requires
-read-table-requires c κs = search needs
-
-enum-known-rows : tie.Need-enum-known-rows
-enum-known-rows c = search needs
-
-enum-known-rows-2 : tie.Need-enum-known-rows-2
-enum-known-rows-2 c = search needs
 
 read-table-requires-2 : tie.Need-read-table-requires-2
 read-table-requires-2 c κs =
@@ -105,46 +84,16 @@ read-table-requires-2 c κs =
     let s = Entry (Nodes r) in
     (nodes-read r .placed, omega (arith, s .pre .specEdges, s .pre .implEdges), omega (arith, s .pre .specEdges, s .pre .implEdges))
 
-enum-known-rows-3 : tie.Need-enum-known-rows-3
-enum-known-rows-3 c = search needs
-
-enum-known-rows-4 : tie.Need-enum-known-rows-4
-enum-known-rows-4 c = search needs
-
 read-table-requires-3 : tie.Need-read-table-requires-3
 read-table-requires-3 c κs =
     let r = c .before .before .before in
     let s = Entry (Nodes (Before r)) in
     (edges-read r .placed, omega (arith, s .pre .rootPairs, s .pre .leafPairs), omega (arith, s .pre .rootPairs, s .pre .leafPairs))
 
-enum-known-rows-5 : tie.Need-enum-known-rows-5
-enum-known-rows-5 c = search needs
-
-enum-known-rows-6 : tie.Need-enum-known-rows-6
-enum-known-rows-6 c = search needs
-
-same-length : tie.Need-same-length
-same-length c = search needs
-
-same-length-2 : tie.Need-same-length-2
-same-length-2 c = search needs
-
 returns-2 : tie.Need-returns-2
 returns-2 c =
     let n = c .before .before .before .before .before in
     map-nodes (Entry n .args .text .now) (taken n) (subst (NodesGiven n) (c .before .rows .given .1) (nodes-given n))
-
-same-length-3 : tie.Need-same-length-3
-same-length-3 c = search needs
-
-same-length-4 : tie.Need-same-length-4
-same-length-4 c = search needs
-
-same-length-5 : tie.Need-same-length-5
-same-length-5 c = search needs
-
-same-length-6 : tie.Need-same-length-6
-same-length-6 c = search needs
 
 returns-3 : tie.Need-returns-3
 returns-3 c =
@@ -152,24 +101,6 @@ returns-3 c =
     let r = e .before .before .before .before in
     let n = Nodes r in
     map-edges (Entry n .args .text .now) (taken n) (nodes-read r .read) (rw (c .before .rows3 .given .1) at (e .read-table2 .ensures))
-
-same-length-7 : tie.Need-same-length-7
-same-length-7 c = search needs
-
-same-length-8 : tie.Need-same-length-8
-same-length-8 c = search needs
-
-same-length-9 : tie.Need-same-length-9
-same-length-9 c = search needs
-
-same-length-10 : tie.Need-same-length-10
-same-length-10 c = search needs
-
-same-length-11 : tie.Need-same-length-11
-same-length-11 c = search needs
-
-same-length-12 : tie.Need-same-length-12
-same-length-12 c = search needs
 
 returns-4 : tie.Need-returns-4
 returns-4 c =
@@ -179,24 +110,6 @@ returns-4 c =
     let n = Nodes r in
     map-pairs (Entry n .args .text .now) (taken n) (nodes-read r .read) (edges-read t .read)
     (rw (c .before .rows5 .given .1) at (p .read-table3 .ensures))
-
-same-length-13 : tie.Need-same-length-13
-same-length-13 c = search needs
-
-same-length-14 : tie.Need-same-length-14
-same-length-14 c = search needs
-
-same-length-15 : tie.Need-same-length-15
-same-length-15 c = search needs
-
-same-length-16 : tie.Need-same-length-16
-same-length-16 c = search needs
-
-same-length-17 : tie.Need-same-length-17
-same-length-17 c = search needs
-
-same-length-18 : tie.Need-same-length-18
-same-length-18 c = search needs
 
 returns-5 : tie.Need-returns-5
 unfolding tablesOf
@@ -221,39 +134,39 @@ pub read-map-spec : {M : Type 1} → statement M
 read-map-spec =
     tie.close
     (tie.spec
-    check-text-requires
-    enum-known-checked
+    (λ c κs. search needs)
+    (λ c. search needs)
     returns
-    enum-told
-    start-requires
-    read-table-requires
-    enum-known-rows
-    enum-known-rows-2
+    (λ c. search needs)
+    (λ c κs. search needs)
+    (λ c κs. search needs)
+    (λ c. search needs)
+    (λ c. search needs)
     read-table-requires-2
-    enum-known-rows-3
-    enum-known-rows-4
+    (λ c. search needs)
+    (λ c. search needs)
     read-table-requires-3
-    enum-known-rows-5
-    enum-known-rows-6
-    same-length
-    same-length-2
+    (λ c. search needs)
+    (λ c. search needs)
+    (λ c. search needs)
+    (λ c. search needs)
     returns-2
-    same-length-3
-    same-length-4
-    same-length-5
-    same-length-6
+    (λ c. search needs)
+    (λ c. search needs)
+    (λ c. search needs)
+    (λ c. search needs)
     returns-3
-    same-length-7
-    same-length-8
-    same-length-9
-    same-length-10
-    same-length-11
-    same-length-12
+    (λ c. search needs)
+    (λ c. search needs)
+    (λ c. search needs)
+    (λ c. search needs)
+    (λ c. search needs)
+    (λ c. search needs)
     returns-4
-    same-length-13
-    same-length-14
-    same-length-15
-    same-length-16
-    same-length-17
-    same-length-18
+    (λ c. search needs)
+    (λ c. search needs)
+    (λ c. search needs)
+    (λ c. search needs)
+    (λ c. search needs)
+    (λ c. search needs)
     returns-5)

@@ -6,24 +6,12 @@ use Rattle.mapfile.proofs.ReadTables.{file-several, file-few, file-room
 use Rattle.mapfile.proofs.read_table.Statement.{statement}
 use Rattle.mapfile.proofs.read_table.Tie as tie
 
-count-fields-requires : tie.Need-count-fields-requires
-count-fields-requires c κs = search needs
-
-table-columns-requires : tie.Need-table-columns-requires
-table-columns-requires c κs = search needs
-
 returns : tie.Need-returns
 returns c =
     let k = c .before .before in
     let s = k .before .before .before in
     let f = s .args .table in
     table-wrong (file-several f) (s .pre .0) (k .table-columns .ensures) (isLast f) (not-true _ (c .if1 .taken))
-
-is-last-requires : tie.Need-is-last-requires
-is-last-requires c κs = search needs
-
-room-of-requires : tie.Need-room-of-requires
-room-of-requires c κs = search needs
 
 read-rows-requires : tie.Need-read-rows-requires
 read-rows-requires c κs =
@@ -43,12 +31,6 @@ read-rows-requires c κs =
       s .pre .2,
     )
 
-same-length : tie.Need-same-length
-same-length c = search needs
-
-same-length-2 : tie.Need-same-length-2
-same-length-2 c = search needs
-
 returns-2 : tie.Need-returns-2
 returns-2 c =
     let r = c .before .before in
@@ -64,12 +46,12 @@ pub read-table-spec : {M : Type 1} → statement M
 read-table-spec =
     tie.close
     (tie.spec
-    count-fields-requires
-    table-columns-requires
+    (λ c κs. search needs)
+    (λ c κs. search needs)
     returns
-    is-last-requires
-    room-of-requires
+    (λ c κs. search needs)
+    (λ c κs. search needs)
     read-rows-requires
-    same-length
-    same-length-2
+    (λ c. search needs)
+    (λ c. search needs)
     returns-2)

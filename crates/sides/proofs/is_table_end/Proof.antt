@@ -21,13 +21,10 @@ and-not-last false = refl
 returns : tie.Need-returns
 returns c = let s = c .before .args in rw (c .if1 .taken) (and-last (isNil (firstLine (drop (s .at) (s .text .now)))))
 
-shared-slice-read-result : tie.Need-shared-slice-read-result
-shared-slice-read-result c = search needs
-
 returns-2 : tie.Need-returns-2
 returns-2 c =
     let s = c .before .before in
     rw (c .before .if1 .left, line-empty (s .args .text .now) (s .args .at) (s .pre)) (and-not-last _)
 
 pub is-table-end-spec : {M : Type 1} → statement M
-is-table-end-spec = tie.close (tie.spec returns shared-slice-read-result returns-2)
+is-table-end-spec = tie.close (tie.spec returns (λ c. search needs) returns-2)

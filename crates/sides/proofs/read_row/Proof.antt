@@ -27,26 +27,11 @@ room k = omega (arith, k .before .before .before .pre .2, k .read-line .kept .1 
 abbrev Given : tie.After-read-line → Line → Type 0
 Given k = let s = k .before .before .before .args in LineGiven (s .text .now) (s .from) (s .t3 .count) (rowAfter k)
 
-read-line-requires : tie.Need-read-line-requires
-read-line-requires c κs = search needs
-
-enum-known-line : tie.Need-enum-known-line
-enum-known-line c = search needs
-
-enum-told : tie.Need-enum-told
-enum-told c = search needs
-
-same-length : tie.Need-same-length
-same-length c = search needs
-
 returns : tie.Need-returns
 returns c =
     let k = c .before .before .before in
     let s = k .before .before .before in
     row-broken (s .pre .1) (drop (s .args .from .at) (s .args .text .now)) (subst (Given k) (c .enum-told .given .1) (k .read-line .ensures))
-
-element-copy-out-at : tie.Need-element-copy-out-at
-element-copy-out-at c = search needs
 
 mul-key : tie.Need-mul-key
 mul-key c =
@@ -59,9 +44,6 @@ slice-copy-out-key c =
     let s = k .before .before .before in
     omega (arith, s .pre .1 .within 0 (omega (arith, s .pre .1 .several)), s .pre .1 .few, s .pre .2, k .read-line .kept .1 .1 .1 .0)
 
-same-length-2 : tie.Need-same-length-2
-same-length-2 c = search needs
-
 returns-2 : tie.Need-returns-2
 returns-2 c =
     let l = c .before .before .before .before in
@@ -71,9 +53,6 @@ returns-2 c =
     let key = sym (toZ-ofZ (sfits-of {w = w64} (c .before .key .given))) ∙ ap (toZ w64) (c .if1 .taken) in
     (row-first (s .pre .1) (drop (s .args .from .at) (s .args .text .now)) (rowAfter k) (room k) (given .0) key, given .1)
 
-same-length-3 : tie.Need-same-length-3
-same-length-3 c = search needs
-
 returns-3 : tie.Need-returns-3
 returns-3 c =
     let l = c .before .before .before .before .before in
@@ -82,9 +61,6 @@ returns-3 c =
     let given = subst (Given k) (l .line .given .1) (k .read-line .ensures) in
     let key = sym (toZ-ofZ (sfits-of {w = w64} (c .before .before .key .given))) ∙ ap (toZ w64) (c .if2 .taken) in
     (row-second (s .pre .1) (drop (s .args .from .at) (s .args .text .now)) (rowAfter k) (room k) (given .0) key, given .1)
-
-same-length-4 : tie.Need-same-length-4
-same-length-4 c = search needs
 
 returns-4 : tie.Need-returns-4
 returns-4 c =
@@ -99,17 +75,17 @@ pub read-row-spec : {M : Type 1} → statement M
 read-row-spec =
     tie.close
     (tie.spec
-    read-line-requires
-    enum-known-line
-    enum-told
-    same-length
+    (λ c κs. search needs)
+    (λ c. search needs)
+    (λ c. search needs)
+    (λ c. search needs)
     returns
-    element-copy-out-at
+    (λ c. search needs)
     mul-key
     slice-copy-out-key
-    same-length-2
+    (λ c. search needs)
     returns-2
-    same-length-3
+    (λ c. search needs)
     returns-3
-    same-length-4
+    (λ c. search needs)
     returns-4)

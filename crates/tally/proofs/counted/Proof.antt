@@ -5,20 +5,11 @@ use Rattle.tally.specs.Callers.{OneOfSixteen}
 use Rattle.tally.proofs.counted.Statement.{statement}
 use Rattle.tally.proofs.counted.Tie as tie
 
-enum-known-who : tie.Need-enum-known-who
-enum-known-who c = search needs
-
 one-more-requires : tie.Need-one-more-requires
 one-more-requires c κs = let s = c .before .before .before in (subst OneOfSixteen (c .before .who .given .1) (s .pre .0), s .pre .1)
-
-enum-told : tie.Need-enum-told
-enum-told c = search needs
 
 returns : tie.Need-returns
 returns c = rw (c .before .before .who .given .1) (c .one-more .ensures)
 
-returns-2 : tie.Need-returns-2
-returns-2 c = search needs
-
 pub counted-spec : {M : Type 1} → statement M
-counted-spec = tie.close (tie.spec enum-known-who one-more-requires enum-told returns returns-2)
+counted-spec = tie.close (tie.spec (λ c. search needs) one-more-requires (λ c. search needs) returns (λ c. search needs))

@@ -9,27 +9,6 @@ use Rattle.model.specs.Tally.{countPlace, oneMore}
 use Rattle.tally.proofs.one_more.Statement.{statement}
 use Rattle.tally.proofs.one_more.Tie as tie
 
-mul-place : tie.Need-mul-place
-mul-place c = search needs
-
-add-place : tie.Need-add-place
-add-place c = search needs
-
-mul-count : tie.Need-mul-count
-mul-count c = search needs
-
-element-copy-out-count : tie.Need-element-copy-out-count
-element-copy-out-count c = search needs
-
-add-next : tie.Need-add-next
-add-next c = search needs
-
-mul-next : tie.Need-mul-next
-mul-next c = search needs
-
-element-write-next : tie.Need-element-write-next
-element-write-next c = search needs
-
 returns : tie.Need-returns
 unfolding oneMore
 returns c = let s = c .before .before in
@@ -46,12 +25,12 @@ pub one-more-spec : {M : Type 1} → statement M
 one-more-spec =
     tie.close
     (tie.spec
-    mul-place
-    add-place
-    mul-count
-    element-copy-out-count
-    add-next
-    mul-next
-    element-write-next
+    (λ c. search needs)
+    (λ c. search needs)
+    (λ c. search needs)
+    (λ c. search needs)
+    (λ c. search needs)
+    (λ c. search needs)
+    (λ c. search needs)
     returns
     returns-2)

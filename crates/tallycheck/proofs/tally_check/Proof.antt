@@ -24,24 +24,9 @@ checkOf k = record { caller = start k .args .caller; text = start k .args .text 
 named : (k : tie.After-check-by) → callerNamed (asked k .who-asks .result) ≡ callerOf (checkOf k .caller)
 named k = asked k .who-asks .ensures ∙ ap callerOf (toZ-ofZ (start k .fits .caller))
 
-who-asks-requires : tie.Need-who-asks-requires
-who-asks-requires c κs = search needs
-
-check-by-requires : tie.Need-check-by-requires
-check-by-requires c κs = search needs
-
-ending-of-requires : tie.Need-ending-of-requires
-ending-of-requires c κs = search needs
-
 counted-requires : tie.Need-counted-requires
 counted-requires c κs = let k = c .before .before .before in
     (asks-sixteen (asked k .who-asks .result) (checkOf k .caller) (named k), c .ending-of .ensures .1)
-
-written-of-requires : tie.Need-written-of-requires
-written-of-requires c κs = search needs
-
-same-length : tie.Need-same-length
-same-length c = search needs
 
 returns : tie.Need-returns
 unfolding tallyGives tallyAfter
@@ -57,10 +42,10 @@ pub tally-check-spec : {M : Type 1} → statement M
 tally-check-spec =
     tie.close
     (tie.spec
-    who-asks-requires
-    check-by-requires
-    ending-of-requires
+    (λ c κs. search needs)
+    (λ c κs. search needs)
+    (λ c κs. search needs)
     counted-requires
-    written-of-requires
-    same-length
+    (λ c κs. search needs)
+    (λ c. search needs)
     returns)

@@ -13,14 +13,8 @@ returns c = sym (magnitude-empty (c .before .before .args .field .now) (c .if1 .
 returns-2 : tie.Need-returns-2
 returns-2 c = sym (magnitude-long (c .before .before .before .args .field .now) (c .if2 .taken))
 
-shared-slice-read-if3 : tie.Need-shared-slice-read-if3
-shared-slice-read-if3 c = search needs
-
 returns-3 : tie.Need-returns-3
 returns-3 c = sym (magnitude-zero (c .before .before .before .before .before .before .args .field .now) (c .before .if3 .taken) (c .if4 .taken) (omega arith))
-
-scan-digits-requires : tie.Need-scan-digits-requires
-scan-digits-requires c κs = search needs
 
 returns-4 : tie.Need-returns-4
 returns-4 c = let s = c .before .before .before .before .before .before .args in
@@ -30,4 +24,4 @@ returns-4 c = let s = c .before .before .before .before .before .before .args in
 pub digits-value-spec : {M : Type 1} → statement M
 digits-value-spec =
     tie.close
-    (tie.spec returns returns-2 shared-slice-read-if3 returns-3 scan-digits-requires returns-4)
+    (tie.spec returns returns-2 (λ c. search needs) returns-3 (λ c κs. search needs) returns-4)

@@ -11,20 +11,11 @@ use Rattle.values.proofs.negative_value.Tie as tie
 read : (c : tie.After-d) → magnitude (c .before .before .before .before .args .field .now) ≡ some (c .d .given .0 .0)
 read c = sym (c .before .before .digits-value .ensures) ∙ ap digitsValue (c .d .given .1)
 
-digits-value-requires : tie.Need-digits-value-requires
-digits-value-requires c κs = search needs
-
-enum-known-d : tie.Need-enum-known-d
-enum-known-d c = search needs
-
 cast-t7 : tie.Need-cast-t7
 cast-t7 c = positive-fits (c .before .before .before .before .before .before .args .field .now) (read (c .before .before))
 
 sub-t8 : tie.Need-sub-t8
 sub-t8 c = negative-fits (c .before .before .before .before .before .before .args .field .now) (read (c .before .before))
-
-enum-told : tie.Need-enum-told
-enum-told c = search needs
 
 returns : tie.Need-returns
 returns c = negative-zero (c .before .before .before .before .before .before .args .field .now) (read (c .before .before)) (c .if1 .taken)
@@ -41,11 +32,11 @@ pub negative-value-spec : {M : Type 1} → statement M
 negative-value-spec =
     tie.close
     (tie.spec
-    digits-value-requires
-    enum-known-d
+    (λ c κs. search needs)
+    (λ c. search needs)
     cast-t7
     sub-t8
-    enum-told
+    (λ c. search needs)
     returns
     returns-2
     returns-3)

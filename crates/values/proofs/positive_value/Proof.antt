@@ -11,17 +11,8 @@ use Rattle.values.proofs.positive_value.Tie as tie
 read : (c : tie.After-d) → magnitude (c .before .before .before .before .args .field .now) ≡ some (c .d .given .0 .0)
 read c = sym (c .before .before .digits-value .ensures) ∙ ap digitsValue (c .d .given .1)
 
-digits-value-requires : tie.Need-digits-value-requires
-digits-value-requires c κs = search needs
-
-enum-known-d : tie.Need-enum-known-d
-enum-known-d c = search needs
-
 cast-t5 : tie.Need-cast-t5
 cast-t5 c = positive-fits (c .before .before .before .before .before .args .field .now) (read (c .before))
-
-enum-told : tie.Need-enum-told
-enum-told c = search needs
 
 returns : tie.Need-returns
 returns c = positive-value (c .before .before .before .before .before .args .field .now) (read (c .before))
@@ -33,4 +24,4 @@ returns-2 c =
 
 pub positive-value-spec : {M : Type 1} → statement M
 positive-value-spec =
-    tie.close (tie.spec digits-value-requires enum-known-d cast-t5 enum-told returns returns-2)
+    tie.close (tie.spec (λ c κs. search needs) (λ c. search needs) cast-t5 (λ c. search needs) returns returns-2)

@@ -12,28 +12,10 @@ use Rattle.values.proofs.signed_value.Tie as tie
 returns : tie.Need-returns
 returns c = value-empty (c .before .before .args .field .now) (c .if1 .taken)
 
-shared-slice-read-if2 : tie.Need-shared-slice-read-if2
-shared-slice-read-if2 c = search needs
-
-sub-negative-value : tie.Need-sub-negative-value
-sub-negative-value c = search needs
-
-part-negative-value-start : tie.Need-part-negative-value-start
-part-negative-value-start c = search needs
-
-part-negative-value-end : tie.Need-part-negative-value-end
-part-negative-value-end c = search needs
-
-negative-value-requires : tie.Need-negative-value-requires
-negative-value-requires c κs = search needs
-
 returns-2 : tie.Need-returns-2
 returns-2 c = let s = c .before .before .before .before .before .before .args in
     let rest = take-all (length (s .field .now) - 1) (drop 1 (s .field .now)) (omega (arith, length-drop 1 (s .field .now))) in
     c .negative-value .ensures ∙ rw rest (value-dash (s .field .now) (omega arith) (c .before .before .if2 .taken))
-
-positive-value-requires : tie.Need-positive-value-requires
-positive-value-requires c κs = search needs
 
 returns-3 : tie.Need-returns-3
 returns-3 c = let s = c .before .before .before .before .before .args in
@@ -44,11 +26,11 @@ signed-value-spec =
     tie.close
     (tie.spec
     returns
-    shared-slice-read-if2
-    sub-negative-value
-    part-negative-value-start
-    part-negative-value-end
-    negative-value-requires
+    (λ c. search needs)
+    (λ c. search needs)
+    (λ c. search needs)
+    (λ c. search needs)
+    (λ c κs. search needs)
     returns-2
-    positive-value-requires
+    (λ c κs. search needs)
     returns-3)

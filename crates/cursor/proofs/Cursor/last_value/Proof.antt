@@ -9,29 +9,17 @@ use Rattle.cursor.proofs.Fields.{given-within, given-last, given-not-la
 use Rattle.cursor.proofs.Cursor.last_value.Statement.{statement}
 use Rattle.cursor.proofs.Cursor.last_value.Tie as tie
 
-read-field-requires : tie.Need-read-field-requires
-read-field-requires c κs = search needs
-
 returns : tie.Need-returns
 returns c =
     let f = c .before in
     let s = f .before .before in
     given-not-last (s .args .text .now) (s .args .self .at) (s .pre .within) (f .read-field .ensures) (c .if1 .taken)
 
-enum-known-v : tie.Need-enum-known-v
-enum-known-v c = search needs
-
 past-requires : tie.Need-past-requires
 past-requires c κs =
     let f = c .before .before .before .before in
     let s = f .before .before in
     given-within (s .args .text .now) (s .args .self .at) (s .pre .within) (f .read-field .ensures)
-
-add-t9 : tie.Need-add-t9
-add-t9 c = search needs
-
-enum-told : tie.Need-enum-told
-enum-told c = search needs
 
 returns-2 : tie.Need-returns-2
 returns-2 c =
@@ -57,11 +45,11 @@ pub last-value-spec : {M : Type 1} → statement M
 last-value-spec =
     tie.close
     (tie.spec
-    read-field-requires
+    (λ c κs. search needs)
     returns
-    enum-known-v
+    (λ c. search needs)
     past-requires
-    add-t9
-    enum-told
+    (λ c. search needs)
+    (λ c. search needs)
     returns-2
     returns-3)

@@ -11,17 +11,11 @@ use Rattle.cursor.proofs.Fields.{given-inner, given-not-inner, given-bl
 use Rattle.cursor.proofs.Cursor.value.Statement.{statement}
 use Rattle.cursor.proofs.Cursor.value.Tie as tie
 
-read-field-requires : tie.Need-read-field-requires
-read-field-requires c κs = search needs
-
 returns : tie.Need-returns
 returns c =
     let f = c .before .before in
     let s = f .before .before in
     given-not-inner (s .args .text .now) (s .args .self .at) (s .pre .within) (f .read-field .ensures) (not-true _ (c .if1 .taken))
-
-enum-known-v : tie.Need-enum-known-v
-enum-known-v c = search needs
 
 add-t8 : tie.Need-add-t8
 add-t8 c =
@@ -29,9 +23,6 @@ add-t8 c =
     let f = e .before .before in
     let s = f .before .before in
     omega (arith, given-blank (s .args .text .now) (s .args .self .at) (s .pre .within) (f .read-field .ensures) (not-false _ (e .if1 .left)), s .good)
-
-enum-told : tie.Need-enum-told
-enum-told c = search needs
 
 returns-2 : tie.Need-returns-2
 returns-2 c =
@@ -57,4 +48,4 @@ returns-3 c =
 pub value-spec : {M : Type 1} → statement M
 value-spec =
     tie.close
-    (tie.spec read-field-requires returns enum-known-v add-t8 enum-told returns-2 returns-3)
+    (tie.spec (λ c κs. search needs) returns (λ c. search needs) add-t8 (λ c. search needs) returns-2 returns-3)

@@ -12,41 +12,17 @@ Inv-loop nodes edges root leaf places₀ reached₀ root-bit₀ places reached r
 abbrev μ-loop : tie.MeasureT-loop
 μ-loop nodes edges root leaf places₀ reached₀ root-bit₀ places reached root-bit = 640 - root-bit
 
-loop-holds : tie.Need-loop-holds Inv-loop μ-loop
-loop-holds c = search needs
-
-walk-bit-requires : tie.Need-walk-bit-requires Inv-loop μ-loop
-walk-bit-requires c κs = search needs
-
-add-root-bit : tie.Need-add-root-bit Inv-loop μ-loop
-add-root-bit c = search needs
-
-loop-less : tie.Need-loop-less Inv-loop μ-loop
-loop-less c = search needs
-
-loop-again : tie.Need-loop-again Inv-loop μ-loop
-loop-again c = search needs
-
-same-length : tie.Need-same-length Inv-loop μ-loop
-same-length c = search needs
-
-same-length-2 : tie.Need-same-length-2 Inv-loop μ-loop
-same-length-2 c = search needs
-
-returns : tie.Need-returns Inv-loop μ-loop
-returns c = search needs
-
 pub walk-bits-spec : {M : Type 1} → statement M
 walk-bits-spec =
     tie.close
     (tie.spec
     Inv-loop
     μ-loop
-    loop-holds
-    walk-bit-requires
-    add-root-bit
-    loop-less
-    loop-again
-    same-length
-    same-length-2
-    returns)
+    (λ c. search needs)
+    (λ c κs. search needs)
+    (λ c. search needs)
+    (λ c. search needs)
+    (λ c. search needs)
+    (λ c. search needs)
+    (λ c. search needs)
+    (λ c. search needs))

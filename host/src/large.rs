@@ -368,7 +368,7 @@ pub fn connected_beside_owners(count: usize) -> Map {
 
 /// The maps on which the text check takes most stack, the deepest last.
 pub fn deep_maps() -> [Map; 4] {
-    const COUNT: usize = 80;
+    const COUNT: usize = 85;
     let make =
         [connected, connected_beside_chain, connected_beside_shared, connected_beside_owners];
     make.map(|make| make(COUNT))

@@ -82,7 +82,7 @@ fn large_maps() {
 
 #[test]
 fn reports_longer_than_a_text() {
-    for count in [40, 73, 74, 75, 76, 300, 500] {
+    for count in [40, 73, 74, 75, 76, 80, 81, 300, 500] {
         let map = large::connected(count);
         let report = check(&map.text().expect("the map fits into a text"), Rooms::Few);
         assert!(report.is_ok_and(|report| (report.len() > MAX_TEXT) == (count > 74)));

@@ -18,10 +18,10 @@ pub const LIBRARY_STACK: usize = 1_000_000;
 /// For the start of a Rust thread and the test's calls above the library's, which take
 /// 5 to 9 KB. More would hide a library that takes more than it says.
 const TEST_STACK: usize = 1 << 14;
-/// Lines that the library holds at once; it makes a longer report in several parts.
-const HELD_LINES: usize = 2_048;
+/// Lines that the library holds at once; pairs of a longer report are worked twice.
+const HELD_LINES: usize = 6_554;
 /// Roots, and as many leaves, of maps with many more lines, some more, and fewer.
-const COUNTS: [usize; 3] = [80, 46, 20];
+const COUNTS: [usize; 3] = [120, 81, 20];
 const LONG_ROOM: usize = 1 << 20;
 
 /// A text with what the reference answers.
@@ -99,8 +99,8 @@ fn many_lines_and_long_paths_at_the_same_time() {
         report.iter().filter(|&&byte| byte == b'\n').count()
     };
     for maps in texts.chunks(COUNTS.len()).take(2) {
-        let in_parts: Vec<bool> = maps.iter().map(|text| lines(text) > HELD_LINES).collect();
-        assert_eq!(in_parts, [true, true, false]);
+        let twice: Vec<bool> = maps.iter().map(|text| lines(text) > HELD_LINES).collect();
+        assert_eq!(twice, [true, true, false]);
     }
     // Refused after the report was measured, the report's own length, and more.
     let room = |length, thread| match thread % 4 {

@@ -199,6 +199,30 @@ fn parts(roots: usize, leaves: usize, leaf_range: i64) -> Draft {
     draft
 }
 
+/// Places of the records of a hub behind a narrow node, and ways into that node.
+const PLACES: i64 = 32;
+
+/// Wide roots before a node of one unit that is entered in 32 ways, and a hub behind it that is
+/// entered in 32 ways again: 1,024 records at 32 places, with gaps between them. All leaves
+/// but the last stand in a gap. Slow for an engine that searches a list by displacement: a
+/// wide root has records of most displacements near every place.
+fn wide_roots(count: usize, live: usize) -> Draft {
+    let mut draft = inner(2, SPAN);
+    for _ in 0..count {
+        let root = draft.root(0, 2 * PLACES, 8);
+        draft.join(root, 0, 0);
+    }
+    for number in 0..count {
+        let gap = i64::from(number + live < count);
+        let leaf = draft.leaf(2 * (number as i64 % PLACES) + gap, 1, 8);
+        draft.join(1, leaf, 0);
+    }
+    let narrow = draft.node(SEGMENT, 0, 1, 8);
+    (0..PLACES).for_each(|way| draft.join(0, narrow, 2 * way));
+    (0..PLACES).for_each(|place| draft.join(narrow, 1, -2 * place));
+    draft
+}
+
 /// Some roots before all leaves, the others before none. Slow for an engine that looks at
 /// each pair, or that makes a long report in parts.
 fn few_joined(count: usize) -> Draft {
@@ -279,6 +303,7 @@ fn maps(fewer: usize) -> Vec<Hostile> {
         both_ways("nodes that fill an arena", alike(filled_arena(fillers, 1, few(505)))),
         both_ways("nodes that fill an arena, 4 hubs", alike(filled_arena(fillers, 4, few(505)))),
         both_ways("each root another part of a hub", [3, 2].map(|it| parts(few(500), 8, it))),
+        both_ways("wide roots, leaves in gaps of a hub", alike(wide_roots(few(570), LIVE))),
         both_ways("4 of 799 roots joined", alike(few_joined(few(799)))),
         both_ways("refusal 11 at the last rows", alike(long_report(few(570)))),
         both_ways(

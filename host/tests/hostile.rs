@@ -30,7 +30,7 @@ type Answer = Result<Lines, [usize; 3]>;
 
 /// Name, root rows and leaf rows, and the answer. Turned round the rows are exchanged, and
 /// nothing else.
-const EXPECTED: [(&str, [usize; 2], Answer); 15] = [
+const EXPECTED: [(&str, [usize; 2], Answer); 16] = [
     // Four roots reach every leaf, each by one record.
     ("roots in gaps of a hub", [570, 570], Ok((4 * 570, 0, 1))),
     ("roots in gaps behind 2 hubs", [570, 570], Ok((4 * 570, 0, 1))),
@@ -43,6 +43,8 @@ const EXPECTED: [(&str, [usize; 2], Answer); 15] = [
     ("nodes that fill an arena, 4 hubs", [505, 505], Ok((4 * 505, 0, 1))),
     // Each record of the implementation is one unit shorter.
     ("each root another part of a hub", [500, 8], Ok((500 * 8, 1, 512))),
+    // Four leaves are reached by every root, each by a record for each way.
+    ("wide roots, leaves in gaps of a hub", [570, 570], Ok((4 * 570, 0, 32))),
     ("4 of 799 roots joined", [799, 799], Ok((4 * 799, 0, 1))),
     ("refusal 11 at the last rows", [570, 570], Err([11, OUTPUT, 0])),
     ("refusal 10 at the last pair", [570, 570], Err([10, IMPL_EDGES, 569_569])),

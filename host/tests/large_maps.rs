@@ -21,21 +21,21 @@ const EXPECTED: [(&str, [i64; 3], usize, usize); 18] = [
     ("2 x 900, 1 of 1,024 paths seen", [1_800, 0, 0], 1_800, 1_800),
     ("1 x 900, 1,024 paths", [900, 0, 0], 900, 900 * 1_024),
     ("100 x 900, all clipped at the leaf", [90_000, 0, 0], 0, 0),
-    ("connected through one hub", [6_400, 0, 0], 6_400, 6_400),
-    ("connected through one hub, and a chain of 64", [160, 6_401, 0], 6_401, 6_400 + 1_024),
+    ("connected through one hub", [7_225, 0, 0], 7_225, 7_225),
+    ("connected through one hub, and a chain of 64", [170, 7_226, 0], 7_226, 7_225 + 1_024),
     // Records from unit 8 on begin one unit after the other: 504 in a root of 512 units.
     (
         "connected through one hub, and a chain of 64 that roots share",
-        [320, 6_403, 0],
-        6_403,
-        6_400 + 2 * 1_024 + 504,
+        [340, 7_228, 0],
+        7_228,
+        7_225 + 2 * 1_024 + 504,
     ),
     // Fifteen edges from the root to each of 62 nodes, and the way through all of them.
     (
         "connected through one hub, and 62 owners one behind the other",
-        [161, 6_400, 0],
-        6_401,
-        6_400 + 62 * 15 + 1,
+        [171, 7_225, 0],
+        7_226,
+        7_225 + 62 * 15 + 1,
     ),
 ];
 

@@ -13,6 +13,7 @@ use Rattle.integers.proofs.Tests.{ltb?, is-true, is-false, of-test, test-of}
 use Rattle.lists.specs.Lists.{_∈_, keep}
 use Rattle.lists.proofs.Kept.{keep-length}
 use Rattle.lists.proofs.Membership.{map-out}
+use Rattle.model.specs.Limits.{edgeWidth}
 use Rattle.model.specs.Rows.{edgeRows}
 use Rattle.model.proofs.Paths.{edges-distinct}
 use Rattle.tables.specs.Tables.{edgeAt}
@@ -28,7 +29,7 @@ use Rattle.forward.specs.Passes.{BackwardRows, entersMarked, leadingRows
 
 module _ {es : List ℤ} {order : List ℕ} {count : ℕ} (p : BackwardRows es order count) where
   -- there is one for each edge
-  pub front-length : length (take (length (edgeRows es)) order) ≡ length es / 3
+  pub front-length : length (take (length (edgeRows es)) order) ≡ length es / edgeWidth
   front-length =
       ap length (p .backward)
       ∙ length-map (edgeOrder (edgeRows es)) (λ e. e .row)
@@ -36,12 +37,12 @@ module _ {es : List ℤ} {order : List ℕ} {count : ℕ} (p : BackwardRows es o
       ∙ edges-length es
 
   -- each is an edge row
-  pub front-row : {r : ℕ} → r ∈ take (length (edgeRows es)) order → r < length es / 3
+  pub front-row : {r : ℕ} → r ∈ take (length (edgeRows es)) order → r < length es / edgeWidth
   front-row {r} m =
       let w = map-out (λ e. e .row) (edgeOrder (edgeRows es)) (subst (λ (l : List ℕ). r ∈ l) (p .backward) m) in
       omega (arith, w .2, edge-own es (order-cut (p .nodes) es (p .tables) .ahead-in (w .0) (w .1)) .0)
 
-  module _ (i : ℕ) (h : i < length es / 3) where
+  module _ (i : ℕ) (h : i < length es / edgeWidth) where
     -- what stands there is what the code reads
     pub front-at : getD (take (length (edgeRows es)) order) i 0 ≡ getD order i 0
     front-at = getD-take (length (edgeRows es)) order i 0 (omega (arith, edges-length es))
@@ -69,7 +70,7 @@ module _ (es : List ℤ) (order marks : List ℕ) where
 
   -- the state between two turns
   pub record Keeping (old plan : List ℕ) (kept i : ℕ) : Type 0 where
-    pub within : i ≤ length es / 3
+    pub within : i ≤ length es / edgeWidth
     pub count : kept ≡ length (keptFrom i)
     pub stored : plan ≡ sets old 0 (keptFrom i)
 
@@ -83,16 +84,16 @@ module _ (es : List ℤ) (order marks : List ℕ) where
 
   module _ (p : BackwardRows es order (length marks)) where
     -- before the first turn
-    pub keep-start : (old : List ℕ) → Keeping old old 0 (length es / 3)
+    pub keep-start : (old : List ℕ) → Keeping old old 0 (length es / edgeWidth)
     unfolding keep
     keep-start old =
         let front = take (length (edgeRows es)) order in
-        let none : keptFrom (length es / 3) ≡ [] =
+        let none : keptFrom (length es / edgeWidth) ≡ [] =
         ap (λ l. reverse (keep (entersMarked es marks) l)) (ap (λ n. drop n front) (sym (front-length p)) ∙ drop-length front) in
         record { within = omega arith; count = sym (ap length none); stored = ap (sets old 0) (sym none) }
 
     -- fewer rows are kept than there are edges
-    pub keep-few : {old plan : List ℕ} {kept i : ℕ} → Keeping old plan kept i → kept + i ≤ length es / 3
+    pub keep-few : {old plan : List ℕ} {kept i : ℕ} → Keeping old plan kept i → kept + i ≤ length es / edgeWidth
     keep-few {i = i} s =
         let rest = drop i (take (length (edgeRows es)) order) in
         let some = keep (entersMarked es marks) rest in
@@ -108,7 +109,7 @@ module _ (es : List ℤ) (order marks : List ℕ) where
 
     module _ {old plan : List ℕ} {kept k : ℕ} (s : Keeping old plan kept (suc k)) (to : ℕ) (q : pos to ≡ edgeAt es (getD order k 0) .to) where
       -- the row of a turn
-      below : k < length es / 3
+      below : k < length es / edgeWidth
       below = omega (arith, s .within)
 
       -- the test of the row, by the mark of the node that it enters

@@ -10,6 +10,7 @@ use lib.IntN.{ℤ, pos}
 use lib.ListN.{length, getD, set, length-set}
 use Rattle.integers.proofs.Linear.{ints}
 use Rattle.lists.specs.Lists.{_∈_}
+use Rattle.model.specs.Limits.{nodeWidth, edgeWidth}
 use Rattle.model.specs.Rows.{Edge}
 use Rattle.model.specs.Graph.{Graph, graphOf}
 use Rattle.model.specs.Paths.{Way, stay, over}
@@ -118,7 +119,7 @@ module _ (es : List ℤ) (order : List ℕ) where
   pub record Passed (start marks : List ℕ) (i : ℕ) : Type 0 where
     pub nodes : List ℤ
     pub at : Between nodes es order i
-    pub room : length nodes / 4 ≤ length marks
+    pub room : length nodes / nodeWidth ≤ length marks
     pub size : length marks ≡ length start
     pub swept : (ns : List ℤ) → Swept (graphOf ns es) start (at .before) marks
 
@@ -135,10 +136,10 @@ module _ (es : List ℤ) (order : List ℕ) where
 
   module _ {start marks : List ℕ} {i : ℕ} (p : Passed start marks i) where
     -- the order has a row for a turn, and the ends of its edge are nodes
-    pub turn-within : i < length es / 3 → (i < length order) × Ends (p .nodes) es (getD order i 0)
+    pub turn-within : i < length es / edgeWidth → (i < length order) × Ends (p .nodes) es (getD order i 0)
     turn-within h = turn-ends (p .nodes) es order (p .at) h
 
-    module _ (from to : ℕ) (h : i < length es / 3) (q : pos from ≡ edgeAt es (getD order i 0) .from) (r : pos to ≡ edgeAt es (getD order i 0) .to) where
+    module _ (from to : ℕ) (h : i < length es / edgeWidth) (q : pos from ≡ edgeAt es (getD order i 0) .from) (r : pos to ≡ edgeAt es (getD order i 0) .to) where
       -- both ends have a mark
       pub ends-within : (from < length marks) × (to < length marks)
       ends-within = let e = turn-within h .1 in (omega (arith, from-below e from q, p .room), omega (arith, to-below e to r, p .room))
@@ -166,6 +167,6 @@ module _ (es : List ℤ) (order : List ℕ) where
           (turn-to (p .nodes) es order (p .at) to h r) (p .swept ns) z)
 
     -- behind the last turn
-    pub pass-end : length es / 3 ≤ i → Spread es start marks
+    pub pass-end : length es / edgeWidth ≤ i → Spread es start marks
     unfolding graphOf
     pass-end h ns = swept-end (graphOf ns es) start (between-end (p .nodes) es order (p .at) h) (p .swept ns)

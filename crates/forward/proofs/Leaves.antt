@@ -24,7 +24,7 @@ module _ (column : ℕ) where
   nodeOf p = cond (eqb column 0) (p .spec) (p .impl)
 
   -- the node of the first row
-  column-first : column < 2 → (s m : ℤ) (ps : List ℤ) → columnAt column (s ∷ m ∷ ps) 0 ≡ cond (eqb column 0) s m
+  column-first : column < pairWidth → (s m : ℤ) (ps : List ℤ) → columnAt column (s ∷ m ∷ ps) 0 ≡ cond (eqb column 0) s m
   column-first h s m ps = go column h
     where
       go : (c : ℕ) → c < 2 → columnAt c (s ∷ m ∷ ps) 0 ≡ cond (eqb c 0) s m
@@ -39,7 +39,7 @@ module _ (column : ℕ) where
       ap (λ j. getD (s ∷ m ∷ ps) j (pos 0)) e
 
   -- the node of each row is one in the column
-  rows-in : column < 2 → (i : ℕ) (ps : List ℤ) (k : ℕ) → pairWidth * k + pairWidth ≤ length ps → columnAt column ps k ∈ map nodeOf (pairsFrom i ps)
+  rows-in : column < pairWidth → (i : ℕ) (ps : List ℤ) (k : ℕ) → pairWidth * k + pairWidth ≤ length ps → columnAt column ps k ∈ map nodeOf (pairsFrom i ps)
   unfolding pairsFrom
   rows-in h i [] k le = absurd (omega arith)
   rows-in h i (s ∷ []) k le = absurd (omega arith)
@@ -47,7 +47,7 @@ module _ (column : ℕ) where
   rows-in h i (s ∷ m ∷ ps) (suc k) le = rw (column-later s m ps k) (List·Memᴰ·tail (rows-in h (suc i) ps k (omega arith)))
 
   -- each node in the column is that of a row
-  rows-out : column < 2 → (i : ℕ) (ps : List ℤ) {v : ℤ} → v ∈ map nodeOf (pairsFrom i ps)
+  rows-out : column < pairWidth → (i : ℕ) (ps : List ℤ) {v : ℤ} → v ∈ map nodeOf (pairsFrom i ps)
       → (k : ℕ) × (pairWidth * k + pairWidth ≤ length ps) × (v ≡ columnAt column ps k)
   unfolding pairsFrom
   rows-out h i [] m = absurd (List·Memᴰ·not-nil m)
@@ -67,7 +67,7 @@ module _ (pairs : List ℤ) (column : ℕ) where
   RowsMarked marks k = Marking marks (InRows k)
 
   -- the node of a row has a mark
-  pub row-within : {marks : List ℕ} → Markable pairs column marks → (k : ℕ) → k < length pairs / 2 → Within (length marks) (columnAt column pairs k)
+  pub row-within : {marks : List ℕ} → Markable pairs column marks → (k : ℕ) → k < length pairs / pairWidth → Within (length marks) (columnAt column pairs k)
   row-within m k h = m .within (columnAt column pairs k) (rows-in column (m .inPair) 0 pairs k (omega arith))
 
   -- before the first row
@@ -92,7 +92,7 @@ module _ (pairs : List ℤ) (column : ℕ) where
       earlier v w false (failed n) = inr (r .each v .1 (w .0, omega (arith, w .1, n), w .2))
 
   -- behind the last row
-  pub rows-end : {marks : List ℕ} {k : ℕ} → column < 2 → k ≡ length pairs / 2 → RowsMarked marks k → Marking marks (λ v. v ∈ nodesIn column pairs)
+  pub rows-end : {marks : List ℕ} {k : ℕ} → column < pairWidth → k ≡ length pairs / pairWidth → RowsMarked marks k → Marking marks (λ v. v ∈ nodesIn column pairs)
   rows-end c e r =
       record {
         each = λ v. (

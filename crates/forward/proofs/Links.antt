@@ -12,7 +12,7 @@ use lib.Seq.{getD-set-same, getD-set-other}
 use Rattle.integers.specs.Integers.{eqZ}
 use Rattle.integers.proofs.Linear.{ints}
 use Rattle.integers.proofs.Tests.{Test, passed, failed, eqZ?, eq?, is-true, is-false, of-test, test-of}
-use Rattle.model.specs.Limits.{maxNodes, maxEdges}
+use Rattle.model.specs.Limits.{nodeWidth, edgeWidth, maxNodes, maxEdges}
 use Rattle.model.specs.Rows.{edgeRows}
 use Rattle.model.specs.Taken.{TakenTables}
 use Rattle.tables.specs.Tables.{edgeAt}
@@ -75,29 +75,29 @@ module _ (ns es : List ℤ) where
   firstFrom v k = firstRow (enters v) k (edgeRows es)
 
   -- row k, where it is an edge row
-  first-step : (v : ℤ) (k : ℕ) (t : Bool) → k < length es / 3 → enters v (edgeAt es k) ≡ t → firstFrom v k ≡ cond t k (firstFrom v (suc k))
+  first-step : (v : ℤ) (k : ℕ) (t : Bool) → k < length es / edgeWidth → enters v (edgeAt es k) ≡ t → firstFrom v k ≡ cond t k (firstFrom v (suc k))
   first-step v k t h e =
       firstRow-step (enters v) (edgeAt es k) k (edgeRows es) (omega (arith, edges-length es))
       ∙ ap (λ d. cond (enters v d) k (firstFrom v (suc k))) (edges-at es k (edgeAt es k) (omega arith))
       ∙ ap (λ s. cond s k (firstFrom v (suc k))) e
 
   -- it is the first that enters its own node
-  first-own : (v : ℤ) (k : ℕ) → k < length es / 3 → edgeAt es k .to ≡ v → firstFrom v k ≡ k
+  first-own : (v : ℤ) (k : ℕ) → k < length es / edgeWidth → edgeAt es k .to ≡ v → firstFrom v k ≡ k
   unfolding enters
   first-own v k h q = first-step v k true h (is-true (eqZ (edgeAt es k .to) v) (of-test (eqZ? (edgeAt es k .to) v) (λ n. n q)))
 
   -- and does not enter any other
-  first-other : (v : ℤ) (k : ℕ) → k < length es / 3 → edgeAt es k .to ≢ v → firstFrom v k ≡ firstFrom v (suc k)
+  first-other : (v : ℤ) (k : ℕ) → k < length es / edgeWidth → edgeAt es k .to ≢ v → firstFrom v k ≡ firstFrom v (suc k)
   unfolding enters
   first-other v k h n = first-step v k false h (is-false (eqZ (edgeAt es k .to) v) (λ t. n (test-of (eqZ? (edgeAt es k .to) v) t)))
 
   -- the state between two turns: rows k and on are passed
   pub record Linking (start plan : List ℕ) (k : ℕ) : Type 0 where
     pub tables : TakenTables ns es
-    pub within : k ≤ length es / 3
+    pub within : k ≤ length es / edgeWidth
     pub room : length plan ≡ planRoom
-    pub heads : (v : ℕ) → v < length ns / 4 → getD plan (headAt + v) 0 ≡ firstFrom (pos v) k
-    pub nexts : (e : ℕ) → k ≤ e → e < length es / 3 → getD plan (nextAt + e) 0 ≡ firstFrom (edgeAt es e .to) (suc e)
+    pub heads : (v : ℕ) → v < length ns / nodeWidth → getD plan (headAt + v) 0 ≡ firstFrom (pos v) k
+    pub nexts : (e : ℕ) → k ≤ e → e < length es / edgeWidth → getD plan (nextAt + e) 0 ≡ firstFrom (edgeAt es e .to) (suc e)
     pub same : SameBut headAt countAt start plan
 
   -- the state at a row written otherwise
@@ -105,29 +105,29 @@ module _ (ns es : List ℤ) where
   linking-at {start} {plan} k e s = subst (λ (j : ℕ). Linking start plan j) e s
 
   -- before the first turn every head is the number of edges
-  pub link-start : {old plan : List ℕ} → Linkable ns es old → HeadsSet (length ns / 4) (length es / 3) old plan → Linking plan plan (length es / 3)
+  pub link-start : {old plan : List ℕ} → Linkable ns es old → HeadsSet (length ns / nodeWidth) (length es / edgeWidth) old plan → Linking plan plan (length es / edgeWidth)
   link-start {plan = plan} c h =
       record {
         tables = c .tables;
         within = omega arith;
         room = h .same .size ∙ c .room;
         heads = λ v k.
-            h .each v k ∙ sym (firstRow-end (enters (pos v)) (length es / 3) (edgeRows es) (omega (arith, edges-length es)) ∙ edges-length es);
+            h .each v k ∙ sym (firstRow-end (enters (pos v)) (length es / edgeWidth) (edgeRows es) (omega (arith, edges-length es)) ∙ edges-length es);
         nexts = λ e k j. absurd (omega (arith, k, j));
         same = same-start headAt countAt plan;
       }
 
   module _ {start plan : List ℕ} {k : ℕ} (s : Linking start plan (suc k)) (to : ℕ) (q : pos to ≡ edgeAt es k .to) where
     -- the edge of a turn is a row, and it enters a node
-    row-within : (k < length es / 3) × (k < maxEdges)
+    row-within : (k < length es / edgeWidth) × (k < maxEdges)
     row-within = (omega (arith, s .within), omega (arith, s .within, s .tables .edges .few))
 
     -- nodes have their heads before the links
-    node-within : (v : ℕ) → v < length ns / 4 → v < maxNodes
+    node-within : (v : ℕ) → v < length ns / nodeWidth → v < maxNodes
     node-within v h = omega (arith, s .tables .nodes .few)
 
     -- so has the node that the edge enters
-    to-within : (to < length ns / 4) × (to < maxNodes)
+    to-within : (to < length ns / nodeWidth) × (to < maxNodes)
     to-within =
         let h = to-below (edge-ends ns es (s .tables) k (row-within .0)) to q in
         (h, node-within to h)
@@ -144,7 +144,7 @@ module _ (ns es : List ℤ) where
     headed = set linked (headAt + to) k
 
     -- the heads, by whether it is that of the node that the edge enters
-    head-at : (v : ℕ) → v < length ns / 4 → (t : Bool) → Test (v ≡ to) (v ≢ to) t → getD headed (headAt + v) 0 ≡ firstFrom (pos v) k
+    head-at : (v : ℕ) → v < length ns / nodeWidth → (t : Bool) → Test (v ≡ to) (v ≢ to) t → getD headed (headAt + v) 0 ≡ firstFrom (pos v) k
     head-at v h true (passed e) =
         rw e
         (getD-set-same linked (headAt + to) k 0 (omega (arith, link-within .0, length-set plan (nextAt + k) (getD plan (headAt + to) 0)))
@@ -156,7 +156,7 @@ module _ (ns es : List ℤ) where
         ∙ sym (first-other (pos v) k (row-within .0) (λ z. let y : pos to ≡ pos v = q ∙ z in n (omega (arith, ints, y))))
 
     -- the links, by whether it is that of the edge
-    next-at : (e : ℕ) → k ≤ e → e < length es / 3 → (t : Bool) → Test (e ≡ k) (e ≢ k) t → getD headed (nextAt + e) 0 ≡ firstFrom (edgeAt es e .to) (suc e)
+    next-at : (e : ℕ) → k ≤ e → e < length es / edgeWidth → (t : Bool) → Test (e ≡ k) (e ≢ k) t → getD headed (nextAt + e) 0 ≡ firstFrom (edgeAt es e .to) (suc e)
     next-at e h j t w = getD-set-other linked (headAt + to) (nextAt + e) k 0 (λ z. omega (arith, z, to-within)) ∙ go t w
       where
         go : (t : Bool) → Test (e ≡ k) (e ≢ k) t → getD (set plan (nextAt + k) (getD plan (headAt + to) 0)) (nextAt + e) 0 ≡ firstFrom (edgeAt es e .to) (suc e)
@@ -182,7 +182,7 @@ module _ (ns es : List ℤ) where
         }
 
   -- behind the last turn
-  pub link-end : {old start plan : List ℕ} → HeadsSet (length ns / 4) (length es / 3) old start → Linking start plan 0 → EnteringLinked ns es old plan
+  pub link-end : {old start plan : List ℕ} → HeadsSet (length ns / nodeWidth) (length es / edgeWidth) old start → Linking start plan 0 → EnteringLinked ns es old plan
   link-end h s =
       record {
         heads = λ v k. s .heads v (omega (arith, k, nodes-length ns));

@@ -13,6 +13,7 @@ use Rattle.integers.specs.Integers.{eqZ}
 use Rattle.integers.proofs.Linear.{ints}
 use Rattle.integers.proofs.Tests.{test-of, is-true, is-false, T-true, eqZ→eq, eqZ-refl}
 use Rattle.lists.specs.Lists.{any}
+use Rattle.model.specs.Limits.{nodeWidth}
 use Rattle.model.specs.Rows.{Edge}
 use Rattle.model.specs.Graph.{Graph, graphOf, NodeRow, node, space, segment, block}
 use Rattle.model.specs.Checks.{isRow, isRoot, isLeaf}
@@ -84,10 +85,10 @@ module _ (g : Graph) (v : ℤ) where
 
 -- a node row stands in the table at its place, and there its kind
 module _ (ns es : List ℤ) (row : ℕ) (test : isRow (graphOf ns es) (pos row) ≡ true) where
-  pub row-there : 4 * row + 4 ≤ length ns
+  pub row-there : nodeWidth * row + nodeWidth ≤ length ns
   row-there =
       let r : NodeRow (graphOf ns es) (pos row) = test-of (isRow? (graphOf ns es) (pos row)) (T-true (isRow (graphOf ns es) (pos row)) test) in
       omega (arith, ints, r .high, graph-nodes-length ns es)
 
-  pub row-kind : getD ns (4 * row) (pos 0) ≡ kindOf (graphOf ns es) (pos row)
+  pub row-kind : getD ns (nodeWidth * row) (pos 0) ≡ kindOf (graphOf ns es) (pos row)
   row-kind = sym (kind-row (graphOf ns es) (pos row) test ∙ ap (λ n. n .kind) (node-at ns es row row-there))

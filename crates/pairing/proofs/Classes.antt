@@ -246,16 +246,16 @@ module _ (ns es : List ℤ) (k : TakenTables ns es) where
   classes-room = record { tables = k; room = omega (arith, k .nodes .few, nodes-length ns, length-replicate maxNodes other) }
 
   -- there are as many classes as the code counts node rows, and no more than the limit
-  pub classes-size : {l : List ℕ} → l ≡ classesOf (graphOf ns es) → (length ns / 4 ≡ length l) × (length l ≤ maxNodes)
+  pub classes-size : {l : List ℕ} → l ≡ classesOf (graphOf ns es) → (length ns / nodeWidth ≡ length l) × (length l ≤ maxNodes)
   classes-size {l} e =
-      let size : length l ≡ length ns / 4 = ap length e ∙ classes-length ns es ∙ nodes-length ns in
+      let size : length l ≡ length ns / nodeWidth = ap length e ∙ classes-length ns es ∙ nodes-length ns in
       (sym size, omega (arith, size, k .nodes .few))
 
 -- what stands in front
-pub classes-front : (ns es : List ℤ) (old : List ℕ) → take (length ns / 4) (classesOver (graphOf ns es) old) ≡ classesOf (graphOf ns es)
+pub classes-front : (ns es : List ℤ) (old : List ℕ) → take (length ns / nodeWidth) (classesOver (graphOf ns es) old) ≡ classesOf (graphOf ns es)
 unfolding classesOver
 classes-front ns es old =
-    take-at (classesOf (graphOf ns es)) (drop (length (graphOf ns es .nodes)) old) (length ns / 4) (classes-length ns es ∙ nodes-length ns)
+    take-at (classesOf (graphOf ns es)) (drop (length (graphOf ns es .nodes)) old) (length ns / nodeWidth) (classes-length ns es ∙ nodes-length ns)
 
 -- ---- the classes, as they are asked
 

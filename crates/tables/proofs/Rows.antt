@@ -109,11 +109,11 @@ pub nodes-end : (ns : List ℤ) (i : ℕ) → length ns < nodeWidth * i + nodeWi
 nodes-end ns i h = nodes-short i (drop (nodeWidth * i) ns) (omega (arith, length-drop (nodeWidth * i) ns))
 
 -- the number of node rows
-pub nodes-length : (ns : List ℤ) → length (nodeRows ns) ≡ length ns / 4
-nodes-length ns = row-count nodesFrom nodeAt nodeWidth nodes-rest nodes-end ns (length ns / 4) (omega arith) (omega arith)
+pub nodes-length : (ns : List ℤ) → length (nodeRows ns) ≡ length ns / nodeWidth
+nodes-length ns = row-count nodesFrom nodeAt nodeWidth nodes-rest nodes-end ns (length ns / nodeWidth) (omega arith) (omega arith)
 
 -- the number of nodes of the graph
-pub graph-nodes-length : (ns es : List ℤ) → length (graphOf ns es .nodes) ≡ length ns / 4
+pub graph-nodes-length : (ns es : List ℤ) → length (graphOf ns es .nodes) ≡ length ns / nodeWidth
 unfolding graphOf
 graph-nodes-length ns es = nodes-length ns
 
@@ -127,13 +127,13 @@ unfolding node graphOf
 node-at ns es v h = nodes-at ns v h
 
 -- each node row is a member
-pub node-member : (ns : List ℤ) (v : ℕ) → v < length ns / 4 → nodeAt ns v ∈ nodeRows ns
-node-member ns v h = row-in nodesFrom nodeAt nodeWidth nodes-rest nodes-end ns (length ns / 4) (omega arith) (omega arith) v h
+pub node-member : (ns : List ℤ) (v : ℕ) → v < length ns / nodeWidth → nodeAt ns v ∈ nodeRows ns
+node-member ns v h = row-in nodesFrom nodeAt nodeWidth nodes-rest nodes-end ns (length ns / nodeWidth) (omega arith) (omega arith) v h
 
 -- each member is the node row at its own place
-pub node-own : (ns : List ℤ) {n : Node} → n ∈ nodeRows ns → (n .row < length ns / 4) × (n ≡ nodeAt ns (n .row))
+pub node-own : (ns : List ℤ) {n : Node} → n ∈ nodeRows ns → (n .row < length ns / nodeWidth) × (n ≡ nodeAt ns (n .row))
 node-own ns {n} m =
-    let w = row-out nodesFrom nodeAt nodeWidth nodes-rest nodes-end ns (length ns / 4) (omega arith) (omega arith) m in
+    let w = row-out nodesFrom nodeAt nodeWidth nodes-rest nodes-end ns (length ns / nodeWidth) (omega arith) (omega arith) m in
     let e : n .row ≡ w .0 = ap (λ x. x .row) (w .2) in
     (omega (arith, w .1), w .2 ∙ ap (nodeAt ns) (sym e))
 
@@ -163,20 +163,20 @@ pub edges-end : (es : List ℤ) (i : ℕ) → length es < edgeWidth * i + edgeWi
 edges-end es i h = edges-short i (drop (edgeWidth * i) es) (omega (arith, length-drop (edgeWidth * i) es))
 
 -- the number of edge rows
-pub edges-length : (es : List ℤ) → length (edgeRows es) ≡ length es / 3
-edges-length es = row-count edgesFrom edgeAt edgeWidth edges-rest edges-end es (length es / 3) (omega arith) (omega arith)
+pub edges-length : (es : List ℤ) → length (edgeRows es) ≡ length es / edgeWidth
+edges-length es = row-count edgesFrom edgeAt edgeWidth edges-rest edges-end es (length es / edgeWidth) (omega arith) (omega arith)
 
 -- edge row e is the row that stands at its place
 pub edges-at : (es : List ℤ) (e : ℕ) (d : Edge) → edgeWidth * e + edgeWidth ≤ length es → getD (edgeRows es) e d ≡ edgeAt es e
 edges-at es e d h = row-at edgesFrom edgeAt edgeWidth edges-rest edges-end es d e h
 
 -- each edge row is a member
-pub edge-member : (es : List ℤ) (e : ℕ) → e < length es / 3 → edgeAt es e ∈ edgeRows es
-edge-member es e h = row-in edgesFrom edgeAt edgeWidth edges-rest edges-end es (length es / 3) (omega arith) (omega arith) e h
+pub edge-member : (es : List ℤ) (e : ℕ) → e < length es / edgeWidth → edgeAt es e ∈ edgeRows es
+edge-member es e h = row-in edgesFrom edgeAt edgeWidth edges-rest edges-end es (length es / edgeWidth) (omega arith) (omega arith) e h
 
 -- each member is the edge row at its own place
-pub edge-own : (es : List ℤ) {e : Edge} → e ∈ edgeRows es → (e .row < length es / 3) × (e ≡ edgeAt es (e .row))
+pub edge-own : (es : List ℤ) {e : Edge} → e ∈ edgeRows es → (e .row < length es / edgeWidth) × (e ≡ edgeAt es (e .row))
 edge-own es {e} m =
-    let w = row-out edgesFrom edgeAt edgeWidth edges-rest edges-end es (length es / 3) (omega arith) (omega arith) m in
+    let w = row-out edgesFrom edgeAt edgeWidth edges-rest edges-end es (length es / edgeWidth) (omega arith) (omega arith) m in
     let p : e .row ≡ w .0 = ap (λ x. x .row) (w .2) in
     (omega (arith, w .1), w .2 ∙ ap (edgeAt es) (sym p))

@@ -3,7 +3,7 @@ use mathlib.Core.Path.{_≡_, _∙_}
 use Prim.Native.Nat.{suc, _+_, _-_, _/_, _≤_, _<_}
 use native.Mathlib.Omega.{arith}
 use lib.ListN.{length, getD, length-set}
-use Rattle.model.specs.Limits.{maxEdges}
+use Rattle.model.specs.Limits.{edgeWidth, maxEdges}
 use Rattle.reach.proofs.Ends.{Ends}
 use Rattle.forward.specs.Forward.{countAt, planRoom}
 use Rattle.forward.proofs.Kept.{order-within, order-ends, order-marked, Keeping, keeping-at, keeping-long, keep-start, keep-few, keep-marked, keep-over, keep-end}
@@ -21,7 +21,7 @@ abbrev start : tie.At-loop Inv-loop μ-loop → tie.Start Inv-loop μ-loop
 start l = l .before .before .before .before
 
 -- the order has a row for a turn
-turn-row : (k : tie.In-loop Inv-loop μ-loop) → k .before .loop .i - 1 < length (start (k .before) .args .edges .now) / 3
+turn-row : (k : tie.In-loop Inv-loop μ-loop) → k .before .loop .i - 1 < length (start (k .before) .args .edges .now) / edgeWidth
 turn-row k = omega (arith, k .loop-test .taken, k .before .loop .inv .within)
 
 -- the ends of its edge are nodes

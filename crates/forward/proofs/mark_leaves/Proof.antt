@@ -4,6 +4,7 @@ use Prim.Native.Nat.{_-_, _/_, _≤_, _<_}
 use native.Mathlib.Omega.{arith}
 use lib.ListN.{length, length-set}
 use Rattle.integers.proofs.Linear.{ints}
+use Rattle.model.specs.Limits.{pairWidth}
 use Rattle.depth.specs.Passes.{Within}
 use Rattle.forward.specs.Passes.{columnAt}
 use Rattle.forward.proofs.Leaves.{RowsMarked, row-within, rows-start, rows-next, rows-end}
@@ -11,7 +12,7 @@ use Rattle.forward.proofs.mark_leaves.Statement.{statement}
 use Rattle.forward.proofs.mark_leaves.Tie as tie
 
 abbrev Inv-loop : tie.InvT-loop
-Inv-loop pairs column marks₀ count k₀ marks k = (k ≤ length pairs / 2) × (length marks ≡ length marks₀) × RowsMarked pairs column marks k
+Inv-loop pairs column marks₀ count k₀ marks k = (k ≤ length pairs / pairWidth) × (length marks ≡ length marks₀) × RowsMarked pairs column marks k
 
 abbrev μ-loop : tie.MeasureT-loop
 μ-loop pairs column marks₀ count k₀ marks k = count - k

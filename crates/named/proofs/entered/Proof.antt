@@ -10,6 +10,7 @@ use mir.Val.{SFits, toZ}
 use mir.Facts.{toZ-ofZ}
 use Rattle.integers.specs.Integers.{eqZ}
 use Rattle.lists.specs.Lists.{any}
+use Rattle.model.specs.Limits.{edgeWidth}
 use Rattle.model.specs.Rows.{Edge, edgesFrom, edgeRows}
 use Rattle.tables.specs.Tables.{edgeAt}
 use Rattle.tables.proofs.Rows.{edges-rest, edges-end}
@@ -19,8 +20,8 @@ use Rattle.named.proofs.entered.Tie as tie
 
 abbrev Inv-loop : tie.InvT-loop
 Inv-loop edges v e₀ e =
-    (3 * e ≤ length edges)
-    × (any (λ (d : Edge). eqZ (d .to) (toZ w64 v)) (edgeRows edges) ≡ any (λ (d : Edge). eqZ (d .to) (toZ w64 v)) (edgesFrom e (drop (3 * e) edges)))
+    (edgeWidth * e ≤ length edges)
+    × (any (λ (d : Edge). eqZ (d .to) (toZ w64 v)) (edgeRows edges) ≡ any (λ (d : Edge). eqZ (d .to) (toZ w64 v)) (edgesFrom e (drop (edgeWidth * e) edges)))
 
 abbrev μ-loop : tie.MeasureT-loop
 μ-loop edges v e₀ e = length edges - e
@@ -28,7 +29,7 @@ abbrev μ-loop : tie.MeasureT-loop
 -- the invariant, of the number itself and not of its bits
 left : (c : tie.At-loop Inv-loop μ-loop) → let a = c .before .args in
     any (λ (d : Edge). eqZ (d .to) (a .v)) (edgeRows (a .edges .now))
-    ≡ any (λ (d : Edge). eqZ (d .to) (a .v)) (edgesFrom (c .loop .e) (drop (3 * c .loop .e) (a .edges .now)))
+    ≡ any (λ (d : Edge). eqZ (d .to) (a .v)) (edgesFrom (c .loop .e) (drop (edgeWidth * c .loop .e) (a .edges .now)))
 left c = simp (toZ-ofZ, c .before .fits .v) at (c .loop .inv .1)
 
 to-fits : (c : tie.After-to Inv-loop μ-loop) → SFits w64 (edgeAt (c .before .before .before .args .edges .now) (c .before .before .loop .e) .to)

@@ -12,6 +12,7 @@ use mir.Syntax.{w64}
 use mir.Val.{toZ, ofZ}
 use mir.Facts.{toZ-ofZ}
 use Rattle.integers.proofs.Tests.{test-of, T-true}
+use Rattle.model.specs.Limits.{nodeWidth}
 use Rattle.model.specs.Graph.{graphOf}
 use Rattle.model.specs.Checks.{isRow}
 use Rattle.model.proofs.GraphChecks.{isRow?}
@@ -42,7 +43,7 @@ row-passes : (c : tie.Then1) (es : List ℤ) → let a = c .before .before .args
 row-passes c es =
     ap (isRow (graphOf (c .before .before .args .nodes .now) es)) (row-same c) ∙ sym (row-told (c .before) es) ∙ c .if1 .taken
 
-there : (c : tie.Then1) → let a = c .before .before .args in 4 * natAbs (toZ w64 (ofZ w64 (a .v))) + 4 ≤ length (a .nodes .now)
+there : (c : tie.Then1) → let a = c .before .before .args in nodeWidth * natAbs (toZ w64 (ofZ w64 (a .v))) + nodeWidth ≤ length (a .nodes .now)
 there c = let a = c .before .before .args in row-there (a .nodes .now) [] (natAbs (toZ w64 (ofZ w64 (a .v)))) (row-passes c [])
 
 cast-row : tie.Need-cast-row

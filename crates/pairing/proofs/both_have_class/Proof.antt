@@ -8,6 +8,7 @@ use lib.ListN.{getD}
 use mir.Syntax.{w64}
 use mir.Val.{SFits}
 use mir.Facts.{toZ-ofZ}
+use Rattle.model.specs.Limits.{pairWidth}
 use Rattle.pairing.specs.Classes.{hasClass}
 use Rattle.pairing.specs.Pairs.{pairAt}
 use Rattle.pairing.proofs.both_have_class.Statement.{statement}
@@ -17,14 +18,14 @@ spec-test : (c : tie.After-has-class) → let a = c .before .before .before .bef
     hasClass (a .spec-class .now) (a .wanted) (pairAt (a .pairs .now) (a .k) .spec) ≡ c .has-class .result
 spec-test c =
     let a = c .before .before .before .before .args in
-    let f : SFits w64 (getD (a .pairs .now) (2 * a .k) (pos 0)) = sfits-of {w = w64} (c .before .has-class-arg .given) in
+    let f : SFits w64 (getD (a .pairs .now) (pairWidth * a .k) (pos 0)) = sfits-of {w = w64} (c .before .has-class-arg .given) in
     sym (simp (toZ-ofZ, f) at (c .has-class .ensures))
 
 impl-test : (c : tie.After-has-class2) → let a = c .before .before .before .before .before .before .before .args in
     hasClass (a .impl-class .now) (a .wanted) (pairAt (a .pairs .now) (a .k) .impl) ≡ c .has-class2 .result
 impl-test c =
     let a = c .before .before .before .before .before .before .before .args in
-    let f : SFits w64 (getD (a .pairs .now) (2 * a .k + 1) (pos 0)) = sfits-of {w = w64} (c .before .has-class-arg2 .given) in
+    let f : SFits w64 (getD (a .pairs .now) (pairWidth * a .k + 1) (pos 0)) = sfits-of {w = w64} (c .before .has-class-arg2 .given) in
     sym (simp (toZ-ofZ, f) at (c .has-class2 .ensures))
 
 returns : tie.Need-returns

@@ -3,6 +3,7 @@ use mathlib.Core.Path.{_≡_, sym, ap, _∙_}
 use Prim.Native.Nat.{_/_}
 use borrow.Author.Needs.{needs}
 use lib.ListN.{length, take}
+use Rattle.model.specs.Limits.{nodeWidth}
 use Rattle.model.specs.Graph.{graphOf}
 use Rattle.model.specs.Answers.{checkedAnswer}
 use Rattle.tables.proofs.Checks.{checked, then-on, then-stops}
@@ -14,16 +15,16 @@ use Rattle.pairing.proofs.check_pairing.Statement.{statement}
 use Rattle.pairing.proofs.check_pairing.Tie as tie
 
 spec-found : (c : tie.After-classify) → let a = c .before .before .before .before .before .args in
-    take (length (a .spec-nodes .now) / 4) (c .classify .last .1 .1 .0) ≡ classesOf (graphOf (a .spec-nodes .now) (a .spec-edges .now))
+    take (length (a .spec-nodes .now) / nodeWidth) (c .classify .last .1 .1 .0) ≡ classesOf (graphOf (a .spec-nodes .now) (a .spec-edges .now))
 spec-found c =
     let a = c .before .before .before .before .before .args in
-    ap (take (length (a .spec-nodes .now) / 4)) (c .classify .ensures) ∙ classes-front (a .spec-nodes .now) (a .spec-edges .now) _
+    ap (take (length (a .spec-nodes .now) / nodeWidth)) (c .classify .ensures) ∙ classes-front (a .spec-nodes .now) (a .spec-edges .now) _
 
 impl-found : (c : tie.After-classify2) → let a = c .before .before .before .before .before .before .before .before .args in
-    take (length (a .impl-nodes .now) / 4) (c .classify2 .last .1 .1 .0) ≡ classesOf (graphOf (a .impl-nodes .now) (a .impl-edges .now))
+    take (length (a .impl-nodes .now) / nodeWidth) (c .classify2 .last .1 .1 .0) ≡ classesOf (graphOf (a .impl-nodes .now) (a .impl-edges .now))
 impl-found c =
     let a = c .before .before .before .before .before .before .before .before .args in
-    ap (take (length (a .impl-nodes .now) / 4)) (c .classify2 .ensures) ∙ classes-front (a .impl-nodes .now) (a .impl-edges .now) _
+    ap (take (length (a .impl-nodes .now) / nodeWidth)) (c .classify2 .ensures) ∙ classes-front (a .impl-nodes .now) (a .impl-edges .now) _
 
 returns : tie.Need-returns
 returns c =

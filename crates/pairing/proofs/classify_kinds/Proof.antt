@@ -9,13 +9,14 @@ use lib.ListN.{length, getD, set, length-set}
 use mir.Syntax.{w64}
 use mir.Val.{SFits}
 use mir.Facts.{toZ-ofZ}
+use Rattle.model.specs.Limits.{nodeWidth}
 use Rattle.tables.proofs.Rows.{nodes-length}
 use Rattle.pairing.proofs.Classes.{kindsUpTo, kinds-more, kinds-all}
 use Rattle.pairing.proofs.classify_kinds.Statement.{statement}
 use Rattle.pairing.proofs.classify_kinds.Tie as tie
 
 abbrev Inv-loop : tie.InvT-loop
-Inv-loop nodes class₀ v₀ class v = (4 * v ≤ length nodes) × (length class ≡ length class₀) × (class ≡ kindsUpTo nodes class₀ v)
+Inv-loop nodes class₀ v₀ class v = (nodeWidth * v ≤ length nodes) × (length class ≡ length class₀) × (class ≡ kindsUpTo nodes class₀ v)
 
 abbrev μ-loop : tie.MeasureT-loop
 μ-loop nodes class₀ v₀ class v = length nodes - v
@@ -66,7 +67,7 @@ loop-again : tie.Need-loop-again Inv-loop μ-loop
 loop-again c =
     let l = c .before .before .before in
     let a = l .before .before .args in
-    let f : SFits w64 (getD (a .nodes .now) (4 * l .loop .v) (pos 0)) = sfits-of {w = w64} (c .before .kind-class-arg .given) in (
+    let f : SFits w64 (getD (a .nodes .now) (nodeWidth * l .loop .v) (pos 0)) = sfits-of {w = w64} (c .before .kind-class-arg .given) in (
       omega arith,
       length-set (l .loop .class) (l .loop .v) (c .kind-class .result) ∙ l .loop .inv .1,
       rw add-one

@@ -5,6 +5,7 @@ use native.Mathlib.Numerals.{add-one}
 use native.Mathlib.Omega.{arith}
 use lib.ListN.{length, drop, length-set}
 use Rattle.integers.proofs.Linear.{ints}
+use Rattle.model.specs.Limits.{edgeWidth}
 use Rattle.model.specs.Rows.{edgesFrom, edgeRows}
 use Rattle.pairing.specs.Classes.{enteredBy}
 use Rattle.pairing.proofs.Classes.{entered-next, entered-end}
@@ -13,9 +14,9 @@ use Rattle.pairing.proofs.enter_edges.Tie as tie
 
 abbrev Inv-loop : tie.InvT-loop
 Inv-loop edges class₀ e₀ class e =
-    (3 * e ≤ length edges)
+    (edgeWidth * e ≤ length edges)
     × (length class ≡ length class₀)
-    × (enteredBy (edgeRows edges) class₀ ≡ enteredBy (edgesFrom e (drop (3 * e) edges)) class)
+    × (enteredBy (edgeRows edges) class₀ ≡ enteredBy (edgesFrom e (drop (edgeWidth * e) edges)) class)
 
 abbrev μ-loop : tie.MeasureT-loop
 μ-loop edges class₀ e₀ class e = length edges - e

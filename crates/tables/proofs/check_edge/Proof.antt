@@ -13,6 +13,7 @@ use mir.Syntax.{w64}
 use mir.Val.{SFits}
 use Rattle.integers.specs.Integers.{eqZ}
 use Rattle.integers.proofs.Linear.{ints}
+use Rattle.model.specs.Limits.{nodeWidth}
 use Rattle.model.specs.Graph.{graphOf, NodeRow, node, block}
 use Rattle.model.specs.Checks.{goodEdge}
 use Rattle.tables.specs.Tables.{edgeAt}
@@ -39,20 +40,20 @@ from-row : (c : tie.Else1) → let a = c .before .before .before .args in
     NodeRow (graphOf (a .nodes .now) (a .edges .now)) (edgeAt (a .edges .now) (a .e) .from)
 from-row c = edge-from-row _ _ (row-good c)
 
-from-there : (c : tie.After-edge-from) → 4 * c .edge-from .result + 4 ≤ length (c .before .before .before .before .args .nodes .now)
+from-there : (c : tie.After-edge-from) → nodeWidth * c .edge-from .result + nodeWidth ≤ length (c .before .before .before .before .args .nodes .now)
 from-there c =
     let a = c .before .before .before .before .args in
     omega (arith, ints, c .edge-from .ensures, from-row (c .before) .high, graph-nodes-length (a .nodes .now) (a .edges .now))
 
 kind-same : (c : tie.After-edge-from) → let a = c .before .before .before .before .args in
-    node (graphOf (a .nodes .now) (a .edges .now)) (edgeAt (a .edges .now) (a .e) .from) .kind ≡ getD (a .nodes .now) (4 * c .edge-from .result) (pos 0)
+    node (graphOf (a .nodes .now) (a .edges .now)) (edgeAt (a .edges .now) (a .e) .from) .kind ≡ getD (a .nodes .now) (nodeWidth * c .edge-from .result) (pos 0)
 kind-same c =
     let a = c .before .before .before .before .args in
     let g = graphOf (a .nodes .now) (a .edges .now) in
     ap (λ v. node g v .kind) (sym (c .edge-from .ensures)) ∙ ap (λ n. n .kind) (node-at (a .nodes .now) (a .edges .now) (c .edge-from .result) (from-there c))
 
 kind-fits : (c : tie.After-kind)
-    → SFits w64 (getD (c .before .before .before .before .before .args .nodes .now) (4 * c .before .edge-from .result) (pos 0))
+    → SFits w64 (getD (c .before .before .before .before .before .args .nodes .now) (nodeWidth * c .before .edge-from .result) (pos 0))
 kind-fits c = sfits-of {w = w64} (c .kind .given)
 
 returns : tie.Need-returns

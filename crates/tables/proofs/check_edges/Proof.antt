@@ -5,6 +5,7 @@ use native.Mathlib.Numerals.{add-one}
 use native.Mathlib.Omega.{arith}
 use borrow.Author.Needs.{needs}
 use lib.ListN.{length, drop}
+use Rattle.model.specs.Limits.{edgeWidth}
 use Rattle.model.specs.Rows.{edgesFrom, edgeRows}
 use Rattle.model.specs.Graph.{graphOf}
 use Rattle.model.specs.Checks.{checkEdge}
@@ -15,7 +16,7 @@ use Rattle.tables.proofs.check_edges.Statement.{statement}
 use Rattle.tables.proofs.check_edges.Tie as tie
 
 abbrev Inv-loop : tie.InvT-loop
-Inv-loop nodes edges table e₀ e = (3 * e ≤ length edges) × Left (checkEdge table (graphOf nodes edges)) (edgeRows edges) (edgesFrom e (drop (3 * e) edges))
+Inv-loop nodes edges table e₀ e = (edgeWidth * e ≤ length edges) × Left (checkEdge table (graphOf nodes edges)) (edgeRows edges) (edgesFrom e (drop (edgeWidth * e) edges))
 
 abbrev μ-loop : tie.MeasureT-loop
 μ-loop nodes edges table e₀ e = length edges - e

@@ -5,6 +5,7 @@ use native.Mathlib.Numerals.{add-one}
 use native.Mathlib.Omega.{arith}
 use borrow.Author.Needs.{needs}
 use lib.ListN.{length, drop}
+use Rattle.model.specs.Limits.{nodeWidth}
 use Rattle.model.specs.Rows.{nodesFrom, nodeRows}
 use Rattle.model.specs.Checks.{checkNode}
 use Rattle.model.specs.Answers.{checkedAnswer}
@@ -14,7 +15,7 @@ use Rattle.tables.proofs.check_nodes.Statement.{statement}
 use Rattle.tables.proofs.check_nodes.Tie as tie
 
 abbrev Inv-loop : tie.InvT-loop
-Inv-loop nodes table v₀ v = (4 * v ≤ length nodes) × Left (checkNode table) (nodeRows nodes) (nodesFrom v (drop (4 * v) nodes))
+Inv-loop nodes table v₀ v = (nodeWidth * v ≤ length nodes) × Left (checkNode table) (nodeRows nodes) (nodesFrom v (drop (nodeWidth * v) nodes))
 
 abbrev μ-loop : tie.MeasureT-loop
 μ-loop nodes table v₀ v = length nodes - v

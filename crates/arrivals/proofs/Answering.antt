@@ -32,7 +32,7 @@ use Rattle.reach.specs.Counting.{pathCount}
 use Rattle.entering.proofs.Counts.{count-way}
 use Rattle.sorting.specs.Rows.{rowsOf, sorted}
 use Rattle.normalisation.specs.Merging.{sortedByDisplacement}
-use Rattle.forward.specs.Forward.{passedCount, passedOf}
+use Rattle.forward.specs.Forward.{plannedCount, plannedOf}
 use Rattle.references.specs.References.{Reference, Brings, shifted, InOwner, recordsAt}
 use Rattle.references.proofs.Bringing.{shifted-brings}
 use Rattle.entering.specs.Entering.{Covered}
@@ -45,10 +45,10 @@ use Rattle.arrivals.proofs.Settled.{not-both, covered-way, settled}
 use Rattle.arrivals.proofs.Making.{made-few}
 
 -- all edges of a plan are its first ones
-passed-all : (es : List ℤ) (plan : List ℕ) → doneOf es plan (passedCount plan) ≡ passedOf es plan
+passed-all : (es : List ℤ) (plan : List ℕ) → doneOf es plan (plannedCount plan) ≡ plannedOf es plan
 passed-all es plan =
-    let front = take (passedCount plan) plan in
-    take-all (passedCount plan) (passedOf es plan) (omega (arith, length-map front (edgeAt es), length-take (passedCount plan) plan))
+    let front = take (plannedCount plan) plan in
+    take-all (plannedCount plan) (plannedOf es plan) (omega (arith, length-map front (edgeAt es), length-take (plannedCount plan) plan))
 
 -- what the mark of a leaf brings, with bit addresses that count from the leaf's first bit
 abbrev pub leafPart : List ℤ → List ℤ → ℕ → List ℤ → Reference
@@ -63,7 +63,7 @@ module _ {ns es : List ℤ} {plan : List ℕ} {leaf : ℕ} {s spare : List ℤ} 
   leaf-good = node-good (o .state .state .tables) (o .block .row)
 
   -- all edges that enter it are passed
-  leaf-covered : Covered es (doneOf es plan (passedCount plan)) (pos leaf)
+  leaf-covered : Covered es (doneOf es plan (plannedCount plan)) (pos leaf)
   leaf-covered = subst (λ (done : List Edge). Covered es done (pos leaf)) (sym (passed-all es plan)) (o .covered)
 
   -- what arrives there is what its mark brings
@@ -105,7 +105,7 @@ module _ {ns es : List ℤ} {plan : List ℕ} {leaf : ℕ} {s spare : List ℤ} 
 
   module _ (met : isMet s leaf ≡ true) where
     -- its mark
-    mark : RightMark (graphOf ns es) (rootIn s) (doneOf es plan (passedCount plan)) s leaf
+    mark : RightMark (graphOf ns es) (rootIn s) (doneOf es plan (plannedCount plan)) s leaf
     mark = o .state .state .marks leaf leaf-number
 
     inOwner : InOwner (graphOf ns es) (referenceAt s leaf)
@@ -189,7 +189,7 @@ module _ {ns es : List ℤ} {plan : List ℕ} {leaf : ℕ} {s spare : List ℤ} 
           subst (λ (e : Reference). Makeable ns es plan e s spare) (sym read)
           record {
             gatherable = record {
-              passed = passedCount plan;
+              passed = plannedCount plan;
               sweeping = w;
               inOwner = part-lying;
               met = mark .owner met;

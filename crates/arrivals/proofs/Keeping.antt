@@ -27,7 +27,7 @@ use Rattle.references.specs.References.{Reference, own, Brings, InOwner, record
 use Rattle.references.proofs.Bringing.{own-brings, own-lying}
 use Rattle.entering.specs.Entering.{Covered}
 use Rattle.arrivals.specs.declared.Placed.{Placed}
-use Rattle.arrivals.specs.State.{Mark, markNumber, markAt, setMark, marked, isMet, referenceAt, isListed, placeOf, countOf, usedAt, rootAt, arenaRow, keptRows, stateRoom, usedIn, rootIn, Agree}
+use Rattle.arrivals.specs.State.{Mark, markNumber, markAt, setMark, marked, isMet, referenceAt, isListed, placeOf, countOf, usedAt, rootAt, arenaRow, arenaRows, stateRoom, usedIn, rootIn, Agree}
 use Rattle.arrivals.specs.Sweep.{HasSome, doneOf, Listed, Sweeping, Makeable, Made}
 use Rattle.arrivals.specs.Moves.{Storable, storing, Ownable, ListMade}
 use Rattle.arrivals.proofs.Relisting.{row-number, number-row, listed-moved, Relisted, relisted-met, relisted-sweeping}
@@ -96,7 +96,7 @@ module _ (s : List ℤ) (v : ℕ) (m : Mark) (row : v < maxNodes) (room : length
 -- a node that is its own owner and has no list is given a mark with the same reference: the state keeps all but the list
 module _ {ns es : List ℤ} {plan : List ℕ} {i v used : ℕ} {s t : List ℤ} {m : Mark} (w : Sweeping ns es plan i s) (c : Remarked v m used s t)
     (reference : referenceAt s v ≡ record { owner = m .owner; delta = m .delta; low = m .low; high = m .high }) (unlisted : isListed s v ≡ false)
-    (more : usedIn s ≤ used) (room : used ≤ arenaRow + keptRows)
+    (more : usedIn s ≤ used) (room : used ≤ arenaRow + arenaRows)
     (list : leZ (pos 0) (m .place) ≡ true → Listed (graphOf ns es) (rootIn s) t v)
   where
     -- what is so of v, and of the other nodes with the mark that they had, is so of all
@@ -230,7 +230,7 @@ module _ {ns es : List ℤ} {plan : List ℕ} {v : ℕ} {s spare : List ℤ} (o 
 
       -- the list is stored where there is room
       pub keeping-kept : isListed s v ≡ false → ListMade ns es plan v s (storing (own (graphOf ns es) (pos v)) v (p .row) (p .count) u)
-      keeping-kept unlisted = go (ltb (arenaRow + keptRows) (p .row + p .count)) (ltb? (arenaRow + keptRows) (p .row + p .count))
+      keeping-kept unlisted = go (ltb (arenaRow + arenaRows) (p .row + p .count)) (ltb? (arenaRow + arenaRows) (p .row + p .count))
         where
           row : v < maxNodes
           row = rows-few (o .sweeping .tables) (o .row)
@@ -250,7 +250,7 @@ module _ {ns es : List ℤ} {plan : List ℕ} {v : ℕ} {s spare : List ℤ} (o 
           number : getD u usedAt (pos 0) ≡ pos (p .row)
           number = q .agrees .same usedAt (omega (arith, low)) ∙ sym (ap pos (q .at) ∙ o .sweeping .usedNumber)
 
-          go : (b : Bool) → Test (arenaRow + keptRows < p .row + p .count) (p .row + p .count ≤ arenaRow + keptRows) b
+          go : (b : Bool) → Test (arenaRow + arenaRows < p .row + p .count) (p .row + p .count ≤ arenaRow + arenaRows) b
               → ListMade ns es plan v s (cond b (setMark u v (marked (own (graphOf ns es) (pos v)) (negsuc 1) (pos 0)))
               (set (setMark u v (marked (own (graphOf ns es) (pos v)) (pos (p .row)) (pos (p .count)))) usedAt (pos (p .row + p .count))))
           go true (passed h) =

@@ -15,7 +15,7 @@ use Rattle.steps.specs.Steps.{GoodRow}
 use Rattle.steps.proofs.Rows.{node-good, edge-in}
 use Rattle.references.specs.declared.Reference.{Reference as Held}
 use Rattle.references.specs.References.{Reference, referenceOf, own, through, unlessNone, sameReference}
-use Rattle.arrivals.specs.State.{arenaRow, keptRows, usedAt, rootAt, setMark, marked, isMet, referenceAt}
+use Rattle.arrivals.specs.State.{arenaRow, arenaRows, usedAt, rootAt, setMark, marked, isMet, referenceAt}
 use Rattle.arrivals.specs.Moves.{Crossable, crossing, meeting, storing, begun}
 
 -- the owner of all that arrives at v is v
@@ -64,17 +64,17 @@ module _ (s : List ℤ) (v : ℕ) (all f : Reference) (rows : ℤ) where
 
 module _ (all : Reference) (v used k : ℕ) (s : List ℤ) where
   -- rows that do not fit are not kept
-  pub storing-full : arenaRow + keptRows < used + k → storing all v used k s ≡ setMark s v (marked all (negsuc 1) (pos 0))
-  storing-full h = rw (lt-ltb (arenaRow + keptRows) (used + k) h)
+  pub storing-full : arenaRow + arenaRows < used + k → storing all v used k s ≡ setMark s v (marked all (negsuc 1) (pos 0))
+  storing-full h = rw (lt-ltb (arenaRow + arenaRows) (used + k) h)
 
   -- rows that fit are
-  pub storing-kept : used + k ≤ arenaRow + keptRows
+  pub storing-kept : used + k ≤ arenaRow + arenaRows
       → storing all v used k s ≡ set (setMark s v (marked all (pos used) (pos k))) usedAt (pos (used + k))
-  storing-kept h = rw (le-ltb (arenaRow + keptRows) (used + k) h)
+  storing-kept h = rw (le-ltb (arenaRow + arenaRows) (used + k) h)
 
   -- as they are stored number by number
   pub rows-stored : {t : List ℤ} {held : Reference} {place count behind : ℤ} → t ≡ setMark s v (marked held place count) → held ≡ all → place ≡ pos used
-      → count ≡ pos k → behind ≡ pos (used + k) → used + k ≤ arenaRow + keptRows → set t usedAt behind ≡ storing all v used k s
+      → count ≡ pos k → behind ≡ pos (used + k) → used + k ≤ arenaRow + arenaRows → set t usedAt behind ≡ storing all v used k s
   rows-stored m a p c b h = cc (storing-kept h)
 
 -- ---- the root

@@ -36,7 +36,7 @@ use Rattle.reach.proofs.Counting.{count-leaf}
 use Rattle.entering.proofs.Counts.{count-edge}
 use Rattle.entering.proofs.Walks.{walk-root}
 use Rattle.entering.proofs.Ways.{way-onward, way-back}
-use Rattle.forward.specs.Forward.{passedCount, passedOf}
+use Rattle.forward.specs.Forward.{plannedCount, plannedOf}
 use Rattle.references.specs.References.{Reference, own, Brings, through, isNone, unlessNone, InOwner, SmallReference, sameReference, recordsAt}
 use Rattle.references.proofs.Bringing.{through-brings, none-brings, through-lying, through-inside, own-lying, lying-small, same-reference-is}
 use Rattle.arrivals.specs.State.{markWidth, Mark, markNumber, markAt, setMark, marked, usedAt, rootAt, arenaRow, stateRoom, isMet, referenceAt, placeOf, countOf, usedIn, rootIn}
@@ -182,7 +182,7 @@ marked-stored {g} {r} {done} s to f rows low room inOwner inside owned way itsel
 abbrev pub nextEdge : List ℤ → List ℕ → ℕ → Edge
 nextEdge es plan i = edgeAt es (getD plan i 0)
 
-module _ {ns es : List ℤ} {plan : List ℕ} {i : ℕ} {s : List ℤ} (w : Sweeping ns es plan i s) (there : i < passedCount plan) where
+module _ {ns es : List ℤ} {plan : List ℕ} {i : ℕ} {s : List ℤ} (w : Sweeping ns es plan i s) (there : i < plannedCount plan) where
   -- its row is there
   pub next-row : edgeWidth * getD plan i 0 + edgeWidth ≤ length es
   next-row = omega (arith, w .planned .there i there, edges-length es)
@@ -469,7 +469,7 @@ meeting-root s to all f rows low = go (isMet s to) (sameReference (referenceAt s
 
 -- ---- the next edge as the code reads it
 
-module _ {ns es : List ℤ} {plan : List ℕ} {i : ℕ} {s : List ℤ} (w : Sweeping ns es plan i s) (there : i < passedCount plan) where
+module _ {ns es : List ℤ} {plan : List ℕ} {i : ℕ} {s : List ℤ} (w : Sweeping ns es plan i s) (there : i < plannedCount plan) where
   module _ {e : ℕ} (row : e ≡ getD plan i 0) where
     -- its numbers are there, and the nodes that it joins are no negative numbers
     pub next-readable : (edgeWidth * e + edgeWidth ≤ length es) × (pos 0 ≤ℤ edgeAt es e .from) × (pos 0 ≤ℤ edgeAt es e .to)
@@ -508,8 +508,8 @@ module _ {ns es : List ℤ} {plan : List ℕ} {i : ℕ} {s : List ℤ} (w : Swee
           ∙ ap (λ (k : ℕ). crossing g (edgeAt es k) (own g (nextEdge es plan i .to)) s) row)
 
   -- it stands in the plan
-  next-passed : nextEdge es plan i ∈ passedOf es plan
-  next-passed = front-in (i + 1) (passedOf es plan) (done-next w there (nextEdge es plan i) .1 (inr refl))
+  next-passed : nextEdge es plan i ∈ plannedOf es plan
+  next-passed = front-in (i + 1) (plannedOf es plan) (done-next w there (nextEdge es plan i) .1 (inr refl))
 
   -- a list may be made of the node that it leaves: no more paths lead there than to the node that it enters
   pub next-ownable : {from : ℕ} {spare : List ℤ} → pos from ≡ nextEdge es plan i .from → isMet s from ≡ true → 3 * maxPaths ≤ length spare

@@ -20,7 +20,7 @@ use Rattle.reach.specs.Counting.{pathCount}
 use Rattle.sorting.specs.Rows.{Ascending}
 use Rattle.normalisation.specs.Merging.{byDisplacement}
 use Rattle.references.specs.References.{Reference, Brings, InOwner, recordsAt}
-use Rattle.arrivals.specs.State.{markNumber, isMet, referenceAt, isListed, placeOf, countOf, usedAt, arenaRow, keptRows, usedIn, rootIn}
+use Rattle.arrivals.specs.State.{markNumber, isMet, referenceAt, isListed, placeOf, countOf, usedAt, arenaRow, arenaRows, usedIn, rootIn}
 use Rattle.arrivals.specs.Sweep.{HasSome, doneOf, Came, Listed, RightMark, Sweeping}
 
 -- ---- node rows
@@ -63,7 +63,7 @@ pub record Relisted (ns es : List ℤ) (s t : List ℤ) : Type 0 where
   pub references : (v : ℕ) → v < length (nodeRows ns) → referenceAt t v ≡ referenceAt s v
   pub usedNumber : pos (usedIn t) ≡ getD t usedAt (pos 0)
   pub usedLow : arenaRow ≤ usedIn t
-  pub usedHigh : usedIn t ≤ arenaRow + keptRows
+  pub usedHigh : usedIn t ≤ arenaRow + arenaRows
   pub rootListed : (r : ℕ) → pos r ≡ rootIn s → isListed t r ≡ true
   pub listed : (v : ℕ) → v < length (nodeRows ns) → isMet s v ≡ true → isListed t v ≡ true → Listed (graphOf ns es) (rootIn s) t v
 

@@ -19,7 +19,7 @@ use Rattle.model.specs.Paths.{Way, stay, over}
 use Rattle.reach.proofs.Values.{map-at}
 use Rattle.entering.proofs.Walks.{walk-entering}
 use Rattle.tables.specs.Tables.{edgeAt}
-use Rattle.forward.specs.Forward.{Forward, passedCount, passedOf}
+use Rattle.forward.specs.Forward.{Forward, plannedCount, plannedOf}
 use Rattle.references.specs.References.{Reference, Brings}
 use Rattle.references.proofs.Bringing.{own-brings}
 use Rattle.entering.specs.Entering.{Covered}
@@ -81,35 +81,35 @@ front-closed graph order w (suc i) e f m k q =
 
 module _ {ns es : List ℤ} {plan : List ℕ} {i : ℕ} {s : List ℤ} (w : Sweeping ns es plan i s) where
   -- the plan has as many edges as it counts
-  passed-length : length (passedOf es plan) ≡ passedCount plan
+  passed-length : length (plannedOf es plan) ≡ plannedCount plan
   passed-length =
       let p = w .planned in
-      length-map (take (passedCount plan) plan) (edgeAt es)
-      ∙ length-take-le (passedCount plan) plan (omega (arith, p .few, p .room))
+      length-map (take (plannedCount plan) plan) (edgeAt es)
+      ∙ length-take-le (plannedCount plan) plan (omega (arith, p .few, p .room))
 
   -- and edge n of them is the one whose row stands at place n
-  passed-at : (n : ℕ) → n < passedCount plan → getD (passedOf es plan) n (edgeAt es 0) ≡ edgeAt es (getD plan n 0)
+  passed-at : (n : ℕ) → n < plannedCount plan → getD (plannedOf es plan) n (edgeAt es 0) ≡ edgeAt es (getD plan n 0)
   passed-at n h =
       let p = w .planned in
-      map-at (edgeAt es) (take (passedCount plan) plan) n (edgeAt es 0) 0
-      (omega (arith, h, length-take-le (passedCount plan) plan (omega (arith, p .few, p .room))))
-      ∙ ap (edgeAt es) (getD-take (passedCount plan) plan n 0 h)
+      map-at (edgeAt es) (take (plannedCount plan) plan) n (edgeAt es 0) 0
+      (omega (arith, h, length-take-le (plannedCount plan) plan (omega (arith, p .few, p .room))))
+      ∙ ap (edgeAt es) (getD-take (plannedCount plan) plan n 0 h)
 
   -- the edges passed are edges of the graph
   pub done-inside : (e : Edge) → e ∈ doneOf es plan i → e ∈ edgeRows es
-  done-inside e m = w .planned .inside e (front-in i (passedOf es plan) m)
+  done-inside e m = w .planned .inside e (front-in i (plannedOf es plan) m)
 
   -- with the next edge one more is passed
-  pub done-next : i < passedCount plan → (f : Edge) → (f ∈ doneOf es plan (i + 1)) ↔ ((f ∈ doneOf es plan i) ⊎ (f ≡ edgeAt es (getD plan i 0)))
+  pub done-next : i < plannedCount plan → (f : Edge) → (f ∈ doneOf es plan (i + 1)) ↔ ((f ∈ doneOf es plan i) ⊎ (f ≡ edgeAt es (getD plan i 0)))
   done-next h f =
-      let r = front-next i (passedOf es plan) (edgeAt es 0) (omega (arith, h, passed-length)) f in (
+      let r = front-next i (plannedOf es plan) (edgeAt es 0) (omega (arith, h, passed-length)) f in (
         λ m. ⊎-elim inl (λ q. inr (q ∙ passed-at i h)) (r .0 m),
         λ c. r .1 (⊎-elim inl (λ q. inr (q ∙ sym (passed-at i h))) c),
       )
 
   -- with an edge all edges are passed that enter the node it leaves
   pub done-closed : (e : Edge) → e ∈ doneOf es plan i → Covered es (doneOf es plan i) (e .from)
-  done-closed e m f k q = front-closed (edgeRows es) (passedOf es plan) (w .planned .forward) i e f m k q
+  done-closed e m f k q = front-closed (edgeRows es) (plannedOf es plan) (w .planned .forward) i e f m k q
 
   -- so are those that enter a node which leads to one that is covered
   pub covered-way : {v u : ℤ} {p : List Edge} → Way (graphOf ns es) v p u → Covered es (doneOf es plan i) u → Covered es (doneOf es plan i) v
@@ -119,10 +119,10 @@ module _ {ns es : List ℤ} {plan : List ℕ} {i : ℕ} {s : List ℤ} (w : Swee
       subst (λ (z : ℤ). Covered es (doneOf es plan i) z) q (done-closed e (covered-way k c e m refl))
 
   -- the next edge of the plan leaves a node that is covered
-  pub next-covered : i < passedCount plan → Covered es (doneOf es plan i) (edgeAt es (getD plan i 0) .from)
+  pub next-covered : i < plannedCount plan → Covered es (doneOf es plan i) (edgeAt es (getD plan i 0) .from)
   next-covered h f k q =
       ⊎-elim (λ n. absurd (List·Memᴰ·not-nil n)) (λ n. n)
-      (forward-at (edgeRows es) [] (passedOf es plan) (w .planned .forward) i (edgeAt es 0) (omega (arith, h, passed-length)) f k
+      (forward-at (edgeRows es) [] (plannedOf es plan) (w .planned .forward) i (edgeAt es 0) (omega (arith, h, passed-length)) f k
       (q ∙ ap (λ (d : Edge). d .from) (sym (passed-at i h))))
 
   -- what has come to a covered node, other than the root, is what arrives there

@@ -16,9 +16,9 @@ use Rattle.reach.specs.Counting.{pathCount}
 use Rattle.steps.specs.Steps.{GoodRow}
 use Rattle.sorting.specs.Rows.{numbersOf}
 use Rattle.entering.specs.Entering.{Covered}
-use Rattle.forward.specs.Forward.{passedCount}
+use Rattle.forward.specs.Forward.{plannedCount}
 use Rattle.references.specs.References.{Reference, through, unlessNone, SmallReference, sameReference}
-use Rattle.arrivals.specs.State.{markWidth, rowWidth, usedAt, rootAt, arenaRow, keptRows, stateRoom, setMark, marked, isMet, referenceAt, rootIn}
+use Rattle.arrivals.specs.State.{markWidth, rowWidth, usedAt, rootAt, arenaRow, arenaRows, stateRoom, setMark, marked, isMet, referenceAt, rootIn}
 use Rattle.arrivals.specs.Sweep.{doneOf, Sweeping}
 
 -- ---- over an edge
@@ -38,7 +38,7 @@ crossing g e f s =
 
 -- ---- marks
 
--- the state once reference f has come to node v, where `all` is the reference to all that arrives at v: kept where v had none or the same, else v is its own
+-- the state once reference f has come to node v, where `all` is the reference to all that arrives at v: taken where v had none or the same, else v is its own
 -- owner, not listed yet, with a list of so many rows at most, if its mark tells true
 abbrev pub meeting : List ℤ → ℕ → Reference → Reference → ℤ → List ℤ
 meeting s v all f rows =
@@ -54,7 +54,7 @@ pub record Storable (ns : List ℤ) (v used k : ℕ) (s : List ℤ) : Type 0 whe
 -- the state with k rows from row `used` on as the list of v, where they fit; else v has no list
 abbrev pub storing : Reference → ℕ → ℕ → ℕ → List ℤ → List ℤ
 storing all v used k s =
-    cond (ltb (arenaRow + keptRows) (used + k)) (setMark s v (marked all (negsuc 1) (pos 0)))
+    cond (ltb (arenaRow + arenaRows) (used + k)) (setMark s v (marked all (negsuc 1) (pos 0)))
     (set (setMark s v (marked all (pos used) (pos k))) usedAt (pos (used + k)))
 
 -- a marked node all of whose entering edges are passed, with at most 1,024 paths to it, and room for a list
@@ -76,7 +76,7 @@ pub record ListMade (ns es : List ℤ) (plan : List ℕ) (v : ℕ) (old new : Li
 -- the next edge of the plan is there, and room for a list
 pub record Passable (ns es : List ℤ) (plan : List ℕ) (i : ℕ) (s spare : List ℤ) : Type 0 where
   pub sweeping : Sweeping ns es plan i s
-  pub there : i < passedCount plan
+  pub there : i < plannedCount plan
   pub spareRoom : rowWidth * maxPaths ≤ length spare
 
 -- nothing has arrived at any of the first n nodes

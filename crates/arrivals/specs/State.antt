@@ -1,4 +1,4 @@
--- The work space of a sweep, one slice of numbers: a mark for each node, and the arena, in which the lists of owners are kept. Assumes nothing.
+-- The work space of a sweep, one slice of numbers: a mark for each node, and the arena, in which the lists of owners are stored. Assumes nothing.
 use mathlib.Core.Path.{_≡_}
 use mathlib.Core.Bool.{Bool}
 use mathlib.Core.List.{List}
@@ -23,18 +23,18 @@ usedAt = markWidth * maxNodes
 abbrev pub rootAt : ℕ
 rootAt = markWidth * maxNodes + 1
 
--- rows are counted from the front of the slice: the first of the arena, and how many are kept at most. Behind these there is room for the rows of one list
+-- rows are counted from the front of the slice: the first of the arena, and how many are stored at most. Behind these there is room for the rows of one list
 abbrev pub arenaRow : ℕ
 arenaRow = rootAt / rowWidth + 1
 
-abbrev pub keptRows : ℕ
-keptRows = 2560
+abbrev pub arenaRows : ℕ
+arenaRows = 2560
 
 abbrev pub stateRoom : ℕ
-stateRoom = rowWidth * (arenaRow + keptRows + maxPaths)
+stateRoom = rowWidth * (arenaRow + arenaRows + maxPaths)
 
 -- the mark of a node: its reference, and the first row and the number of records of its list. The owner is −1 where nothing has arrived, and the row
--- below 0 where no list is kept; the number is then a guess at how many records it would have
+-- below 0 where no list is stored; the number is then a guess at how many records it would have
 pub record Mark : Type 0 where
   pub owner : ℤ
   pub delta : ℤ
@@ -77,7 +77,7 @@ referenceAt s v = record { owner = markNumber s v 0; delta = markNumber s v 1; l
 abbrev pub marked : Reference → ℤ → ℤ → Mark
 marked f place count = record { owner = f .owner; delta = f .delta; low = f .low; high = f .high; place = place; count = count }
 
--- a list is kept of node v
+-- a list is stored for node v
 abbrev pub isListed : List ℤ → ℕ → Bool
 isListed s v = leZ (pos 0) (markNumber s v 4)
 

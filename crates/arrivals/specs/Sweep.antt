@@ -22,10 +22,10 @@ use Rattle.sorting.specs.Rows.{Ascending}
 use Rattle.normalisation.specs.Merging.{byDisplacement, ofDisplacement, sortedByDisplacement}
 use Rattle.listing.specs.Listing.{Appended}
 use Rattle.entering.specs.Entering.{Covered}
-use Rattle.forward.specs.Forward.{passedCount, passedOf, Planned}
+use Rattle.forward.specs.Forward.{plannedCount, plannedOf, Planned}
 use Rattle.references.specs.References.{Reference, own, Brings, InOwner, recordsAt}
 use Rattle.arrivals.specs.declared.Placed.{Placed}
-use Rattle.arrivals.specs.State.{rowWidth, stateRoom, usedAt, arenaRow, keptRows, isMet, referenceAt, isListed, placeOf, countOf, usedIn, rootIn, markNumber, Agree}
+use Rattle.arrivals.specs.State.{rowWidth, stateRoom, usedAt, arenaRow, arenaRows, isMet, referenceAt, isListed, placeOf, countOf, usedIn, rootIn, markNumber, Agree}
 
 -- some record of the list has x with y
 abbrev pub HasSome : List Record → ℤ → ℤ → Type 0
@@ -33,7 +33,7 @@ HasSome l x y = (s : Record) × (s ∈ l) × Has s x y
 
 -- the first i edges of a plan
 abbrev pub doneOf : List ℤ → List ℕ → ℕ → List Edge
-doneOf es plan i = take i (passedOf es plan)
+doneOf es plan i = take i (plannedOf es plan)
 
 -- root bit x has come to v, with bit address b, over one of these edges
 pub record Came (g : Graph) (r : ℤ) (done : List Edge) (v x b : ℤ) : Type 0 where
@@ -43,7 +43,7 @@ pub record Came (g : Graph) (r : ℤ) (done : List Edge) (v x b : ℤ) : Type 0 
   pub enters : over .to ≡ v
   pub walk : Walk g r x (over .from) (b +ℤ bitOffset g over)
 
--- the list kept of v lies in the used part of the arena, has exactly what arrives at v, no empty record, and no more records than paths lead to v, and is
+-- the list stored for v lies in the used part of the arena, has exactly what arrives at v, no empty record, and no more records than paths lead to v, and is
 -- sorted by displacement
 pub record Listed (g : Graph) (r : ℤ) (s : List ℤ) (v : ℕ) : Type 0 where
   pub counted : pos (countOf s v) ≡ markNumber s v 5
@@ -55,7 +55,7 @@ pub record Listed (g : Graph) (r : ℤ) (s : List ℤ) (v : ℕ) : Type 0 where
   pub ascending : Ascending (map byDisplacement (recordsAt s (placeOf s v) (countOf s v)))
 
 -- the mark of v once these edges are passed: where nothing is marked nothing has come; else the owner is marked and leads to v, the reference brings exactly
--- what has come, or is all that arrives at v where v is its own owner, its bit addresses are some of v's, and a list kept of v is the list of what arrives
+-- what has come, or is all that arrives at v where v is its own owner, its bit addresses are some of v's, and a list stored for v is the list of what arrives
 pub record RightMark (g : Graph) (r : ℤ) (done : List Edge) (s : List ℤ) (v : ℕ) : Type 0 where
   pub unmet : isMet s v ≡ false → (x b : ℤ) → Came g r done (pos v) x b → ⊥
   pub inOwner : isMet s v ≡ true → InOwner g (referenceAt s v)
@@ -74,12 +74,12 @@ pub record Sweeping (ns es : List ℤ) (plan : List ℕ) (i : ℕ) (s : List ℤ
   pub room : length s ≡ stateRoom
   pub usedNumber : pos (usedIn s) ≡ getD s usedAt (pos 0)
   pub usedLow : arenaRow ≤ usedIn s
-  pub usedHigh : usedIn s ≤ arenaRow + keptRows
+  pub usedHigh : usedIn s ≤ arenaRow + arenaRows
   pub root : Root (graphOf ns es) (rootIn s)
   pub rootMet : (r : ℕ) → pos r ≡ rootIn s → isMet s r ≡ true
   pub rootOwn : (r : ℕ) → pos r ≡ rootIn s → referenceAt s r .owner ≡ pos r
   pub rootListed : (r : ℕ) → pos r ≡ rootIn s → isListed s r ≡ true
-  pub few : (e : Edge) → e ∈ passedOf es plan → pathCount (graphOf ns es) (rootIn s) (e .to) ≤ maxPaths
+  pub few : (e : Edge) → e ∈ plannedOf es plan → pathCount (graphOf ns es) (rootIn s) (e .to) ≤ maxPaths
   pub marks : (v : ℕ) → v < length (nodeRows ns) → RightMark (graphOf ns es) (rootIn s) (doneOf es plan i) s v
 
 -- ---- gathering the rows of a reference
@@ -129,21 +129,21 @@ pub record Sweepable (ns es : List ℤ) (plan : List ℕ) (root : ℕ) (s spare 
   pub tables : TakenTables ns es
   pub planned : Planned ns es plan
   pub start : Root (graphOf ns es) (pos root)
-  pub few : (e : Edge) → e ∈ passedOf es plan → pathCount (graphOf ns es) (pos root) (e .to) ≤ maxPaths
+  pub few : (e : Edge) → e ∈ plannedOf es plan → pathCount (graphOf ns es) (pos root) (e .to) ≤ maxPaths
   pub room : length s ≡ stateRoom
   pub spareRoom : rowWidth * maxPaths ≤ length spare
 
 -- the state after the sweep from a root
 pub record Swept (ns es : List ℤ) (plan : List ℕ) (root : ℕ) (s : List ℤ) : Type 0 where
   pub from : rootIn s ≡ pos root
-  pub state : Sweeping ns es plan (passedCount plan) s
+  pub state : Sweeping ns es plan (plannedCount plan) s
 
 -- what the list of a leaf starts from: a state swept from a root, a leaf all of whose entering edges the plan has, at most 1,024 paths to it, and room
 pub record Askable (ns es : List ℤ) (plan : List ℕ) (leaf : ℕ) (s spare : List ℤ) : Type 0 where
   pub root : ℕ
   pub state : Swept ns es plan root s
   pub block : Leaf (graphOf ns es) (pos leaf)
-  pub covered : Covered es (passedOf es plan) (pos leaf)
+  pub covered : Covered es (plannedOf es plan) (pos leaf)
   pub few : pathCount (graphOf ns es) (pos root) (pos leaf) ≤ maxPaths
   pub spareRoom : rowWidth * maxPaths ≤ length spare
 

@@ -1,6 +1,6 @@
 // What arrives at each node of a graph from a root. A node that is entered in one way has a reference to the arrivals of a node before it; a node where
-// unlike references meet is its own owner, and its list is made once and kept in an arena of fixed size. Where the arena has no room, the rows of such a
-// node are gathered through the edges that enter it. Which lists are kept is a free choice: nothing is promised of it.
+// unlike references meet is its own owner, and its list is made once and stored in an arena of fixed size. Where the arena has no room, the rows of such a
+// node are gathered through the edges that enter it. Which lists are stored is a free choice: nothing is promised of it.
 ghost use mathlib.Core.Path.{_≡_};
 ghost use mathlib.Core.List.{List};
 ghost use mathlib.Core.Bool.{true};
@@ -13,13 +13,13 @@ ghost use Rattle.model.specs.Graph.{graphOf};
 ghost use Rattle.tables.specs.Tables.{edgeAt};
 ghost use Rattle.steps.specs.Steps.{GoodRow};
 ghost use Rattle.references.specs.References.{referenceOf, own, broughtOf};
-ghost use Rattle.arrivals.specs.State.{markWidth, arenaRow, keptRows, usedAt, stateRoom, setMark, marked, markNumber, isMet, referenceAt, isListed, usedIn, rootIn};
+ghost use Rattle.arrivals.specs.State.{markWidth, arenaRow, arenaRows, usedAt, stateRoom, setMark, marked, markNumber, isMet, referenceAt, isListed, usedIn, rootIn};
 ghost use Rattle.arrivals.specs.Sweep.{Sweeping, Gatherable, Gathered, Makeable, Made, Sweepable, Swept, Askable, Answered};
 ghost use Rattle.arrivals.specs.Moves.{Crossable, crossing, meeting, Storable, storing, Ownable, ListMade, Passable, Blank, begun};
 use forward::first_entering;
 use forward::next_entering;
-use forward::passed_count;
-use forward::passed_row;
+use forward::planned_count;
+use forward::planned_row;
 use listing::append_row;
 use model::Bits;
 use model::EDGE_WIDTH;
@@ -48,12 +48,12 @@ const USED_AT: usize = 12000;
 
 const ROOT_AT: usize = 12001;
 
-// The first row of the arena; the row up to which any list is kept, and the row up to which those are that take at most a quarter of what is left.
+// The first row of the arena; the row up to which any list is stored, and the row up to which those are that take at most a quarter of what is left.
 const ARENA_ROW: usize = 4001;
 
 const OPEN_END: usize = 6049;
 
-const KEPT_END: usize = 6561;
+const ARENA_END: usize = 6561;
 
 const SHARE: usize = 4;
 
@@ -99,7 +99,7 @@ fn reference_at(state: &[i64], v: usize) -> Reference
     }
 }
 
-// The first row of the list of node v: below 0 where none is kept.
+// The first row of the list of node v: below 0 where none is stored.
 fn place_at(state: &[i64], v: usize) -> i64
     requires { ⌜ markWidth * v + markWidth ≤ length (now state) ⌝ }
     ensures { λ r. ⌜ r ≡ markNumber (now (state .entry)) v 4 ⌝ }
@@ -108,7 +108,7 @@ fn place_at(state: &[i64], v: usize) -> i64
     place
 }
 
-// Whether a list is kept of node v.
+// Whether a list is stored for node v.
 fn is_listed(state: &[i64], v: usize) -> bool
     requires { ⌜ markWidth * v + markWidth ≤ length (now state) ⌝ }
     ensures { λ r. ⌜ r ≡ isListed (now (state .entry)) v ⌝ }
@@ -126,8 +126,8 @@ fn number_at(state: &[i64], at: usize) -> usize
     number as usize
 }
 
-// Where the list that is kept of node v stands.
-fn kept_at(state: &[i64], v: usize) -> Placed
+// Where the list that is stored for node v stands.
+fn stored_at(state: &[i64], v: usize) -> Placed
     requires { ⌜
         (markWidth * v + markWidth ≤ length (now state)) × (pos 0 ≤ℤ markNumber (now state) v 4) × (pos 0 ≤ℤ markNumber (now state) v 5) ⌝ }
     ensures { λ r. ⌜ (pos (r .row) ≡ markNumber (now (state .entry)) v 4) × (pos (r .count) ≡ markNumber (now (state .entry)) v 5) ⌝ }
@@ -139,7 +139,7 @@ fn kept_at(state: &[i64], v: usize) -> Placed
 }
 
 // How many records the list of node v has or may have, as its mark tells: those of its list, or of the lists that its rows come from, together; 0 of a node without
-// room for its list. Nothing is promised of it, but that it is no more than 1,024: it tells which lists to keep.
+// room for its list. Nothing is promised of it, but that it is no more than 1,024: it tells which lists to store.
 fn rows_at(state: &[i64], v: usize) -> usize
     requires { ⌜ markWidth * v + markWidth ≤ length (now state) ⌝ }
     ensures { λ r. ⌜ r ≤ maxPaths ⌝ }
@@ -167,17 +167,17 @@ fn rows_met(state: &[i64], v: usize, owner: usize) -> i64
 }
 
 // Whether the list of node v would take too much of the arena: past the rows that are open to any list, one may take a quarter of what is left. So where
-// nodes that need lists follow each other, the small lists among them are still kept, and what is gathered through edges comes from few lists.
+// nodes that need lists follow each other, the small lists among them are still stored, and what is gathered through edges comes from few lists.
 fn crowded(state: &[i64], v: usize) -> bool
     requires { ⌜
-        (length (now state) ≡ stateRoom) × (v < maxNodes) × (pos 0 ≤ℤ getD (now state) usedAt (pos 0)) × (usedIn (now state) ≤ arenaRow + keptRows) ⌝ }
+        (length (now state) ≡ stateRoom) × (v < maxNodes) × (pos 0 ≤ℤ getD (now state) usedAt (pos 0)) × (usedIn (now state) ≤ arenaRow + arenaRows) ⌝ }
 {
     let used = number_at(state, USED_AT);
     let rows = rows_at(state, v);
     if used + rows <= OPEN_END {
         return false;
     }
-    KEPT_END - used < SHARE * rows
+    ARENA_END - used < SHARE * rows
 }
 
 // Stores the mark of node v.
@@ -212,7 +212,7 @@ fn brought_over(nodes: &[i64], edges: &[i64], e: usize, f: Reference, state: &[i
     through(f, u, steps::offset_of(nodes, edges, e))
 }
 
-// Gathers the rows of what a reference brings, behind the first n rows, over at most `left` edges: from the list of its owner where one is kept, else through
+// Gathers the rows of what a reference brings, behind the first n rows, over at most `left` edges: from the list of its owner where one is stored, else through
 // the edges that enter the owner. Returns how many rows stand there then.
 fn gather(
     nodes: &[i64],
@@ -229,7 +229,7 @@ fn gather(
 {
     let owner = f.owner;
     if is_listed(state, owner) {
-        let list = kept_at(state, owner);
+        let list = stored_at(state, owner);
         let all = own_reference(nodes, number_at(state, ROOT_AT));
         return gather_list(state, list.row, list.count, f, all.low, all.high, n);
     }
@@ -270,13 +270,13 @@ fn make_list(
     }
 }
 
-// Keeps k rows from row `used` on as the list of node v, where they fit.
-fn keep_rows(nodes: &[i64], v: usize, used: usize, k: usize, state: &mut [i64])
+// Stores k rows from row `used` on as the list of node v, where they fit.
+fn store_rows(nodes: &[i64], v: usize, used: usize, k: usize, state: &mut [i64])
     requires { ⌜ Storable (now nodes) v used k (now state) ⌝ }
     ensures { λ _. ⌜ ((es : List ℤ) → now (state .exit) ≡ storing (own (graphOf (now (nodes .entry)) es) (pos v)) v used k (now (state .entry))) ⌝ }
 {
     let all = own_reference(nodes, v);
-    if KEPT_END < used + k {
+    if ARENA_END < used + k {
         put_mark(state, v, all, NO_ROOM, 0);
         return;
     }
@@ -284,8 +284,8 @@ fn keep_rows(nodes: &[i64], v: usize, used: usize, k: usize, state: &mut [i64])
     state[USED_AT] = (used + k) as i64;
 }
 
-// Makes the list of a node that is its own owner and has none yet, and keeps it where there is room.
-fn keep_list(
+// Makes the list of a node that is its own owner and has none yet, and stores it where there is room.
+fn store_list(
     nodes: &[i64],
     edges: &[i64],
     plan: &[usize],
@@ -307,7 +307,7 @@ fn keep_list(
         return;
     }
     let list = make_list(nodes, edges, plan, reference, state, spare);
-    keep_rows(nodes, v, list.row, list.count, state);
+    store_rows(nodes, v, list.row, list.count, state);
 }
 
 // Marks node v with what has come to it: where something else had come before, v is its own owner.
@@ -341,12 +341,12 @@ fn pass_edge(
         Sweeping (now (nodes .entry)) (now (edges .entry)) (now (plan .entry)) (i + 1) (now (state .exit))
         × (rootIn (now (state .exit)) ≡ rootIn (now (state .entry))) ⌝ }
 {
-    let e = passed_row(plan, i);
+    let e = planned_row(plan, i);
     let from = edge_from(edges, e);
     if !is_met(state, from) {
         return;
     }
-    keep_list(nodes, edges, plan, from, state, spare);
+    store_list(nodes, edges, plan, from, state, spare);
     let to = edge_to(edges, e);
     let brought = brought_over(nodes, edges, e, own_reference(nodes, to), state);
     if let Brought::Left(part) = brought {
@@ -402,7 +402,7 @@ pub fn sweep_root(
 {
     clear_marks(state, nodes.len() / NODE_WIDTH);
     start_root(nodes, root, state);
-    let count = passed_count(plan);
+    let count = planned_count(plan);
     let mut i: usize = 0;
     while i < count {
         pass_edge(nodes, edges, plan, i, state, spare);

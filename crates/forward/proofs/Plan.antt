@@ -29,7 +29,7 @@ use Rattle.depth.proofs.Order.{order-members}
 use Rattle.depth.proofs.Stores.{sets-past, sets-take, zeros-at}
 use Rattle.reach.proofs.Turns.{order-cut}
 use Rattle.reach.proofs.Ends.{row-below}
-use Rattle.forward.specs.Forward.{Leads, Forward, headAt, nextAt, countAt, planRoom, passedCount, passedOf, Planned, LeadingTo, Plannable}
+use Rattle.forward.specs.Forward.{Leads, Forward, headAt, nextAt, countAt, planRoom, plannedCount, plannedOf, Planned, LeadingTo, Plannable}
 use Rattle.forward.specs.Passes.{Marking, Marked, LeadsTo, Markable, BackwardRows, entersMarked, leadingRows, planWith, EnteringLinked}
 use Rattle.forward.proofs.Kept.{front-length, front-row}
 use Rattle.forward.proofs.Reversed.{map-reverse, reverse-in, reverse-out, reverse-distinct}
@@ -110,14 +110,14 @@ module _ {ns es : List ℤ} {order : List ℕ} {count : ℕ} {ls : List ℤ} {ma
         )
 
     -- their number
-    count-read : passedCount plan ≡ length rows
+    count-read : plannedCount plan ≡ length rows
     unfolding planWith
     count-read =
         ap (λ l. getD l countAt 0) made
         ∙ getD-set-same (sets linked 0 rows) countAt (length rows) 0 (omega (arith, length-sets linked 0 rows, room))
 
     -- the rows themselves
-    front-read : take (passedCount plan) plan ≡ rows
+    front-read : take (plannedCount plan) plan ≡ rows
     unfolding planWith
     front-read =
         ap (λ n. take n plan) count-read
@@ -126,7 +126,7 @@ module _ {ns es : List ℤ} {order : List ℕ} {count : ℕ} {ls : List ℤ} {ma
         ∙ sets-take linked rows (omega (arith, rows-few, room))
 
     -- their edges
-    edges-read : passedOf es plan ≡ reverse (keep ok (edgeOrder (edgeRows es)))
+    edges-read : plannedOf es plan ≡ reverse (keep ok (edgeOrder (edgeRows es)))
     unfolding leadingRows
     edges-read =
         ap (map (edgeAt es)) front-read
@@ -160,13 +160,13 @@ module _ {ns es : List ℤ} {order : List ℕ} {count : ℕ} {ls : List ℤ} {ma
         )
 
     -- the edges of the plan are those
-    passed-out : {e : Edge} → e ∈ passedOf es plan → (e ∈ edgeRows es) × Leads (graphOf ns es) ls (e .to)
+    passed-out : {e : Edge} → e ∈ plannedOf es plan → (e ∈ edgeRows es) × Leads (graphOf ns es) ls (e .to)
     passed-out {e} k =
         let w = keep-out ok (edgeOrder (edgeRows es)) (reverse-out (keep ok (edgeOrder (edgeRows es))) (subst (λ (l : List Edge). e ∈ l) edges-read k)) in
         let own = order-cut ns es tables .ahead-in e (w .0) in
         (own, ok-leads e own .0 (w .1))
 
-    passed-in : {e : Edge} → e ∈ edgeRows es → Leads (graphOf ns es) ls (e .to) → e ∈ passedOf es plan
+    passed-in : {e : Edge} → e ∈ edgeRows es → Leads (graphOf ns es) ls (e .to) → e ∈ plannedOf es plan
     unfolding graphOf
     passed-in {e} k w =
         subst (λ (l : List Edge). e ∈ l) (sym edges-read)
@@ -182,10 +182,10 @@ module _ {ns es : List ℤ} {order : List ℕ} {count : ℕ} {ls : List ℤ} {ma
     -- ---- the plan
 
     -- each row is one of an edge
-    row-there : (i : ℕ) → i < passedCount plan → getD plan i 0 < length (edgeRows es)
+    row-there : (i : ℕ) → i < plannedCount plan → getD plan i 0 < length (edgeRows es)
     unfolding leadingRows
     row-there i h =
-        let n = passedCount plan in
+        let n = plannedCount plan in
         let inside : getD (take n plan) i 0 ∈ take n plan = getD-in (take n plan) i 0 (omega (arith, h, count-read, ap length front-read)) in
         let kept = reverse-out (keep (entersMarked es marks) front) (subst (λ (l : List ℕ). getD (take n plan) i 0 ∈ l) front-read inside) in
         omega (arith, front-row p (keep-out (entersMarked es marks) front kept .0), getD-take n plan i 0 h, edges-length es)

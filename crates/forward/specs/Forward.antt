@@ -45,30 +45,30 @@ abbrev pub planRoom : ℕ
 planRoom = maxEdges + maxNodes + maxEdges + 1
 
 -- how many edges a plan has in front
-abbrev pub passedCount : List ℕ → ℕ
-passedCount plan = getD plan countAt 0
+abbrev pub plannedCount : List ℕ → ℕ
+plannedCount plan = getD plan countAt 0
 
 -- these edges, in their order
-abbrev pub passedOf : List ℤ → List ℕ → List Edge
-passedOf es plan = map (edgeAt es) (take (passedCount plan) plan)
+abbrev pub plannedOf : List ℤ → List ℕ → List Edge
+plannedOf es plan = map (edgeAt es) (take (plannedCount plan) plan)
 
 -- the plan of the graph of two tables: edges in forward order, each once, with every edge that enters the same node as one of them; and for every
 -- node the edges that enter it, linked in the order of their rows, with the number of edges where there is none further
 pub record Planned (ns es : List ℤ) (plan : List ℕ) : Type 0 where
   pub room : length plan ≡ planRoom
-  pub few : passedCount plan ≤ maxEdges
-  pub there : (i : ℕ) → i < passedCount plan → getD plan i 0 < length (edgeRows es)
-  pub inside : (e : Edge) → e ∈ passedOf es plan → e ∈ edgeRows es
-  pub forward : Forward (edgeRows es) [] (passedOf es plan)
-  pub distinct : Distinct (passedOf es plan)
-  pub whole : (e f : Edge) → e ∈ passedOf es plan → f ∈ edgeRows es → f .to ≡ e .to → f ∈ passedOf es plan
+  pub few : plannedCount plan ≤ maxEdges
+  pub there : (i : ℕ) → i < plannedCount plan → getD plan i 0 < length (edgeRows es)
+  pub inside : (e : Edge) → e ∈ plannedOf es plan → e ∈ edgeRows es
+  pub forward : Forward (edgeRows es) [] (plannedOf es plan)
+  pub distinct : Distinct (plannedOf es plan)
+  pub whole : (e f : Edge) → e ∈ plannedOf es plan → f ∈ edgeRows es → f .to ≡ e .to → f ∈ plannedOf es plan
   pub heads : (v : ℕ) → v < length (nodeRows ns) → getD plan (headAt + v) 0 ≡ firstRow (enters (pos v)) 0 (edgeRows es)
   pub nexts : (e : ℕ) → e < length (edgeRows es) → getD plan (nextAt + e) 0 ≡ firstRow (enters (edgeAt es e .to)) (suc e) (edgeRows es)
 
 -- its edges are exactly those that enter a node which leads to one of the leaves
 pub record LeadingTo (ns es : List ℤ) (ls : List ℤ) (plan : List ℕ) : Type 0 where
-  pub leads : (e : Edge) → e ∈ passedOf es plan → Leads (graphOf ns es) ls (e .to)
-  pub all : (e : Edge) → e ∈ edgeRows es → Leads (graphOf ns es) ls (e .to) → e ∈ passedOf es plan
+  pub leads : (e : Edge) → e ∈ plannedOf es plan → Leads (graphOf ns es) ls (e .to)
+  pub all : (e : Edge) → e ∈ edgeRows es → Leads (graphOf ns es) ls (e .to) → e ∈ plannedOf es plan
 
 -- ---- making it
 

@@ -6,7 +6,7 @@ ghost use lib.Signed.{_≤ℤ_};
 ghost use lib.ListN.{length, getD, set};
 ghost use Rattle.lists.specs.Lists.{_∈_};
 ghost use Rattle.model.specs.Limits.{pairWidth};
-ghost use Rattle.forward.specs.Forward.{headAt, nextAt, passedCount, planRoom, Planned, LeadingTo, nodesIn, Plannable};
+ghost use Rattle.forward.specs.Forward.{headAt, nextAt, plannedCount, planRoom, Planned, LeadingTo, nodesIn, Plannable};
 ghost use Rattle.forward.specs.Passes.{Marking, columnAt, Markable, BackwardRows, Spread, leadingRows, planWith, HeadsSet, Linkable, EnteringLinked};
 use model::EDGE_WIDTH;
 use model::MAX_NODES;
@@ -25,16 +25,16 @@ const NEXT_AT: usize = 4600;
 const COUNT_AT: usize = 7200;
 
 // How many edges a plan has in forward order.
-pub fn passed_count(plan: &[usize]) -> usize
+pub fn planned_count(plan: &[usize]) -> usize
     requires { ⌜ length (now plan) ≡ planRoom ⌝ }
-    ensures { λ r. ⌜ r ≡ passedCount (now (plan .entry)) ⌝ }
+    ensures { λ r. ⌜ r ≡ plannedCount (now (plan .entry)) ⌝ }
 {
     let count = plan[COUNT_AT];
     count
 }
 
 // Edge row i of those in forward order.
-pub fn passed_row(plan: &[usize], i: usize) -> usize
+pub fn planned_row(plan: &[usize], i: usize) -> usize
     requires { ⌜ i < length (now plan) ⌝ }
     ensures { λ r. ⌜ r ≡ getD (now (plan .entry)) i 0 ⌝ }
 {

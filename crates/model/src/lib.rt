@@ -34,6 +34,9 @@ pub const MAX_NUMBERS: usize = 3072;
 // Base + range of a node, and the size of an offset, in address units, at most: 2^48.
 pub const MAX_UNITS: i64 = 281474976710656;
 
+// Digits of a value in a text at most.
+pub const MAX_DIGITS: usize = 18;
+
 // What a root row counts for in the place of a pair in visiting order: its place is root row × ROOT_STRIDE + leaf row.
 pub const ROOT_STRIDE: usize = 1000;
 

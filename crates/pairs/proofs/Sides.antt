@@ -21,7 +21,7 @@ use Rattle.reach.specs.Counting.{pathCount}
 use Rattle.sorting.proofs.Halves.{part-lent, part-length}
 use Rattle.normalisation.specs.Merging.{recordsOf, sortedByDisplacement}
 use Rattle.normalisation.specs.Records.{IsNormal}
-use Rattle.forward.specs.Forward.{passedOf, LeadingTo}
+use Rattle.forward.specs.Forward.{plannedOf, LeadingTo}
 use Rattle.pathlimit.specs.Inputs.{FewPaths, Ready}
 use Rattle.arrivals.specs.declared.Placed.{Placed}
 use Rattle.arrivals.specs.State.{rowWidth}
@@ -35,13 +35,13 @@ pub record Side (ns es : List ℤ) (plan : List ℕ) (r l : ℤ) : Type 0 where
   pub tables : TakenTables ns es
   pub root : Root (graphOf ns es) r
   pub leaf : Leaf (graphOf ns es) l
-  pub covered : Covered es (passedOf es plan) l
+  pub covered : Covered es (plannedOf es plan) l
   pub few : FewPaths (graphOf ns es) r l
 
 -- ---- the two graphs of a pair
 
 -- every edge that enters a leaf which the plan is made for is in the plan, since the leaf leads to itself
-leaf-covered : {ns es ls : List ℤ} {plan : List ℕ} {l : ℤ} → LeadingTo ns es ls plan → l ∈ ls → Covered es (passedOf es plan) l
+leaf-covered : {ns es ls : List ℤ} {plan : List ℕ} {l : ℤ} → LeadingTo ns es ls plan → l ∈ ls → Covered es (plannedOf es plan) l
 leaf-covered {ns} {es} {l = l} leads m f k q = leads .all f k (l, m, ([], subst (λ (v : ℤ). Way (graphOf ns es) v [] l) (sym q) stay))
 
 module _ {t : Tables} {sp mp : List ℕ} (k : Ready t sp mp) {p q : Pair} (h : p ∈ rootRows t) (m : q ∈ leafRows t) where

@@ -19,7 +19,7 @@ use Rattle.model.specs.Checks.{manyPaths}
 use Rattle.reach.specs.Counting.{pathCount, stopped}
 use Rattle.reach.specs.Links.{countAt}
 use Rattle.depth.specs.Passes.{Within}
-use Rattle.forward.specs.Forward.{passedOf, LeadingTo}
+use Rattle.forward.specs.Forward.{plannedOf, LeadingTo}
 use Rattle.pairing.specs.Pairs.{pairAt}
 use Rattle.pairing.proofs.Pairs.{pair-member}
 use Rattle.entering.specs.Entering.{Covered}
@@ -58,7 +58,7 @@ stopped-test n = go (ltb maxPaths n) (ltb? maxPaths n)
 
 module _ {ns es : List ℤ} {plan : List ℕ} {ls : List ℤ} (leading : LeadingTo ns es ls plan) where
   -- the plan has every edge that enters a leaf
-  pub leaf-entering : (l : ℤ) → l ∈ ls → Covered es (passedOf es plan) l
+  pub leaf-entering : (l : ℤ) → l ∈ ls → Covered es (plannedOf es plan) l
   leaf-entering l m e k q = leading .all e k (l, m, ([], subst (λ (v : ℤ). Way (graphOf ns es) v [] l) (sym q) stay))
 
   -- so that its count is past the limit exactly where it has too many paths

@@ -25,7 +25,7 @@ use Rattle.reach.proofs.Turns.{drop-head}
 use Rattle.reach.proofs.Values.{map-at}
 use Rattle.entering.specs.Entering.{enters, entering}
 use Rattle.entering.proofs.Counts.{count-entering}
-use Rattle.forward.specs.Forward.{Forward, passedCount, passedOf}
+use Rattle.forward.specs.Forward.{Forward, plannedCount, plannedOf}
 use Rattle.pathlimit.specs.Counting.{Countable, Counted}
 
 module _ (ns es : List ℤ) (plan : List ℕ) (root : ℕ) where
@@ -35,15 +35,15 @@ module _ (ns es : List ℤ) (plan : List ℕ) (root : ℕ) where
 
   -- the edges of the plan, cut into those before and those ahead
   abbrev PlanCut : List Edge → List Edge → Type 0
-  PlanCut before ahead = CutBy (Forward (edgeRows es)) (passedOf es plan) before ahead
+  PlanCut before ahead = CutBy (Forward (edgeRows es)) (plannedOf es plan) before ahead
 
   -- the state between two turns: i edges are passed, and the counts are those by the edges before
   pub record Passed (start counts : List ℕ) (i : ℕ) : Type 0 where
     pub before : List Edge
     pub ahead : List Edge
     pub cut : PlanCut before ahead
-    pub left : i + length ahead ≡ passedCount plan
-    pub rows : drop i (passedOf es plan) ≡ ahead
+    pub left : i + length ahead ≡ plannedCount plan
+    pub rows : drop i (plannedOf es plan) ≡ ahead
     pub swept : Swept (λ e. e .to) (λ e. e .from) pathsTo root (length ns / nodeWidth) before counts
     pub size : length counts ≡ length start
 
@@ -61,9 +61,9 @@ module _ (ns es : List ℤ) (plan : List ℕ) (root : ℕ) where
         }
 
     -- the plan has as many edges as it says
-    passed-length : length (passedOf es plan) ≡ passedCount plan
+    passed-length : length (plannedOf es plan) ≡ plannedCount plan
     passed-length =
-        length-map (take (passedCount plan) plan) (edgeAt es) ∙ omega (arith, length-take (passedCount plan) plan, c .planned .few, c .planned .room)
+        length-map (take (plannedCount plan) plan) (edgeAt es) ∙ omega (arith, length-take (plannedCount plan) plan, c .planned .few, c .planned .room)
 
     -- the root is a node row
     pub root-below : root < length ns / nodeWidth
@@ -78,7 +78,7 @@ module _ (ns es : List ℤ) (plan : List ℕ) (root : ℕ) where
     pass-start =
         record {
           before = [];
-          ahead = passedOf es plan;
+          ahead = plannedOf es plan;
           cut = cut-start (c .planned .forward) (c .planned .distinct) (λ e m. m) (λ e m. m);
           left = omega (arith, passed-length);
           rows = refl;
@@ -91,7 +91,7 @@ module _ (ns es : List ℤ) (plan : List ℕ) (root : ℕ) where
       pub turn-stopped : (v : ℕ) → v < length ns / nodeWidth → getD counts v 0 ≤ maxPaths + 1
       turn-stopped = swept-stopped (λ e. e .to) (λ e. e .from) pathsTo root (length ns / nodeWidth) (p .swept)
 
-      module _ (h : i < passedCount plan) where
+      module _ (h : i < plannedCount plan) where
         -- the plan has a row for the turn
         pub turn-within : i < length plan
         turn-within = omega (arith, h, c .planned .few, c .planned .room)
@@ -105,14 +105,14 @@ module _ (ns es : List ℤ) (plan : List ℕ) (root : ℕ) where
           pub pass-next : Passed start (set counts to (stopped (getD counts to 0 + getD counts from 0))) (i + 1)
           pass-next = go (p .ahead) (p .cut) (p .left) (p .rows)
             where
-              go : (ahead : List Edge) → PlanCut (p .before) ahead → i + length ahead ≡ passedCount plan → drop i (passedOf es plan) ≡ ahead
+              go : (ahead : List Edge) → PlanCut (p .before) ahead → i + length ahead ≡ plannedCount plan → drop i (plannedOf es plan) ≡ ahead
                   → Passed start (set counts to (stopped (getD counts to 0 + getD counts from 0))) (i + 1)
               go [] cut left rows = absurd (omega arith)
               go (e ∷ rest) cut left rows =
-                  let w = drop-head e (passedOf es plan) i rows in
-                  let front : i < length (take (passedCount plan) plan) = omega (arith, h, length-take (passedCount plan) plan, c .planned .few, c .planned .room) in
+                  let w = drop-head e (plannedOf es plan) i rows in
+                  let front : i < length (take (plannedCount plan) plan) = omega (arith, h, length-take (plannedCount plan) plan, c .planned .few, c .planned .room) in
                   let own : e ≡ edgeAt es (getD plan i 0) =
-                  sym (w .1) ∙ map-at (edgeAt es) (take (passedCount plan) plan) i e 0 front ∙ ap (edgeAt es) (getD-take (passedCount plan) plan i 0 h) in
+                  sym (w .1) ∙ map-at (edgeAt es) (take (plannedCount plan) plan) i e 0 front ∙ ap (edgeAt es) (getD-take (plannedCount plan) plan i 0 h) in
                   record {
                     before = e ∷ p .before;
                     ahead = rest;
@@ -133,10 +133,10 @@ module _ (ns es : List ℤ) (plan : List ℕ) (root : ℕ) where
               subst (λ (t : List ℕ). Passed start t (i + 1)) (sum-over counts to from (turn-stopped to (to-below turn-ends to r)) z) pass-next
 
       -- behind the last turn
-      pub pass-end : passedCount plan ≤ i → Counted ns es plan root counts
+      pub pass-end : plannedCount plan ≤ i → Counted ns es plan root counts
       pass-end h = go (p .ahead) (p .cut) (p .left)
         where
-          go : (ahead : List Edge) → PlanCut (p .before) ahead → i + length ahead ≡ passedCount plan → Counted ns es plan root counts
+          go : (ahead : List Edge) → PlanCut (p .before) ahead → i + length ahead ≡ plannedCount plan → Counted ns es plan root counts
           go (e ∷ rest) cut left = absurd (omega arith)
           go [] cut left = record {
             each = λ v k w.

@@ -24,7 +24,7 @@ use Rattle.entering.specs.Entering.{Covered, entering}
 use Rattle.entering.proofs.Sums.{total-none}
 use Rattle.entering.proofs.Walks.{entering-out}
 use Rattle.entering.proofs.Counts.{count-entering}
-use Rattle.forward.specs.Forward.{passedCount, passedOf}
+use Rattle.forward.specs.Forward.{plannedCount, plannedOf}
 use Rattle.pathlimit.specs.Inputs.{Plans}
 use Rattle.pathlimit.specs.Checks.{checkPaths}
 use Rattle.pathlimit.proofs.First.{first-none}
@@ -38,7 +38,7 @@ root-other {g} {r} {l} p q e =
 
 -- where a plan that has every edge that enters a leaf has no edge, no path leads from a root to the leaf
 pub unplanned-paths : {ns es : List ℤ} (plan : List ℕ) {r l : ℤ} → TakenTables ns es → Root (graphOf ns es) r → Leaf (graphOf ns es) l
-    → Covered es (passedOf es plan) l → passedCount plan ≡ 0 → length (paths (graphOf ns es) r l) ≡ 0
+    → Covered es (plannedOf es plan) l → plannedCount plan ≡ 0 → length (paths (graphOf ns es) r l) ≡ 0
 unfolding pathCount graphOf
 unplanned-paths {ns} {es} plan {r} {l} k root leaf covered bare =
     let g = graphOf ns es in
@@ -49,7 +49,7 @@ unplanned-paths {ns} {es} plan {r} {l} k root leaf covered bare =
     ∙ total-none (λ e. pathCount g r (e .from)) (entering g l) out
 
 -- where neither plan has an edge no pair is refused
-pub unplanned-taken : {t : Tables} {sp mp : List ℕ} → Plans t sp mp → passedCount sp + passedCount mp ≡ 0 → checkPaths t ≡ none
+pub unplanned-taken : {t : Tables} {sp mp : List ℕ} → Plans t sp mp → plannedCount sp + plannedCount mp ≡ 0 → checkPaths t ≡ none
 unfolding when _then_ checkVisit manyPaths
 unplanned-taken {t} {sp} {mp} k bare =
     first-none (checkVisit (specGraph t) (implGraph t)) (visits (rootRows t) (leafRows t))

@@ -10,7 +10,7 @@ use Rattle.model.specs.Paths.{Root}
 use Rattle.model.specs.Taken.{TakenTables}
 use Rattle.reach.specs.Counting.{pathCount, stopped}
 use Rattle.entering.specs.Entering.{Covered}
-use Rattle.forward.specs.Forward.{passedOf, Planned}
+use Rattle.forward.specs.Forward.{plannedOf, Planned}
 
 -- what a count of the paths from a root starts from: tables whose graph is taken, a plan of it, a root, and room
 pub record Countable (ns es : List ℤ) (plan : List ℕ) (root : ℕ) (counts : List ℕ) : Type 0 where
@@ -21,5 +21,5 @@ pub record Countable (ns es : List ℤ) (plan : List ℕ) (root : ℕ) (counts :
 
 -- the stopped count of the paths from the root stands at each node whose entering edges the plan has
 pub record Counted (ns es : List ℤ) (plan : List ℕ) (root : ℕ) (counts : List ℕ) : Type 0 where
-  pub each : (v : ℕ) → v < length (nodeRows ns) → Covered es (passedOf es plan) (pos v)
+  pub each : (v : ℕ) → v < length (nodeRows ns) → Covered es (plannedOf es plan) (pos v)
       → getD counts v 0 ≡ stopped (pathCount (graphOf ns es) (pos root) (pos v))

@@ -11,8 +11,8 @@ ghost use Rattle.pairing.specs.Pairs.{pairAt, tablesOf};
 ghost use Rattle.pathlimit.specs.Inputs.{Plans};
 ghost use Rattle.pathlimit.specs.Counting.{Countable, Counted};
 ghost use Rattle.pathlimit.specs.Checks.{checkPaths, checkRow, checkCounts, checkLeaf, LeavesCounted};
-use forward::passed_count;
-use forward::passed_row;
+use forward::planned_count;
+use forward::planned_row;
 use model::Checked;
 use model::IMPL_EDGES;
 use model::MAX_PATHS;
@@ -36,10 +36,10 @@ fn count_from(nodes: &[i64], edges: &[i64], plan: &[usize], root: usize, counts:
     ensures { λ _. ⌜ Counted (now (nodes .entry)) (now (edges .entry)) (now (plan .entry)) root (now (counts .exit)) ⌝ }
 {
     start_counts(counts, nodes.len() / NODE_WIDTH, root);
-    let count = passed_count(plan);
+    let count = planned_count(plan);
     let mut i = 0;
     while i < count {
-        let e = passed_row(plan, i);
+        let e = planned_row(plan, i);
         i += 1;
         let from = edge_from(edges, e);
         let to = edge_to(edges, e);
@@ -152,7 +152,7 @@ pub fn check_paths(
         (tablesOf (now («spec_nodes» .entry)) (now («spec_edges» .entry)) (now («impl_nodes» .entry)) (now («impl_edges» .entry))
         (now («root_pairs» .entry)) (now («leaf_pairs» .entry)))) tt ⌝ }
 {
-    if passed_count(spec_plan) + passed_count(impl_plan) == 0 {
+    if planned_count(spec_plan) + planned_count(impl_plan) == 0 {
         return Checked::Taken;
     }
     let count = root_pairs.len() / PAIR_WIDTH;

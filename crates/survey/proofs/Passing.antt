@@ -112,8 +112,8 @@ module _ {all : List Finding} {lines : List ℕ} {k : Kept} where
   passed-end p = subst (λ (l : List Finding). KeptOf l lines k) (sym (append-nil (p .fs)) ∙ p .split) (p .kept)
 
   -- as many as all
-  pub passed-count : {left : List Finding} (p : Passed all left lines k) → length (p .fs) + length left ≡ length all
-  passed-count {left} p = sym (length-append (p .fs) left) ∙ ap length (p .split)
+  pub planned-count : {left : List Finding} (p : Passed all left lines k) → length (p .fs) + length left ≡ length all
+  planned-count {left} p = sym (length-append (p .fs) left) ∙ ap length (p .split)
 
   -- and no more bytes than those of all
   pub passed-bytes : {left : List Finding} → Passed all left lines k → k .bytes ≤ length (flatMap findingLine all)
@@ -140,7 +140,7 @@ module _ (t : Tables) (i j : ℕ) where
           fs = p .fs;
           lines = lines′;
           kept = p .kept;
-          few = omega (arith, passed-count p, ap length (pairs-next t i j h), length-append (room .fs) (rowFindings t i), row-count t i, room .few);
+          few = omega (arith, planned-count p, ap length (pairs-next t i j h), length-append (room .fs) (rowFindings t i), row-count t i, room .few);
         };
         small = record { root = root-row-below inputs i l; leaf = leaf-row-below inputs j h; spec = few .0; impl = few .1 };
       }
@@ -172,7 +172,7 @@ module _ (t : Tables) (i : ℕ) {all : List Finding} {lines : List ℕ} {k : Kep
         record {
           fs = row-left .fs;
           kept = row-left .kept;
-          few = omega (arith, passed-count row-left, length-append (rowFindings t i) rest, row-count t i, few);
+          few = omega (arith, planned-count row-left, length-append (rowFindings t i) rest, row-count t i, few);
         }
 
     -- and it is passed
@@ -194,5 +194,5 @@ surveyed inputs p whole =
     record {
       within = whole;
       past = λ h. omega (arith, passed-bytes p);
-      fits = omega (arith, kept-bytes (p .kept), passed-count p, findings-few inputs);
+      fits = omega (arith, kept-bytes (p .kept), planned-count p, findings-few inputs);
     }

@@ -13,7 +13,7 @@ use Rattle.model.specs.Graph.{graphOf}
 use Rattle.model.specs.Runs.{listOf}
 use Rattle.model.specs.Compare.{Tables, leafRows, Visit, Finding, findingOf}
 use Rattle.judging.proofs.Judging.{no-records}
-use Rattle.forward.specs.Forward.{passedCount}
+use Rattle.forward.specs.Forward.{plannedCount}
 use Rattle.pairing.specs.Pairs.{pairAt}
 use Rattle.pairing.proofs.Pairs.{pair-member}
 use Rattle.pathlimit.specs.Inputs.{Ready}
@@ -24,13 +24,13 @@ use Rattle.totals.specs.Kept.{Bare}
 use Rattle.survey.specs.Survey.{rowFindings}
 
 -- where the plan has no edge no path leads to the leaf, and its list is empty
-side-bare : {ns es : List ℤ} {plan : List ℕ} {r l : ℤ} → Side ns es plan r l → passedCount plan ≡ 0 → listOf (graphOf ns es) r l ≡ []
+side-bare : {ns es : List ℤ} {plan : List ℕ} {r l : ℤ} → Side ns es plan r l → plannedCount plan ≡ 0 → listOf (graphOf ns es) r l ≡ []
 side-bare {ns} {es} {plan} {r} {l} k bare =
     let g = graphOf ns es in
     no-records (listOf g r l) (omega (arith, list-few g r l, unplanned-paths plan (k .tables) (k .root) (k .leaf) (k .covered) bare))
 
 -- each finding of a root row is without a record
-pub row-bare : {t : Tables} {sp mp : List ℕ} → Ready t sp mp → {i : ℕ} → i < length (t .rootPairs) / pairWidth → passedCount sp + passedCount mp ≡ 0
+pub row-bare : {t : Tables} {sp mp : List ℕ} → Ready t sp mp → {i : ℕ} → i < length (t .rootPairs) / pairWidth → plannedCount sp + plannedCount mp ≡ 0
     → (f : Finding) → f ∈ rowFindings t i → Bare f
 unfolding findingOf
 row-bare {t} k {i} h none f n =

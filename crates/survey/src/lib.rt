@@ -13,7 +13,7 @@ ghost use Rattle.pairs.specs.Found.{Rooms, PairReady};
 ghost use Rattle.survey.specs.Survey.{RowRoom, RowKept, Surveyed};
 use arrivals::STATE_ROOM;
 use arrivals::sweep_root;
-use forward::passed_count;
+use forward::planned_count;
 use model::MAX_NUMBERS;
 use model::PAIR_WIDTH;
 use pairing::impl_node;
@@ -107,7 +107,7 @@ fn found_of_row(
         (tablesOf (now («spec_nodes» .entry)) (now («spec_edges» .entry)) (now («impl_nodes» .entry)) (now («impl_edges» .entry))
         (now («root_pairs» .entry)) (now («leaf_pairs» .entry))) «root_row» (now (lines .entry)) kept (now (lines .exit)) r ⌝ }
 {
-    if passed_count(spec_plan) + passed_count(impl_plan) == 0 {
+    if planned_count(spec_plan) + planned_count(impl_plan) == 0 {
         return with_equal(kept, leaf_pairs.len() / PAIR_WIDTH);
     }
     let spec_root = spec_node(root_pairs, root_row);

@@ -7,9 +7,7 @@ ghost use lib.ListN.{length};
 ghost use Rattle.model.specs.Limits.{maxDigits};
 ghost use Rattle.model.specs.Reader.{magnitude, negative, valueOf};
 ghost use Rattle.values.specs.Given.{scanned, digitsValue, signedValue};
-
-// Digits of a value at most.
-const MAX_DIGITS: usize = 18;
+use model::MAX_DIGITS;
 
 // The number that digits write.
 enum Digits {

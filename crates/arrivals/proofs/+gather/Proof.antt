@@ -27,7 +27,7 @@ use Rattle.arrivals.proofs.gather.Kinds as kinds
 use Rattle.arrivals.proofs.+gather.Lts-gather as lts
 use Rattle.arrivals.proofs.brought_over.Reads as brought-over-reads
 use Rattle.arrivals.proofs.is_listed.Reads as is-listed-reads
-use Rattle.arrivals.proofs.kept_at.Reads as kept-at-reads
+use Rattle.arrivals.proofs.stored_at.Reads as stored-at-reads
 use Rattle.arrivals.proofs.number_at.Reads as number-at-reads
 use Rattle.forward.proofs.first_entering.Reads as first-entering-reads
 use Rattle.forward.proofs.next_entering.Reads as next-entering-reads
@@ -50,8 +50,8 @@ abbrev claims : ℕ → lts.Claims
 claims t = (
   is-listed-reads.Asked,
   is-listed-reads.Learnt,
-  kept-at-reads.Asked,
-  kept-at-reads.Learnt,
+  stored-at-reads.Asked,
+  stored-at-reads.Learnt,
   number-at-reads.Asked,
   number-at-reads.Learnt,
   own-reference-reads.Asked,
@@ -90,8 +90,8 @@ module _ (t : ℕ) where
   is-listed-requires : lts.Need-is-listed-requires (claims t) (at t) reads.Post Inv-loop μ-loop
   is-listed-requires c κs = let s = c .before .before in let k = s .pre .1 in omega (arith, owner-few k (s .args .f .owner) refl, k .sweeping .room)
 
-  kept-at-requires : lts.Need-kept-at-requires (claims t) (at t) reads.Post Inv-loop μ-loop
-  kept-at-requires c κs =
+  stored-at-requires : lts.Need-stored-at-requires (claims t) (at t) reads.Post Inv-loop μ-loop
+  stored-at-requires c κs =
       let b = c .before in
       let s = b .before .before .before .before in
       list-readable (s .pre .1) (s .args .f .owner) refl (listed b)
@@ -116,10 +116,10 @@ module _ (t : ℕ) where
       c .own-reference .ensures (s .args .edges .now) ∙ ap (own (graphOf (s .args .nodes .now) (s .args .edges .now))) (c .before .number-at .ensures)
 
   -- where the list stands
-  place : (c : lts.After-kept-at (claims t) (at t) reads.Post Inv-loop μ-loop)
+  place : (c : lts.After-stored-at (claims t) (at t) reads.Post Inv-loop μ-loop)
       → let s = c .before .before .before .before .before .before in
-      (c .kept-at .result .row ≡ placeOf (s .args .state .now) (s .args .f .owner)) × (c .kept-at .result .count ≡ countOf (s .args .state .now) (s .args .f .owner))
-  place c = (ap natAbs (c .kept-at .ensures .0), ap natAbs (c .kept-at .ensures .1))
+      (c .stored-at .result .row ≡ placeOf (s .args .state .now) (s .args .f .owner)) × (c .stored-at .result .count ≡ countOf (s .args .state .now) (s .args .f .owner))
+  place c = (ap natAbs (c .stored-at .ensures .0), ap natAbs (c .stored-at .ensures .1))
 
   gather-list-requires : lts.Need-gather-list-requires (claims t) (at t) reads.Post Inv-loop μ-loop
   gather-list-requires c κs =
@@ -269,7 +269,7 @@ pub +gather-spec : {M : Type 1} → statement M
     close μ-gather
     λ t. lts.spec (claims t) (at t) reads.Post Inv-loop μ-loop
     (is-listed-requires t)
-    (kept-at-requires t)
+    (stored-at-requires t)
     (number-at-requires t)
     (own-reference-requires t)
     (gather-list-requires t)

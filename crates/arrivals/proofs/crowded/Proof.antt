@@ -4,11 +4,11 @@ use Prim.Native.Nat.{_+_, _≤_}
 use native.Mathlib.Omega.{arith}
 use borrow.Author.Needs.{needs}
 use lib.IntN.{natAbs}
-use Rattle.arrivals.specs.State.{arenaRow, keptRows}
+use Rattle.arrivals.specs.State.{arenaRow, arenaRows}
 use Rattle.arrivals.proofs.crowded.Statement.{statement}
 use Rattle.arrivals.proofs.crowded.Tie as tie
 
-used : (c : tie.After-number-at) → c .number-at .result ≤ arenaRow + keptRows
+used : (c : tie.After-number-at) → c .number-at .result ≤ arenaRow + arenaRows
 used c = omega (arith, ap natAbs (c .number-at .ensures), c .before .pre .3)
 
 add-if1 : tie.Need-add-if1

@@ -6,7 +6,7 @@ use borrow.Author.Needs.{needs}
 use lib.IntN.{natAbs}
 use lib.ListN.{length}
 use Rattle.integers.proofs.Linear.{ints}
-use Rattle.arrivals.specs.State.{arenaRow, keptRows, usedIn}
+use Rattle.arrivals.specs.State.{arenaRow, arenaRows, usedIn}
 use Rattle.arrivals.proofs.Making.{gathered-count, gathered-mergeable, list-made}
 use Rattle.arrivals.proofs.make_list.Statement.{statement}
 use Rattle.arrivals.proofs.make_list.Tie as tie
@@ -27,7 +27,7 @@ gather-requires c κs = rw (used (c .before)) (start (c .before) .pre .gatherabl
 -- the rows that were gathered stand in the state
 room : (c : tie.After-gather)
     → let n = c .before .before .number-at .result in
-    (n ≤ arenaRow + keptRows) × (n ≤ c .gather .result) × (3 * c .gather .result ≤ length (c .gather .last .1 .1 .1 .1 .1 .0))
+    (n ≤ arenaRow + arenaRows) × (n ≤ c .gather .result) × (3 * c .gather .result ≤ length (c .gather .last .1 .1 .1 .1 .1 .0))
 room c =
     let u = c .before .before in
     let p = start u .pre in

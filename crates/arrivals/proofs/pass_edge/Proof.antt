@@ -21,19 +21,19 @@ use Rattle.arrivals.proofs.pass_edge.Tie as tie
 leaves : (k : tie.After-edge-from)
     → let s = k .before .before .before in
     pos (k .edge-from .result) ≡ nextEdge (s .args .edges .now) (s .args .plan .now) (s .args .i) .from
-leaves k = let s = k .before .before .before in from-read (s .pre .sweeping) (s .pre .there) (k .before .passed-row .ensures) (k .edge-from .ensures)
+leaves k = let s = k .before .before .before in from-read (s .pre .sweeping) (s .pre .there) (k .before .planned-row .ensures) (k .edge-from .ensures)
 
 -- something has arrived there
 met : (k : tie.Else1) → let e = k .before .before .before in isMet (e .before .before .before .args .state .now) (e .edge-from .result) ≡ true
 met k = sym (k .before .is-met .ensures) ∙ not-false (k .before .is-met .result) (k .if1 .left)
 
 -- the state is swept as far once a list may have been kept
-kept : (k : tie.After-keep-list)
+kept : (k : tie.After-store-list)
     → let s = k .before .before .before .before .before .before .before .before .before in
-    Sweeping (s .args .nodes .now) (s .args .edges .now) (s .args .plan .now) (s .args .i) (k .keep-list .last .1 .1 .1 .1 .0)
+    Sweeping (s .args .nodes .now) (s .args .edges .now) (s .args .plan .now) (s .args .i) (k .store-list .last .1 .1 .1 .1 .0)
 kept k =
     let s = k .before .before .before .before .before .before .before .before .before in
-    k .keep-list .ensures .sweeping (s .args .i) (s .pre .sweeping)
+    k .store-list .ensures .sweeping (s .args .i) (s .pre .sweeping)
 
 -- the other node that was read is the one that the edge enters
 enters : (k : tie.After-edge-to)
@@ -42,7 +42,7 @@ enters : (k : tie.After-edge-to)
 enters k =
     let p = k .before .before .before .before .before .before .before .before .before .before in
     let s = p .before .before in
-    to-read (s .pre .sweeping) (s .pre .there) (p .passed-row .ensures) (k .edge-to .ensures)
+    to-read (s .pre .sweeping) (s .pre .there) (p .planned-row .ensures) (k .edge-to .ensures)
 
 -- what the code says comes over the edge
 came : (k : tie.After-brought-over)
@@ -50,19 +50,19 @@ came : (k : tie.After-brought-over)
     let s = l .before .before .before .before .before .before .before .before .before in
     let g = graphOf (s .args .nodes .now) (s .args .edges .now) in
     let e = nextEdge (s .args .edges .now) (s .args .plan .now) (s .args .i) in
-    crossing g e (own g (e .to)) (l .keep-list .last .1 .1 .1 .1 .0) ≡ broughtOf (k .brought-over .result)
+    crossing g e (own g (e .to)) (l .store-list .last .1 .1 .1 .1 .0) ≡ broughtOf (k .brought-over .result)
 came k =
     let o = k .before .before in
     let t = o .before in
     let l = t .before .before .before in
     let p = l .before .before .before .before .before .before .before in
     let s = p .before .before in
-    crossing-read (kept l) (s .pre .there) (p .passed-row .ensures) (enters t) (o .own-reference .ensures (s .args .edges .now)) (k .brought-over .ensures)
+    crossing-read (kept l) (s .pre .there) (p .planned-row .ensures) (enters t) (o .own-reference .ensures (s .args .edges .now)) (k .brought-over .ensures)
 
 edge-from-requires : tie.Need-edge-from-requires
 edge-from-requires c κs =
     let s = c .before .before in
-    let r = next-readable (s .pre .sweeping) (s .pre .there) (c .passed-row .ensures) in
+    let r = next-readable (s .pre .sweeping) (s .pre .there) (c .planned-row .ensures) in
     (r .0, r .1)
 
 is-met-requires : tie.Need-is-met-requires
@@ -81,8 +81,8 @@ returns c =
       refl,
     )
 
-keep-list-requires : tie.Need-keep-list-requires
-keep-list-requires c κs =
+store-list-requires : tie.Need-store-list-requires
+store-list-requires c κs =
     let t = c .before .before in
     let k = t .before .before .before in
     let s = k .before .before .before in
@@ -92,7 +92,7 @@ edge-to-requires : tie.Need-edge-to-requires
 edge-to-requires c κs =
     let p = c .before .before .before .before .before .before .before .before .before in
     let s = p .before .before in
-    let r = next-readable (s .pre .sweeping) (s .pre .there) (p .passed-row .ensures) in
+    let r = next-readable (s .pre .sweeping) (s .pre .there) (p .planned-row .ensures) in
     (r .0, r .2)
 
 own-reference-requires : tie.Need-own-reference-requires
@@ -107,7 +107,7 @@ brought-over-requires c κs =
     let l = t .before .before .before in
     let p = l .before .before .before .before .before .before .before in
     let s = p .before .before in
-    next-crossable (kept l) (s .pre .there) (p .passed-row .ensures) (enters t) (o .own-reference .ensures (s .args .edges .now))
+    next-crossable (kept l) (s .pre .there) (p .planned-row .ensures) (enters t) (o .own-reference .ensures (s .args .edges .now))
 
 meet-requires : tie.Need-meet-requires
 meet-requires c κs =
@@ -120,7 +120,7 @@ meet-requires c κs =
     let row = next-to w there (enters t) in
     let low = row-few (w .tables) row in
     let inOwner =
-    brought-lying w there (e .edge-from .result) (leaves e) (l .keep-list .ensures .met) (t .edge-to .result) (referenceOf (b .brought .given .0 .0)) (pos 0) (enters t)
+    brought-lying w there (e .edge-from .result) (leaves e) (l .store-list .ensures .met) (t .edge-to .result) (referenceOf (b .brought .given .0 .0)) (pos 0) (enters t)
     (came (b .before .before) ∙ ap broughtOf (b .brought .given .1)) in
     (node-good (w .tables) row, low, omega (arith, w .room), row-few (w .tables) (inOwner .row))
 
@@ -138,10 +138,10 @@ returns-2 c =
     let f = referenceOf (b .brought .given .0 .0) in
     let rows = m .meet .ensures .0 in
     rw (m .meet .ensures .1 (s .args .edges .now)) (
-      sweeping-met w there (e .edge-from .result) (leaves e) (l .keep-list .ensures .met) (t .edge-to .result) f rows (enters t)
+      sweeping-met w there (e .edge-from .result) (leaves e) (l .store-list .ensures .met) (t .edge-to .result) f rows (enters t)
           (came (b .before .before) ∙ ap broughtOf (b .brought .given .1)),
-      meeting-root (l .keep-list .last .1 .1 .1 .1 .0) (t .edge-to .result) (own g (pos (t .edge-to .result))) f rows (row-few (w .tables) (next-to w there (enters t)))
-          ∙ l .keep-list .ensures .root,
+      meeting-root (l .store-list .last .1 .1 .1 .1 .0) (t .edge-to .result) (own g (pos (t .edge-to .result))) f rows (row-few (w .tables) (next-to w there (enters t)))
+          ∙ l .store-list .ensures .root,
     )
 
 returns-3 : tie.Need-returns-3
@@ -149,9 +149,9 @@ returns-3 c =
     let x = c .before .before in
     let l = x .before .before .before .before .before .before in
     let e = l .before .before .before .before .before .before in (
-      sweeping-nothing (kept l) (e .before .before .before .pre .there) (e .edge-from .result) (leaves e) (l .keep-list .ensures .met)
+      sweeping-nothing (kept l) (e .before .before .before .pre .there) (e .edge-from .result) (leaves e) (l .store-list .ensures .met)
           (came x ∙ ap broughtOf (c .enum-told .given .1)),
-      l .keep-list .ensures .root,
+      l .store-list .ensures .root,
     )
 
 pub pass-edge-spec : {M : Type 1} → statement M
@@ -163,7 +163,7 @@ pass-edge-spec =
     is-met-requires
     (λ c. search needs)
     returns
-    keep-list-requires
+    store-list-requires
     edge-to-requires
     own-reference-requires
     brought-over-requires

@@ -7,7 +7,7 @@ use lib.ListN.{length}
 use Rattle.model.specs.Rows.{nodeRows}
 use Rattle.tables.proofs.Rows.{nodes-length}
 use Rattle.steps.proofs.Rows.{node-good}
-use Rattle.forward.specs.Forward.{passedCount}
+use Rattle.forward.specs.Forward.{plannedCount}
 use Rattle.arrivals.specs.State.{rootIn}
 use Rattle.arrivals.specs.Sweep.{Sweeping}
 use Rattle.arrivals.specs.Moves.{Blank}
@@ -37,8 +37,8 @@ start-root-requires c κs =
     let row = s .pre .start .row in
     (node-good (s .pre .tables) row, row-few (s .pre .tables) row, m .clear-marks .kept .0 ∙ s .pre .room)
 
-passed-count-requires : tie.Need-passed-count-requires Inv-loop μ-loop
-passed-count-requires c κs = c .before .before .before .before .before .before .before .pre .planned .room
+planned-count-requires : tie.Need-planned-count-requires Inv-loop μ-loop
+planned-count-requires c κs = c .before .before .before .before .before .before .before .pre .planned .room
 
 loop-holds : tie.Need-loop-holds Inv-loop μ-loop
 loop-holds c =
@@ -59,7 +59,7 @@ pass-edge-requires c κs =
     let s = start l in
     record {
       sweeping = l .loop .inv .0;
-      there = omega (arith, i .loop-test .taken, l .before .passed-count .ensures);
+      there = omega (arith, i .loop-test .taken, l .before .planned-count .ensures);
       spareRoom = omega (arith, l .loop .inv .3, s .pre .spareRoom);
     }
 
@@ -86,7 +86,7 @@ returns : tie.Need-returns Inv-loop μ-loop
 returns c =
     let l = c .before in
     let s = start l in
-    let all : l .loop .i ≡ passedCount (s .args .plan .now) = omega (arith, c .loop-test .left, l .loop .inv .2, l .before .passed-count .ensures) in
+    let all : l .loop .i ≡ plannedCount (s .args .plan .now) = omega (arith, c .loop-test .left, l .loop .inv .2, l .before .planned-count .ensures) in
     record {
       from = l .loop .inv .1;
       state = subst (λ (n : ℕ). Sweeping (s .args .nodes .now) (s .args .edges .now) (s .args .plan .now) n (l .loop .state)) all (l .loop .inv .0);
@@ -100,7 +100,7 @@ sweep-root-spec =
     μ-loop
     clear-marks-requires
     start-root-requires
-    passed-count-requires
+    planned-count-requires
     loop-holds
     pass-edge-requires
     add-i

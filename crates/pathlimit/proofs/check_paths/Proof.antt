@@ -31,7 +31,7 @@ abbrev μ-loop : tie.MeasureT-loop
     count - root-row
 
 -- the entry of the function, from where the edges of both plans are counted, and from the loop
-abbrev entry : tie.After-passed-count2 Inv-loop μ-loop → tie.Start Inv-loop μ-loop
+abbrev entry : tie.After-planned-count2 Inv-loop μ-loop → tie.Start Inv-loop μ-loop
 entry c = c .before .before .before .before .before .before
 
 abbrev start : tie.At-loop Inv-loop μ-loop → tie.Start Inv-loop μ-loop
@@ -57,7 +57,7 @@ returns : tie.Need-returns Inv-loop μ-loop
 unfolding answer
 returns c =
     let p = c .before in
-    ap checked (sym (unplanned-taken (entry p .pre .0) (omega (arith, c .if1 .taken, p .before .passed-count .ensures, p .passed-count2 .ensures))))
+    ap checked (sym (unplanned-taken (entry p .pre .0) (omega (arith, c .if1 .taken, p .before .planned-count .ensures, p .planned-count2 .ensures))))
 
 loop-holds : tie.Need-loop-holds Inv-loop μ-loop
 loop-holds c = (refl, refl, refl)

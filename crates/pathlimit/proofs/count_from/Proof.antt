@@ -7,7 +7,7 @@ use lib.ListN.{length, getD}
 use Rattle.model.specs.Limits.{nodeWidth}
 use Rattle.tables.specs.Tables.{edgeAt}
 use Rattle.reach.proofs.Ends.{Ends, from-below, to-below}
-use Rattle.forward.specs.Forward.{passedCount}
+use Rattle.forward.specs.Forward.{plannedCount}
 use Rattle.pathlimit.proofs.Pass.{Passed, root-below, count-room, pass-start, turn-stopped, turn-within, turn-ends, pass-next, pass-over, pass-end}
 use Rattle.pathlimit.proofs.count_from.Statement.{statement}
 use Rattle.pathlimit.proofs.count_from.Tie as tie
@@ -23,16 +23,16 @@ abbrev start : tie.At-loop Inv-loop μ-loop → tie.Start Inv-loop μ-loop
 start l = l .before .before .before .before .before .before .before .before
 
 -- the plan has an edge for a turn
-turn : (k : tie.In-loop Inv-loop μ-loop) → k .before .loop .i < passedCount (start (k .before) .args .plan .now)
-turn k = omega (arith, k .loop-test .taken, k .before .before .passed-count .ensures)
+turn : (k : tie.In-loop Inv-loop μ-loop) → k .before .loop .i < plannedCount (start (k .before) .args .plan .now)
+turn k = omega (arith, k .loop-test .taken, k .before .before .planned-count .ensures)
 
 -- the ends of the edge of a turn are nodes
-ends : (k : tie.After-passed-row Inv-loop μ-loop)
-    → let s = start (k .before .before) in Ends (s .args .nodes .now) (s .args .edges .now) (k .passed-row .result)
+ends : (k : tie.After-planned-row Inv-loop μ-loop)
+    → let s = start (k .before .before) in Ends (s .args .nodes .now) (s .args .edges .now) (k .planned-row .result)
 ends k =
     let l = k .before .before in
     let s = start l in
-    rw (k .passed-row .ensures)
+    rw (k .planned-row .ensures)
     (turn-ends (s .args .nodes .now) (s .args .edges .now) (s .args .plan .now) (s .args .root) (s .pre) (l .loop .inv) (turn (k .before)))
 
 -- both ends are indices of the counts
@@ -52,13 +52,13 @@ from-read : (k : tie.After-edge-to Inv-loop μ-loop)
     → let l = k .before .before .before .before in
     let s = start l in
     pos (k .before .edge-from .result) ≡ edgeAt (s .args .edges .now) (getD (s .args .plan .now) (l .loop .i) 0) .from
-from-read k = rw (k .before .before .passed-row .ensures) at (k .before .edge-from .ensures)
+from-read k = rw (k .before .before .planned-row .ensures) at (k .before .edge-from .ensures)
 
 to-read : (k : tie.After-edge-to Inv-loop μ-loop)
     → let l = k .before .before .before .before in
     let s = start l in
     pos (k .edge-to .result) ≡ edgeAt (s .args .edges .now) (getD (s .args .plan .now) (l .loop .i) 0) .to
-to-read k = rw (k .before .before .passed-row .ensures) at (k .edge-to .ensures)
+to-read k = rw (k .before .before .planned-row .ensures) at (k .edge-to .ensures)
 
 start-counts-requires : tie.Need-start-counts-requires Inv-loop μ-loop
 start-counts-requires c κs =
@@ -68,8 +68,8 @@ start-counts-requires c κs =
     let plan = s .args .plan .now in
     (root-below ns es plan (s .args .root) (s .pre), count-room ns es plan (s .args .root) (s .pre))
 
-passed-count-requires : tie.Need-passed-count-requires Inv-loop μ-loop
-passed-count-requires c κs = c .before .before .before .before .before .before .pre .planned .room
+planned-count-requires : tie.Need-planned-count-requires Inv-loop μ-loop
+planned-count-requires c κs = c .before .before .before .before .before .before .pre .planned .room
 
 loop-holds : tie.Need-loop-holds Inv-loop μ-loop
 loop-holds c =
@@ -77,8 +77,8 @@ loop-holds c =
     let s = k .before .before .before .before in
     rw (k .start-counts .ensures) (pass-start (s .args .nodes .now) (s .args .edges .now) (s .args .plan .now) (s .args .root) (s .pre))
 
-passed-row-requires : tie.Need-passed-row-requires Inv-loop μ-loop
-passed-row-requires c κs =
+planned-row-requires : tie.Need-planned-row-requires Inv-loop μ-loop
+planned-row-requires c κs =
     let l = c .before in
     let s = start l in
     turn-within (s .args .nodes .now) (s .args .edges .now) (s .args .plan .now) (s .args .root) (s .pre) (l .loop .inv) (turn c)
@@ -141,7 +141,7 @@ returns c =
     let l = c .before in
     let s = start l in
     pass-end (s .args .nodes .now) (s .args .edges .now) (s .args .plan .now) (s .args .root) (s .pre) (l .loop .inv)
-    (omega (arith, c .loop-test .left, l .before .passed-count .ensures))
+    (omega (arith, c .loop-test .left, l .before .planned-count .ensures))
 
 pub count-from-spec : {M : Type 1} → statement M
 count-from-spec =
@@ -150,9 +150,9 @@ count-from-spec =
     Inv-loop
     μ-loop
     start-counts-requires
-    passed-count-requires
+    planned-count-requires
     loop-holds
-    passed-row-requires
+    planned-row-requires
     add-i
     edge-from-requires
     edge-to-requires

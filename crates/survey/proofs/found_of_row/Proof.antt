@@ -19,7 +19,7 @@ use Rattle.survey.proofs.found_of_row.Statement.{statement}
 use Rattle.survey.proofs.found_of_row.Tie as tie
 
 -- where the function begins, and the tables there
-abbrev start : tie.After-passed-count2 → tie.Start
+abbrev start : tie.After-planned-count2 → tie.Start
 start c = c .before .before .before .before .before
 
 abbrev tables : tie.Start → Tables
@@ -53,7 +53,7 @@ returns c fs k =
     let t = tables s in
     let i = s .args .root-row in
     c .with-equal .ensures .kept fs (rowFindings t i) (s .args .lines .now) (row-count t i)
-    (row-bare (s .pre .0) (s .pre .2) (omega (arith, c .before .if1 .taken, p .before .passed-count .ensures, p .passed-count2 .ensures))) k
+    (row-bare (s .pre .0) (s .pre .2) (omega (arith, c .before .if1 .taken, p .before .planned-count .ensures, p .planned-count2 .ensures))) k
 
 spec-node-requires : tie.Need-spec-node-requires
 spec-node-requires c κs = let s = start (c .before) in (omega (arith, s .pre .2), roots s .0 .row .low)

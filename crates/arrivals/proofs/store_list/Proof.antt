@@ -17,8 +17,8 @@ use Rattle.arrivals.specs.Moves.{ListMade}
 use Rattle.integers.proofs.Linear.{ints}
 use Rattle.arrivals.proofs.Agreeing.{rows-few}
 use Rattle.arrivals.proofs.Keeping.{kept-same, ownable-makeable, keeping-storable, keeping-kept}
-use Rattle.arrivals.proofs.keep_list.Statement.{statement}
-use Rattle.arrivals.proofs.keep_list.Tie as tie
+use Rattle.arrivals.proofs.store_list.Statement.{statement}
+use Rattle.arrivals.proofs.store_list.Tie as tie
 
 -- the mark of the node stands in the state
 mark-there : (s : tie.Start) → 6 * s .args .v + 6 ≤ length (s .args .state .now)
@@ -58,8 +58,8 @@ make-list-requires c κs =
     let f = i .before .before in
     ownable-makeable (f .before .before .before .pre) (f .reference-at .ensures) (ap pos (i .if1 .left))
 
-keep-rows-requires : tie.Need-keep-rows-requires
-keep-rows-requires c κs =
+store-rows-requires : tie.Need-store-rows-requires
+store-rows-requires c κs =
     let m = c .before .before .before in
     let i = m .before .before .before .before .before .before .before .before .before in
     let f = i .before .before in
@@ -74,11 +74,11 @@ returns-4 c =
     let f = i .before .before in
     let s = f .before .before .before in
     subst (ListMade (s .args .nodes .now) (s .args .edges .now) (s .args .plan .now) (s .args .v) (s .args .state .now))
-    (sym (k .keep-rows .ensures (s .args .edges .now)))
+    (sym (k .store-rows .ensures (s .args .edges .now)))
     (keeping-kept (s .pre) (f .reference-at .ensures) (ap pos (i .if1 .left)) (m .make-list .ensures) (unlisted e))
 
-pub keep-list-spec : {M : Type 1} → statement M
-keep-list-spec =
+pub store-list-spec : {M : Type 1} → statement M
+store-list-spec =
     tie.close
     (tie.spec
     reference-at-requires
@@ -91,7 +91,7 @@ keep-list-spec =
     (λ c. search needs)
     returns-3
     make-list-requires
-    keep-rows-requires
+    store-rows-requires
     (λ c. search needs)
     (λ c. search needs)
     returns-4)

@@ -12,8 +12,8 @@ use Rattle.model.specs.Graph.{graphOf}
 use Rattle.references.specs.References.{Reference, own}
 use Rattle.arrivals.specs.State.{setMark, marked}
 use Rattle.arrivals.proofs.Moves.{own-owner, storing-full, rows-stored}
-use Rattle.arrivals.proofs.keep_rows.Statement.{statement}
-use Rattle.arrivals.proofs.keep_rows.Tie as tie
+use Rattle.arrivals.proofs.store_rows.Statement.{statement}
+use Rattle.arrivals.proofs.store_rows.Tie as tie
 
 -- the reference to all that arrives at v
 abbrev all : tie.Start → List ℤ → Reference
@@ -54,8 +54,8 @@ returns-2 c = λ es.
     (toZ-pos w64 (omega arith))
     (omega arith)
 
-pub keep-rows-spec : {M : Type 1} → statement M
-keep-rows-spec =
+pub store-rows-spec : {M : Type 1} → statement M
+store-rows-spec =
     tie.close
     (tie.spec
     (λ c κs. search needs)

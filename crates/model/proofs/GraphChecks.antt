@@ -12,14 +12,14 @@ use lib.Signed.{_≤ℤ_, _<ℤ_}
 use lib.ListN.{length}
 use Rattle.integers.specs.Integers.{eqZ}
 use Rattle.integers.proofs.Linear.{ints}
-use Rattle.integers.proofs.Tests.{le?, lt?, eqZ?, eq?}
+use Rattle.integers.proofs.Tests.{Test, le?, lt?, eqZ?, eq?}
 use Rattle.lists.specs.Lists.{_∈_}
 use Rattle.model.specs.Limits.{nodeWidth, edgeWidth, maxNodes, maxEdges, maxUnits}
 use Rattle.model.specs.Rows.{Node, Edge, nodeRows, edgeRows}
 use Rattle.model.specs.Graph.{Graph, graphOf, NodeRow, node, space, segment, block}
 use Rattle.model.specs.Paths.{Root, Leaf, Cycle, LongChain}
-use Rattle.model.specs.Refusals.{Condition, NoneHolds, refuse, _next_, BadShape, broken, tooMany, Kind, AddressUnit, BadNode, unknownKind, unknownUnit, lowBase, lowRange, highEnd, BadEdge, noFrom, noTo, lowOffset, highOffset, shapeConditions, nodeConditions, edgeConditions, rowConditions, graphConditions, checkConditions}
-use Rattle.model.specs.Checks.{when, _then_, firstOf, checkShape, isKind, isUnit, goodNode, checkNode, isRow, goodEdge, checkEdge, cyclic, deep, checkGraph, isRoot, isLeaf}
+use Rattle.model.specs.Refusals.{Condition, NoneHolds, refuse, _next_, BadShape, broken, tooMany, Kind, AddressUnit, HighEnd, LowOffset, HighOffset, BadNode, unknownKind, unknownUnit, lowBase, lowRange, highEnd, BadEdge, noFrom, noTo, lowOffset, highOffset, shapeConditions, nodeConditions, edgeConditions, rowConditions, graphConditions, checkConditions}
+use Rattle.model.specs.Checks.{when, _then_, firstOf, checkShape, isKind, isUnit, goodExtent, goodNode, checkNode, isRow, goodOffset, goodEdge, checkEdge, cyclic, deep, checkGraph, isRoot, isLeaf}
 use Rattle.model.specs.Calls.{checkAnswer}
 use Rattle.lists.proofs.Decisions.{Decides, test-map, not?, and?, decides-as, decides-and, decides-le, any?, test-stable, decides-not, decides-or, or-regroup, decides-lt}
 use Rattle.model.proofs.Settled.{Settled, settled-next, settled-when, settled-each, none-flatMap, Exact, answer-exact}
@@ -64,29 +64,39 @@ isUnit? u =
     (decides-or (eqZ? u (pos 8))
     (decides-or (eqZ? u (pos 16)) (decides-or (eqZ? u (pos 32)) (decides-or (eqZ? u (pos 64)) (eqZ? u (pos 128))))))))
 
+-- base and range keep their limits
+abbrev pub GoodExtent : Node → Type 0
+GoodExtent n = ((pos 0 ≤ℤ n .base) × (pos 1 ≤ℤ n .range)) × ((n .base +ℤ n .range) ≤ℤ pos maxUnits)
+
+-- or do not
+abbrev BadExtent : Node → Type 0
+BadExtent n = ((n .base <ℤ pos 0) ⊎ (n .range <ℤ pos 1)) ⊎ HighEnd n
+
+-- the test on base and range
+pub extent? : (n : Node) → Test (GoodExtent n) (BadExtent n) (goodExtent n)
+unfolding goodExtent
+extent? n = and? (and? (le? (pos 0) (n .base)) (le? (pos 1) (n .range))) (le? (n .base +ℤ n .range) (pos maxUnits))
+
 -- the test on a node row decides whether it is bad
 pub node? : (n : Node) → Decides (BadNode n) (not (goodNode n))
 unfolding goodNode
 node? n =
     let named = and? (isKind? (n .kind)) (isUnit? (n .unit)) in
-    let low = and? (and? named (le? (pos 0) (n .base))) (le? (pos 1) (n .range)) in
-    test-map bad good (not? (and? low (le? (n .base +ℤ n .range) (pos maxUnits))))
+    test-map bad good (not? (and? named (extent? n)))
   where
-    bad : ((((Kind (n .kind) → ⊥) ⊎ (AddressUnit (n .unit) → ⊥)) ⊎ (n .base <ℤ pos 0)) ⊎ (n .range <ℤ pos 1)) ⊎ (pos maxUnits <ℤ (n .base +ℤ n .range))
-        → BadNode n
-    bad (inl (inl (inl (inl k)))) = unknownKind k
-    bad (inl (inl (inl (inr u)))) = unknownUnit u
-    bad (inl (inl (inr h))) = lowBase h
-    bad (inl (inr h)) = lowRange h
-    bad (inr h) = highEnd h
+    bad : ((Kind (n .kind) → ⊥) ⊎ (AddressUnit (n .unit) → ⊥)) ⊎ BadExtent n → BadNode n
+    bad (inl (inl k)) = unknownKind k
+    bad (inl (inr u)) = unknownUnit u
+    bad (inr (inl (inl h))) = lowBase h
+    bad (inr (inl (inr h))) = lowRange h
+    bad (inr (inr h)) = highEnd h
 
-    good : (((Kind (n .kind) × AddressUnit (n .unit)) × (pos 0 ≤ℤ n .base)) × (pos 1 ≤ℤ n .range)) × ((n .base +ℤ n .range) ≤ℤ pos maxUnits)
-        → BadNode n → ⊥
-    good p (unknownKind k) = k (p .0 .0 .0 .0)
-    good p (unknownUnit u) = u (p .0 .0 .0 .1)
-    good p (lowBase h) = omega (arith, ints, p .0 .0 .1)
-    good p (lowRange h) = omega (arith, ints, p .0 .1)
-    good p (highEnd h) = omega (arith, ints, p .1)
+    good : (Kind (n .kind) × AddressUnit (n .unit)) × GoodExtent n → BadNode n → ⊥
+    good p (unknownKind k) = k (p .0 .0)
+    good p (unknownUnit u) = u (p .0 .1)
+    good p (lowBase h) = omega (arith, ints, p .1 .0 .0)
+    good p (lowRange h) = omega (arith, ints, p .1 .0 .1)
+    good p (highEnd h) = omega (arith, ints, p .1 .1)
 
 -- the check of a node row settles its condition
 pub node-settled : (t : ℕ) (n : Node) → Settled (checkNode t n) (nodeConditions t n)
@@ -102,24 +112,33 @@ isRow? g v =
     decides-as (λ p. record { low = p .0; high = p .1 }, λ r. (r .low, r .high))
     (decides-and (decides-le (pos 0) v) (test-map (λ h. h) (λ h k. omega (arith, ints)) (lt? v (pos (length (g .nodes))))))
 
+-- the offset keeps its limits
+abbrev pub GoodOffset : Graph → Edge → Type 0
+GoodOffset g e = (negℤ (pos maxUnits) ≤ℤ e .offset) × (e .offset ≤ℤ pos maxUnits)
+
+-- the test on an offset
+pub offset? : (g : Graph) (e : Edge) → Test (GoodOffset g e) (LowOffset g e ⊎ HighOffset g e) (goodOffset g e)
+unfolding goodOffset
+offset? g e = and? (le? (negℤ (pos maxUnits)) (e .offset)) (le? (e .offset) (pos maxUnits))
+
 -- the test on an edge row decides whether it is bad
 pub edge? : (g : Graph) (e : Edge) → Decides (BadEdge g e) (not (goodEdge g e))
 unfolding goodEdge
 edge? g e =
     let ends = and? (isRow? g (e .from)) (isRow? g (e .to)) in
-    test-map bad good (not? (and? (and? ends (le? (negℤ (pos maxUnits)) (e .offset))) (le? (e .offset) (pos maxUnits))))
+    test-map bad good (not? (and? ends (offset? g e)))
   where
-    bad : (((NodeRow g (e .from) → ⊥) ⊎ (NodeRow g (e .to) → ⊥)) ⊎ (e .offset <ℤ negℤ (pos maxUnits))) ⊎ (pos maxUnits <ℤ e .offset) → BadEdge g e
-    bad (inl (inl (inl n))) = noFrom n
-    bad (inl (inl (inr n))) = noTo n
-    bad (inl (inr h)) = lowOffset h
-    bad (inr h) = highOffset h
+    bad : ((NodeRow g (e .from) → ⊥) ⊎ (NodeRow g (e .to) → ⊥)) ⊎ (LowOffset g e ⊎ HighOffset g e) → BadEdge g e
+    bad (inl (inl n)) = noFrom n
+    bad (inl (inr n)) = noTo n
+    bad (inr (inl h)) = lowOffset h
+    bad (inr (inr h)) = highOffset h
 
-    good : ((NodeRow g (e .from) × NodeRow g (e .to)) × (negℤ (pos maxUnits) ≤ℤ e .offset)) × (e .offset ≤ℤ pos maxUnits) → BadEdge g e → ⊥
-    good p (noFrom n) = n (p .0 .0 .0)
-    good p (noTo n) = n (p .0 .0 .1)
-    good p (lowOffset h) = omega (arith, ints, p .0 .1)
-    good p (highOffset h) = omega (arith, ints, p .1)
+    good : (NodeRow g (e .from) × NodeRow g (e .to)) × GoodOffset g e → BadEdge g e → ⊥
+    good p (noFrom n) = n (p .0 .0)
+    good p (noTo n) = n (p .0 .1)
+    good p (lowOffset h) = omega (arith, ints, p .1 .0)
+    good p (highOffset h) = omega (arith, ints, p .1 .1)
 
 -- the check of an edge row settles its two conditions
 pub edge-settled : (t : ℕ) (g : Graph) (e : Edge) → Settled (checkEdge t g e) (edgeConditions t g e)

@@ -1,6 +1,6 @@
 -- What a graph that meets no condition for a refusal has, and the range of its bit addresses and bit offsets.
 use mathlib.Core.Path.{_≡_, refl, sym, ap, subst}
-use mathlib.Core.Logic.{_≢_, inl, inr}
+use mathlib.Core.Logic.{_≢_, inl, inr, ⊎-elim}
 use mathlib.Core.List.{List, [], _∷_, flatMap, List·Memᴰ·head, List·Memᴰ·tail}
 use Prim.Native.Nat.{ℕ, zero, suc, _+_, _*_, _%_, _≤_, _<_, _^_}
 use native.Mathlib.Nat.{mul-le-mul}
@@ -13,16 +13,16 @@ use Rattle.integers.proofs.Products.{times, times-bound}
 use Rattle.integers.proofs.Tests.{le?, eq?, leb?}
 use Rattle.lists.proofs.Decisions.{test-stable}
 use Rattle.lists.specs.Lists.{_∈_}
-use Rattle.model.specs.Limits.{nodeWidth, edgeWidth, maxNodes, maxEdges, maxUnits, lastAddress}
+use Rattle.model.specs.Limits.{nodeWidth, edgeWidth, maxNodes, maxEdges, maxUnits, maxBits, lastAddress}
 use Rattle.model.specs.Rows.{Node, Edge, nodeRows, edgeRows}
 use Rattle.model.specs.Graph.{Graph, graphOf, NodeRow, noNode, node, block, firstBit, lastBit, bitOffset}
 use Rattle.model.specs.Walk.{StandsOn}
 use Rattle.model.specs.Paths.{Leaf, Cycle, LongChain}
-use Rattle.model.specs.Refusals.{NoneHolds, refuse, _next_, Kind, AddressUnit, BadNode, unknownKind, unknownUnit, lowBase, lowRange, highEnd, lowOffset, highOffset, BadShape, broken, tooMany, shapeConditions, nodeConditions, edgeConditions, rowConditions, graphConditions}
+use Rattle.model.specs.Refusals.{NoneHolds, refuse, _next_, Kind, AddressUnit, BadNode, unknownKind, unknownUnit, lowBase, lowRange, highEnd, LowOffset, HighOffset, lowOffset, highOffset, BadShape, broken, tooMany, shapeConditions, nodeConditions, edgeConditions, rowConditions, graphConditions}
 use Rattle.model.specs.Taken.{Taken, GoodShape, TakenTables}
 use Rattle.model.proofs.Settled.{none-next, none-flatMap}
 use Rattle.model.proofs.Paths.{Fit, edges-distinct}
-use Rattle.model.proofs.GraphChecks.{isKind?, isUnit?, edges-good, edges-end}
+use Rattle.model.proofs.GraphChecks.{isKind?, isUnit?, GoodOffset, offset?, edges-good, edges-end}
 
 -- ---- a graph that meets no condition is taken
 
@@ -44,12 +44,10 @@ nodes-good t g h v r = none-flatMap (nodeConditions t) (g .nodes) .0 h (node g v
 
 -- where no condition of an edge row holds, its offset is in range, and it starts at no block
 module _ (t : ℕ) (g : Graph) (h : NoneHolds (flatMap (edgeConditions t g) (g .edges))) where
-  edges-offset : (e : Edge) → e ∈ g .edges → (negℤ (pos maxUnits) ≤ℤ e .offset) × (e .offset ≤ℤ pos maxUnits)
+  edges-offset : (e : Edge) → e ∈ g .edges → (LowOffset g e → ⊥) × (HighOffset g e → ⊥)
   edges-offset e m =
-      let good = edges-good t g h e m in (
-        test-stable (le? (negℤ (pos maxUnits)) (e .offset)) (λ k. good (lowOffset k)),
-        test-stable (le? (e .offset) (pos maxUnits)) (λ k. good (highOffset k)),
-      )
+      let good = edges-good t g h e m in
+      (λ k. good (lowOffset k), λ k. good (highOffset k))
 
   edges-from : (e : Edge) → e ∈ g .edges → node g (e .from) .kind ≢ block
   unfolding edgeConditions
@@ -177,7 +175,7 @@ bounds-full {n} b =
       ap (λ (k : ℕ). k * plus (n .unit)) high,
     )
 
--- the bit addresses with which a walk may stand on a node within its bounds lie in 0 .. 2^55 − 1
+-- the bit addresses with which a walk may stand on a node within its bounds lie in 0 .. lastAddress
 pub bounds-address : {n : Node} {a : ℤ} → Bounds n → StandsOn n a → (pos 0 ≤ℤ a) × (a ≤ℤ lastAddress)
 unfolding firstBit lastBit
 bounds-address {n} {a} b s =
@@ -194,15 +192,20 @@ bounds-address {n} {a} b s =
 pub taken-node-full : {g : Graph} {v : ℤ} → Taken g → NodeRow g v → firstBit (node g v) ≤ℤ lastBit (node g v)
 taken-node-full k r = bounds-full (taken-bounds k r)
 
--- every bit address of a taken graph lies in 0 .. 2^55 − 1
+-- every bit address of a taken graph lies in 0 .. lastAddress
 pub taken-address : {g : Graph} {v a : ℤ} → Taken g → NodeRow g v → StandsOn (node g v) a → (pos 0 ≤ℤ a) × (a ≤ℤ lastAddress)
 taken-address k r s = bounds-address (taken-bounds k r) s
 
--- every bit offset of a taken graph lies within ±2^55
-pub taken-offset : {g : Graph} {e : Edge} → Taken g → e ∈ g .edges → (negℤ (pos (2 ^ 55)) ≤ℤ bitOffset g e) × (bitOffset g e ≤ℤ pos (2 ^ 55))
+-- every offset of a taken graph lies within ±maxUnits
+pub taken-units : {g : Graph} {e : Edge} → Taken g → e ∈ g .edges → GoodOffset g e
+taken-units {g} {e} k m = test-stable (offset? g e) (⊎-elim (k .offsets e m .0) (k .offsets e m .1))
+
+-- every bit offset of a taken graph lies within ±maxBits
+pub taken-offset : {g : Graph} {e : Edge} → Taken g → e ∈ g .edges → (negℤ (pos maxBits) ≤ℤ bitOffset g e) × (bitOffset g e ≤ℤ pos maxBits)
 unfolding bitOffset
 taken-offset {g} {e} k m =
     let u = unit-size (taken-bounds k (k .ends e m .1) .unit) in
-    let o = parts-within maxUnits (e .offset) (k .offsets e m .0) (k .offsets e m .1) in
+    let units = taken-units k m in
+    let o = parts-within maxUnits (e .offset) (units .0) (units .1) in
     let most = times-bound maxUnits 128 (e .offset) (node g (e .to) .unit) (o .0) (o .1) (u .sign) (u .most) in
-    (omega (arith, ints, most .1, neg (pos (2 ^ 55))), omega (arith, ints, most .0))
+    (omega (arith, ints, most .1, neg (pos maxBits)), omega (arith, ints, most .0))

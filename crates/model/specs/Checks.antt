@@ -49,9 +49,13 @@ isKind k = eqZ k space || eqZ k segment || eqZ k block
 unfoldable pub isUnit : ℤ → Bool
 isUnit u = eqZ u (pos 8) || eqZ u (pos 16) || eqZ u (pos 32) || eqZ u (pos 64) || eqZ u (pos 128)
 
+-- base and range of a node row keep their limits
+unfoldable pub goodExtent : Node → Bool
+goodExtent n = leZ (pos 0) (n .base) && leZ (pos 1) (n .range) && leZ (n .base +ℤ n .range) (pos maxUnits)
+
 -- a node row with nothing of that
 unfoldable pub goodNode : Node → Bool
-goodNode n = isKind (n .kind) && isUnit (n .unit) && leZ (pos 0) (n .base) && leZ (pos 1) (n .range) && leZ (n .base +ℤ n .range) (pos maxUnits)
+goodNode n = isKind (n .kind) && isUnit (n .unit) && goodExtent n
 
 -- 2 for one row
 unfoldable pub checkNode : ℕ → Node → Option Refusal
@@ -63,9 +67,13 @@ checkNode t n = when (not (goodNode n)) 2 t (n .row)
 unfoldable pub isRow : Graph → ℤ → Bool
 isRow g v = leZ (pos 0) v && ltZ v (pos (length (g .nodes)))
 
+-- the offset of an edge row keeps its limits
+unfoldable pub goodOffset : Graph → Edge → Bool
+goodOffset g e = leZ (negℤ (pos maxUnits)) (e .offset) && leZ (e .offset) (pos maxUnits)
+
 -- an edge row that 3 is not for
 unfoldable pub goodEdge : Graph → Edge → Bool
-goodEdge g e = isRow g (e .from) && isRow g (e .to) && leZ (negℤ (pos maxUnits)) (e .offset) && leZ (e .offset) (pos maxUnits)
+goodEdge g e = isRow g (e .from) && isRow g (e .to) && goodOffset g e
 
 -- 3 before 4 for one row
 unfoldable pub checkEdge : ℕ → Graph → Edge → Option Refusal

@@ -30,9 +30,13 @@ maxPairs = 1000
 abbrev pub maxUnits : ℕ
 maxUnits = 2 ^ 48
 
+-- the bit after the last of a node, and the size of a bit offset, at most
+abbrev pub maxBits : ℕ
+maxBits = 2 ^ 55
+
 -- the highest bit address of any node that keeps the limits
 abbrev pub lastAddress : ℤ
-lastAddress = pos (2 ^ 55 - 1)
+lastAddress = pos (maxBits - 1)
 
 -- bit addresses lie below this, bit offsets and displacements within: a bit address plus or less one of these is a number of 64 bits
 abbrev pub addressRoom : ℕ

@@ -1,5 +1,5 @@
 -- What is asked of numbers that the code adds, scales and moves, so that the results are numbers of 64 bits. Assumes nothing.
--- The limits of a taken graph lie far inside: bit addresses below 2^55, bit offsets within ±2^55.
+-- The limits of a taken graph lie far inside: bit addresses up to lastAddress, bit offsets within ±maxBits.
 use Prim.Native.Nat.{_^_}
 use lib.IntN.{ℤ, pos, negℤ, _+ℤ_, _*ℤ_}
 use lib.Signed.{_≤ℤ_, _<ℤ_}

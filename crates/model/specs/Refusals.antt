@@ -60,23 +60,35 @@ Kind k = (k ≡ space) ⊎ (k ≡ segment) ⊎ (k ≡ block)
 abbrev pub AddressUnit : ℤ → Type 0
 AddressUnit u = (u ≡ pos 8) ⊎ (u ≡ pos 16) ⊎ (u ≡ pos 32) ⊎ (u ≡ pos 64) ⊎ (u ≡ pos 128)
 
+-- the node ends too high
+abbrev pub HighEnd : Node → Type 0
+HighEnd n = pos maxUnits <ℤ (n .base +ℤ n .range)
+
 pub data BadNode (n : Node) : Type 0 where
   unknownKind : (Kind (n .kind) → ⊥) → BadNode n
   unknownUnit : (AddressUnit (n .unit) → ⊥) → BadNode n
   lowBase : n .base <ℤ pos 0 → BadNode n
   lowRange : n .range <ℤ pos 1 → BadNode n
-  highEnd : pos maxUnits <ℤ (n .base +ℤ n .range) → BadNode n
+  highEnd : HighEnd n → BadNode n
 
 unfoldable pub nodeConditions : ℕ → Node → List Condition
 nodeConditions t n = refuse 2 t (n .row) (BadNode n)
 
 -- ---- 3: an end is no node row, or offset outside −2^48 .. 2^48; 4: from is a block
 
+-- the edge's offset is too low
+abbrev pub LowOffset : Graph → Edge → Type 0
+LowOffset g e = e .offset <ℤ negℤ (pos maxUnits)
+
+-- the edge's offset is too high
+abbrev pub HighOffset : Graph → Edge → Type 0
+HighOffset g e = pos maxUnits <ℤ e .offset
+
 pub data BadEdge (g : Graph) (e : Edge) : Type 0 where
   noFrom : (NodeRow g (e .from) → ⊥) → BadEdge g e
   noTo : (NodeRow g (e .to) → ⊥) → BadEdge g e
-  lowOffset : e .offset <ℤ negℤ (pos maxUnits) → BadEdge g e
-  highOffset : pos maxUnits <ℤ e .offset → BadEdge g e
+  lowOffset : LowOffset g e → BadEdge g e
+  highOffset : HighOffset g e → BadEdge g e
 
 unfoldable pub edgeConditions : ℕ → Graph → Edge → List Condition
 edgeConditions t g e = refuse 3 t (e .row) (BadEdge g e) next refuse 4 t (e .row) (node g (e .from) .kind ≡ block)

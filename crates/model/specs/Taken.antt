@@ -3,15 +3,14 @@ use mathlib.Core.Path.{_≡_}
 use mathlib.Core.Logic.{_≢_}
 use mathlib.Core.List.{List}
 use Prim.Native.Nat.{ℕ, _*_, _%_, _≤_}
-use lib.IntN.{ℤ, pos, negℤ}
-use lib.Signed.{_≤ℤ_}
+use lib.IntN.{ℤ}
 use lib.ListN.{length}
 use Rattle.lists.specs.Lists.{_∈_, Distinct}
-use Rattle.model.specs.Limits.{nodeWidth, edgeWidth, maxNodes, maxEdges, maxUnits}
+use Rattle.model.specs.Limits.{nodeWidth, edgeWidth, maxNodes, maxEdges}
 use Rattle.model.specs.Rows.{Edge}
 use Rattle.model.specs.Graph.{Graph, graphOf, NodeRow, node, block}
 use Rattle.model.specs.Paths.{Cycle, LongChain}
-use Rattle.model.specs.Refusals.{BadNode}
+use Rattle.model.specs.Refusals.{BadNode, LowOffset, HighOffset}
 
 -- no cycle, no chain of more than 64 edges, every node row good, every edge row good, and no edge from a block
 pub record Taken (g : Graph) : Type 0 where
@@ -19,7 +18,7 @@ pub record Taken (g : Graph) : Type 0 where
   pub short : LongChain g → ⊥
   pub good : (v : ℤ) → NodeRow g v → BadNode (node g v) → ⊥
   pub ends : (e : Edge) → e ∈ g .edges → NodeRow g (e .from) × NodeRow g (e .to)
-  pub offsets : (e : Edge) → e ∈ g .edges → (negℤ (pos maxUnits) ≤ℤ e .offset) × (e .offset ≤ℤ pos maxUnits)
+  pub offsets : (e : Edge) → e ∈ g .edges → (LowOffset g e → ⊥) × (HighOffset g e → ⊥)
   pub fromNoBlock : (e : Edge) → e ∈ g .edges → node g (e .from) .kind ≢ block
   pub distinct : Distinct (g .edges)
 

@@ -16,6 +16,7 @@ use Rattle.model.specs.Refusals.{BadNode}
 use Rattle.model.specs.Quantities.{Movable}
 use Rattle.model.specs.Runs.{Run, empty, whole, across}
 use Rattle.model.specs.Calls.{standsOn}
+use Rattle.model.specs.Limits.{maxBits}
 use Rattle.model.specs.Taken.{Taken}
 use Rattle.model.proofs.Taken.{node-bounds, bounds-full, bounds-address, taken-offset}
 use Rattle.model.proofs.WalkCall.{standsOn?}
@@ -91,7 +92,7 @@ module _ {g : Graph} {e : Edge} (taken : Taken g) (edge : e ∈ g .edges) where
   pub offset-small : SmallOffset (bitOffset g e)
   offset-small =
       let o = taken-offset taken edge in
-      record { low = omega (arith, ints, o .0, neg (pos (2 ^ 55)), neg (pos (2 ^ 62))); high = omega (arith, ints, o .1) }
+      record { low = omega (arith, ints, o .0, neg (pos maxBits), neg (pos (2 ^ 62))); high = omega (arith, ints, o .1) }
 
   -- what is left of a small run is small
   pub across-small : {r : Run} → SmallRun r → T (not (empty (across g e r))) → SmallRun (across g e r)

@@ -12,7 +12,7 @@ use Rattle.model.specs.Limits.{nodeWidth, edgeWidth, maxUnits}
 use Rattle.model.specs.Graph.{graphOf, NodeRow as IsNode, node, firstBit, lastBit, bitOffset}
 use Rattle.model.specs.Refusals.{AddressUnit, BadNode, unknownKind, unknownUnit, lowBase, lowRange, highEnd}
 use Rattle.model.specs.Taken.{TakenTables}
-use Rattle.model.proofs.Taken.{node-bounds}
+use Rattle.model.proofs.Taken.{node-bounds, taken-units}
 use Rattle.tables.specs.declared.NodeRow.{NodeRow}
 use Rattle.tables.specs.Tables.{nodeAt, edgeAt, nodeOf}
 use Rattle.tables.proofs.Rows.{nodes-length, node-at, edge-member}
@@ -62,7 +62,7 @@ module _ {ns es : List ℤ} (k : TakenTables ns es) (e : ℕ) (h : edgeWidth * e
     -- they keep the limits
     pub offset-limits : (negℤ (pos maxUnits) ≤ℤ o) × (o ≤ℤ pos maxUnits) × AddressUnit u
     offset-limits =
-        let limits = k .graph .offsets (edgeAt es e) (edge-in ns es e h) in
+        let limits = taken-units (k .graph) (edge-in ns es e h) in
         rw (offset, unit) (limits .0, limits .1, node-bounds (to-good to .good) .unit)
 
     -- and give the bit offset

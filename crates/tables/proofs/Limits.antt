@@ -1,6 +1,7 @@
 -- What the tests on the numbers of a row say, and that the bits of a row within its limits are numbers of 64 bits.
 use mathlib.Core.Path.{_≡_, refl, sym, _∙_}
 use mathlib.Core.Bool.{Bool, true, false, _&&_}
+use mathlib.Core.Logic.{⊎-elim}
 use Prim.Native.Nat.{_^_}
 use native.Mathlib.Omega.{arith}
 use lib.Dec.{ltb}
@@ -10,16 +11,15 @@ use lib.ListN.{length}
 use Rattle.integers.proofs.Linear.{ints, sum, diff, neg}
 use Rattle.integers.proofs.Products.{times-bound}
 use Rattle.integers.proofs.Tests.{test-of, of-test, is-true, is-false, T-true, and-out}
-use Rattle.lists.proofs.Decisions.{Decides, decides-as, decides-and, decides-le, decides-lt}
-use Rattle.model.specs.Limits.{maxUnits, lastAddress}
+use Rattle.lists.proofs.Decisions.{Decides, test-map, decides-as, decides-le, decides-lt}
+use Rattle.model.specs.Limits.{maxUnits, maxBits, lastAddress}
 use Rattle.model.specs.Rows.{Node, Edge}
 use Rattle.model.specs.Graph.{Graph, NodeRow, firstBit, lastBit}
 use Rattle.model.specs.Quantities.{Addable, Scalable, Movable}
 use Rattle.model.specs.Refusals.{BadNode, AddressUnit}
-use Rattle.model.specs.Checks.{isKind, isUnit, goodNode, isRow, goodEdge}
-use Rattle.model.proofs.GraphChecks.{isRow?}
+use Rattle.model.specs.Checks.{isKind, isUnit, goodExtent, goodNode, isRow, goodOffset, goodEdge}
+use Rattle.model.proofs.GraphChecks.{GoodExtent, extent?, isRow?, GoodOffset, offset?}
 use Rattle.model.proofs.Taken.{node-bounds, unit-size, parts-within, bounds-full, bounds-address}
-use Rattle.tables.specs.Tables.{goodExtent, goodOffset}
 
 -- ---- tests that decide
 
@@ -38,42 +38,38 @@ decides-same {a = false} d e = decides-false e (λ p. of-test d (λ n. n p))
 
 -- ---- tests on the numbers of a row
 
--- the test on base and range
-pub extent? : (base range : ℤ) → Decides (((pos 0 ≤ℤ base) × (pos 1 ≤ℤ range)) × ((base +ℤ range) ≤ℤ pos maxUnits)) (goodExtent base range)
-unfolding goodExtent
-extent? base range = decides-and (decides-and (decides-le (pos 0) base) (decides-le (pos 1) range)) (decides-le (base +ℤ range) (pos maxUnits))
+-- the test on base and range decides whether they keep their limits
+pub extent-decides : (n : Node) → Decides (GoodExtent n) (goodExtent n)
+extent-decides n =
+    test-map (λ h. h) (⊎-elim (⊎-elim (λ h k. omega (arith, ints, h, k .0 .0)) (λ h k. omega (arith, ints, h, k .0 .1))) (λ h k. omega (arith, ints, h, k .1)))
+    (extent? n)
 
--- the test on an offset
-pub offset? : (offset : ℤ) → Decides ((negℤ (pos maxUnits) ≤ℤ offset) × (offset ≤ℤ pos maxUnits)) (goodOffset offset)
-unfolding goodOffset
-offset? offset = decides-and (decides-le (negℤ (pos maxUnits)) offset) (decides-le offset (pos maxUnits))
-
-and-assoc : (a b c : Bool) → a && b && c ≡ a && (b && c)
-and-assoc true b c = refl
-and-assoc false b c = refl
+-- the test on an offset decides whether it keeps its limits
+pub offset-decides : (g : Graph) (e : Edge) → Decides (GoodOffset g e) (goodOffset g e)
+offset-decides g e = test-map (λ h. h) (⊎-elim (λ h k. omega (arith, ints, h, k .0)) (λ h k. omega (arith, ints, h, k .1))) (offset? g e)
 
 -- the test on a node row is that on its kind and unit, then that on base and range
-pub node-parts : (n : Node) → goodNode n ≡ isKind (n .kind) && isUnit (n .unit) && goodExtent (n .base) (n .range)
-unfolding goodNode goodExtent
-node-parts n = simp and-assoc
+pub node-parts : (n : Node) → goodNode n ≡ isKind (n .kind) && isUnit (n .unit) && goodExtent n
+unfolding goodNode
+node-parts n = refl
 
 -- the test on an edge row is that on its two ends, then that on its offset
-pub edge-parts : (g : Graph) (e : Edge) → goodEdge g e ≡ isRow g (e .from) && isRow g (e .to) && goodOffset (e .offset)
-unfolding goodEdge goodOffset
-edge-parts g e = and-assoc (isRow g (e .from) && isRow g (e .to)) (leZ (negℤ (pos maxUnits)) (e .offset)) (leZ (e .offset) (pos maxUnits))
+pub edge-parts : (g : Graph) (e : Edge) → goodEdge g e ≡ isRow g (e .from) && isRow g (e .to) && goodOffset g e
+unfolding goodEdge
+edge-parts g e = refl
 
--- a base and a range of at most 2^48 each, neither below 0, are added
+-- a base and a range of at most maxUnits each, neither below 0, are added
 pub extent-addable : (base range : ℤ) → pos 0 ≤ℤ base → pos 1 ≤ℤ range → base ≤ℤ pos maxUnits → range ≤ℤ pos maxUnits → Addable base range
 extent-addable base range low some most long =
     let end = sum base range in
     record { low = omega (arith, ints, low, some, end, neg (pos (2 ^ 62))); high = omega (arith, ints, most, long, end) }
 
 -- where neither is too low, base and range keep their limits exactly where their sum does
-pub extent-end : (base range end : ℤ) → pos 0 ≤ℤ base → pos 1 ≤ℤ range → end ≡ base +ℤ range → leZ end (pos maxUnits) ≡ goodExtent base range
-extent-end base range end low some e =
+pub extent-end : (n : Node) (end : ℤ) → pos 0 ≤ℤ n .base → pos 1 ≤ℤ n .range → end ≡ n .base +ℤ n .range → leZ end (pos maxUnits) ≡ goodExtent n
+extent-end n end low some e =
     decides-same
     (decides-as (λ h. ((low, some), omega (arith, ints, e, h)), λ h. omega (arith, ints, e, h .1)) (decides-le end (pos maxUnits)))
-    (extent? base range)
+    (extent-decides n)
 
 -- a number that is not negative is a row exactly where it is below the number of rows
 pub row-below : (g : Graph) (v : ℤ) → pos 0 ≤ℤ v → ltb (natAbs v) (length (g .nodes)) ≡ isRow g v
@@ -87,7 +83,7 @@ pub edge-from-row : (g : Graph) (e : Edge) → goodEdge g e ≡ true → NodeRow
 edge-from-row g e h =
     let from = isRow g (e .from) in
     let to = isRow g (e .to) in
-    let ends = and-out (from && to) (goodOffset (e .offset)) (T-true (from && to && goodOffset (e .offset)) (sym (edge-parts g e) ∙ h)) .0 in
+    let ends = and-out (from && to) (goodOffset g e) (T-true (from && to && goodOffset g e) (sym (edge-parts g e) ∙ h)) .0 in
     test-of (isRow? g (e .from)) (and-out from to ends .0)
 
 -- ---- bits
@@ -126,7 +122,7 @@ module _ {n : Node} (good : BadNode n → ⊥) where
       record { low = omega (arith, ints, b .base, b .range, neg (pos (2 ^ 62)), sum (n .base) (n .range)); high = omega (arith, ints, b .end) }
 
   -- the bit after the last
-  end-address : (pos 0 ≤ℤ ((n .base +ℤ n .range) *ℤ n .unit)) × (((n .base +ℤ n .range) *ℤ n .unit) ≤ℤ pos (2 ^ 55))
+  end-address : (pos 0 ≤ℤ ((n .base +ℤ n .range) *ℤ n .unit)) × (((n .base +ℤ n .range) *ℤ n .unit) ≤ℤ pos maxBits)
   unfolding lastBit
   end-address =
       let after = diff ((n .base +ℤ n .range) *ℤ n .unit) (pos 1) in

@@ -1,12 +1,10 @@
 -- The rows of flat tables, as the code reads them, and their checks. Assumes nothing.
-use mathlib.Core.Bool.{Bool, _&&_}
 use mathlib.Core.List.{List}
 use mathlib.Core.Option.{Option}
 use Prim.Native.Nat.{ℕ, suc, _+_, _*_}
-use lib.IntN.{ℤ, pos, negℤ, _+ℤ_}
-use lib.Signed.{leZ}
+use lib.IntN.{ℤ, pos}
 use lib.ListN.{getD}
-use Rattle.model.specs.Limits.{nodeWidth, edgeWidth, maxNodes, maxEdges, maxUnits}
+use Rattle.model.specs.Limits.{nodeWidth, edgeWidth, maxNodes, maxEdges}
 use Rattle.model.specs.Rows.{Node, Edge, nodeRows, edgeRows}
 use Rattle.model.specs.Graph.{graphOf}
 use Rattle.model.specs.Refusals.{Refusal}
@@ -31,14 +29,6 @@ nodeOf v n = record { row = v; kind = n .kind; base = n .base .0; range = n .ran
 -- what was read of an edge row, as row e
 abbrev pub edgeOf : ℕ → EdgeRow → Edge
 edgeOf e r = record { row = e; from = r .from; to = r .to; offset = r .offset .0 }
-
--- base and range of a node row keep their limits
-unfoldable pub goodExtent : ℤ → ℤ → Bool
-goodExtent base range = leZ (pos 0) base && leZ (pos 1) range && leZ (base +ℤ range) (pos maxUnits)
-
--- an offset keeps its limits
-unfoldable pub goodOffset : ℤ → Bool
-goodOffset offset = leZ (negℤ (pos maxUnits)) offset && leZ offset (pos maxUnits)
 
 -- refusals 1 to 4 of a graph in their order. Its node table is t and its edge table t + 1
 unfoldable pub checkRows : ℕ → List ℤ → List ℤ → Option Refusal

@@ -8,10 +8,10 @@ ghost use Rattle.model.specs.Limits.{nodeWidth, edgeWidth, maxUnits};
 ghost use Rattle.model.specs.Rows.{nodeRows, edgeRows};
 ghost use Rattle.model.specs.Graph.{Graph, graphOf, firstBit, lastBit};
 ghost use Rattle.model.specs.Refusals.{BadNode, AddressUnit};
-ghost use Rattle.model.specs.Checks.{firstOf, checkShape, isKind, isUnit, goodNode, checkNode, isRow, goodEdge, checkEdge};
+ghost use Rattle.model.specs.Checks.{firstOf, checkShape, isKind, isUnit, goodExtent, goodNode, checkNode, isRow, goodOffset, goodEdge, checkEdge};
 ghost use Rattle.model.specs.Calls.{answer};
 ghost use Rattle.model.specs.Answers.{checkedAnswer};
-ghost use Rattle.tables.specs.Tables.{nodeAt, edgeAt, nodeOf, edgeOf, goodExtent, goodOffset, checkRows};
+ghost use Rattle.tables.specs.Tables.{nodeAt, edgeAt, nodeOf, edgeOf, checkRows};
 use model::BLOCK;
 use model::Bits;
 use model::Checked;
@@ -134,10 +134,12 @@ fn is_unit(unit: i64) -> bool
     unit == 128
 }
 
-// Whether base and range keep their limits. Each is held to the highest end before they are added: the sum of any two might not fit.
-fn good_extent(base: Units, range: Units) -> bool
-    ensures { λ r. ⌜ r ≡ goodExtent (base .0) (range .0) ⌝ }
+// Whether base and range of a node row keep their limits. Each is held to the highest end before they are added: the sum of any two might not fit.
+fn good_extent(n: NodeRow) -> bool
+    ensures { λ r. ⌜ r ≡ goodExtent (nodeOf 0 n) ⌝ }
 {
+    let base = n.base;
+    let range = n.range;
     if base.0 < 0 {
         return false;
     }
@@ -158,18 +160,13 @@ fn good_extent(base: Units, range: Units) -> bool
 pub fn good_node(n: NodeRow) -> bool
     ensures { λ r. ⌜ r ≡ goodNode (nodeOf 0 n) ⌝ }
 {
-    let base = n.base;
-    let range = n.range;
     if !is_kind(n.kind) {
         return false;
     }
     if !is_unit(n.unit) {
         return false;
     }
-    if !good_extent(base, range) {
-        return false;
-    }
-    true
+    good_extent(n)
 }
 
 // Refusal 2 of row v of a node table.
@@ -213,10 +210,11 @@ pub fn is_row(v: i64, count: usize) -> bool
     (v as usize) < count
 }
 
-// Whether an offset keeps its limits.
-fn good_offset(offset: Units) -> bool
-    ensures { λ r. ⌜ r ≡ goodOffset (offset .0) ⌝ }
+// Whether the offset of an edge row keeps its limits.
+fn good_offset(e: EdgeRow) -> bool
+    ensures { λ r. ⌜ ((g : Graph) → r ≡ goodOffset g (edgeOf 0 e)) ⌝ }
 {
+    let offset = e.offset;
     if offset.0 < -MAX_UNITS {
         return false;
     }
@@ -227,14 +225,13 @@ fn good_offset(offset: Units) -> bool
 pub fn good_edge(e: EdgeRow, count: usize) -> bool
     ensures { λ r. ⌜ ((g : Graph) → length (g .nodes) ≡ count → r ≡ goodEdge g (edgeOf 0 e)) ⌝ }
 {
-    let offset = e.offset;
     if !is_row(e.from, count) {
         return false;
     }
     if !is_row(e.to, count) {
         return false;
     }
-    good_offset(offset)
+    good_offset(e)
 }
 
 // Refusals 3 and 4 of row e of an edge table.

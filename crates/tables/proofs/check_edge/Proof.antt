@@ -15,7 +15,7 @@ use Rattle.integers.specs.Integers.{eqZ}
 use Rattle.integers.proofs.Linear.{ints}
 use Rattle.model.specs.Limits.{nodeWidth}
 use Rattle.model.specs.Graph.{graphOf, NodeRow, node, block}
-use Rattle.model.specs.Checks.{goodEdge}
+use Rattle.model.specs.Checks.{goodOffset, goodEdge}
 use Rattle.tables.specs.Tables.{edgeAt}
 use Rattle.tables.proofs.Cells.{bits-same, bits-other}
 use Rattle.tables.proofs.Rows.{graph-nodes-length, node-at}
@@ -26,7 +26,7 @@ use Rattle.tables.proofs.check_edge.Tie as tie
 
 row-test : (c : tie.After-good-edge) → let a = c .before .before .args in
     goodEdge (graphOf (a .nodes .now) (a .edges .now)) (edgeAt (a .edges .now) (a .e)) ≡ c .good-edge .result
-unfolding goodEdge
+unfolding goodOffset goodEdge
 row-test c =
     let a = c .before .before .args in
     let g = graphOf (a .nodes .now) (a .edges .now) in

@@ -8,26 +8,21 @@ use mir.Val.{SFits}
 use mir.Facts.{toZ-ofZ}
 use Rattle.model.specs.Graph.{Graph}
 use Rattle.model.specs.Checks.{isRow}
-use Rattle.tables.specs.Tables.{goodOffset}
 use Rattle.tables.proofs.Limits.{edge-parts}
 use Rattle.tables.proofs.good_edge.Statement.{statement}
 use Rattle.tables.proofs.good_edge.Tie as tie
 
-from-test : (c : tie.After-is-row) (g : Graph) → length (g .nodes) ≡ c .before .before .before .args .count
-    → isRow g (c .before .before .before .args .e .from) ≡ c .is-row .result
+from-test : (c : tie.After-is-row) (g : Graph) → length (g .nodes) ≡ c .before .before .args .count
+    → isRow g (c .before .before .args .e .from) ≡ c .is-row .result
 from-test c g e =
-    let f : SFits w64 (c .before .before .before .args .e .from) = search needs in
+    let f : SFits w64 (c .before .before .args .e .from) = search needs in
     sym (simp (toZ-ofZ, f) at (c .is-row .ensures g e))
 
-to-test : (c : tie.After-is-row2) (g : Graph) → length (g .nodes) ≡ c .before .before .before .before .before .before .args .count
-    → isRow g (c .before .before .before .before .before .before .args .e .to) ≡ c .is-row2 .result
+to-test : (c : tie.After-is-row2) (g : Graph) → length (g .nodes) ≡ c .before .before .before .before .before .args .count
+    → isRow g (c .before .before .before .before .before .args .e .to) ≡ c .is-row2 .result
 to-test c g e =
-    let f : SFits w64 (c .before .before .before .before .before .before .args .e .to) = search needs in
+    let f : SFits w64 (c .before .before .before .before .before .args .e .to) = search needs in
     sym (simp (toZ-ofZ, f) at (c .is-row2 .ensures g e))
-
-offset-test : (c : tie.After-good-offset)
-    → goodOffset (c .before .before .before .before .before .before .before .before .args .e .offset .0) ≡ c .good-offset .result
-offset-test c = sym (c .good-offset .ensures)
 
 returns : tie.Need-returns
 returns c g e = simp (edge-parts, from-test (c .before) g e ∙ not-true _ (c .if1 .taken))
@@ -41,7 +36,7 @@ returns-3 : tie.Need-returns-3
 returns-3 c g e =
     let t = c .before in
     let s = t .before .before .before in
-    simp (edge-parts, from-test (s .before) g e ∙ not-false _ (s .if1 .left), to-test (t .before) g e ∙ not-false _ (t .if2 .left), offset-test c)
+    simp (edge-parts, from-test (s .before) g e ∙ not-false _ (s .if1 .left), to-test (t .before) g e ∙ not-false _ (t .if2 .left), sym (c .good-offset .ensures g))
 
 pub good-edge-spec : {M : Type 1} → statement M
 good-edge-spec =

@@ -7,31 +7,25 @@ use mir.Syntax.{w64}
 use mir.Val.{SFits}
 use mir.Facts.{toZ-ofZ}
 use Rattle.model.specs.Checks.{isKind, isUnit}
-use Rattle.tables.specs.Tables.{goodExtent}
 use Rattle.tables.proofs.Limits.{node-parts}
 use Rattle.tables.proofs.good_node.Statement.{statement}
 use Rattle.tables.proofs.good_node.Tie as tie
 
-kind-test : (c : tie.After-is-kind) → isKind (c .before .before .before .before .args .n .kind) ≡ c .is-kind .result
+kind-test : (c : tie.After-is-kind) → isKind (c .before .before .args .n .kind) ≡ c .is-kind .result
 kind-test c =
-    let f : SFits w64 (c .before .before .before .before .args .n .kind) = search needs in
+    let f : SFits w64 (c .before .before .args .n .kind) = search needs in
     sym (simp (toZ-ofZ, f) at (c .is-kind .ensures))
 
-kind-good : (c : tie.Else1) → isKind (c .before .before .before .before .before .args .n .kind) ≡ true
+kind-good : (c : tie.Else1) → isKind (c .before .before .before .args .n .kind) ≡ true
 kind-good c = kind-test (c .before) ∙ not-false _ (c .if1 .left)
 
-unit-test : (c : tie.After-is-unit) → isUnit (c .before .before .before .before .before .before .before .args .n .unit) ≡ c .is-unit .result
+unit-test : (c : tie.After-is-unit) → isUnit (c .before .before .before .before .before .args .n .unit) ≡ c .is-unit .result
 unit-test c =
-    let f : SFits w64 (c .before .before .before .before .before .before .before .args .n .unit) = search needs in
+    let f : SFits w64 (c .before .before .before .before .before .args .n .unit) = search needs in
     sym (simp (toZ-ofZ, f) at (c .is-unit .ensures))
 
-unit-good : (c : tie.Else2) → isUnit (c .before .before .before .before .before .before .before .before .args .n .unit) ≡ true
+unit-good : (c : tie.Else2) → isUnit (c .before .before .before .before .before .before .args .n .unit) ≡ true
 unit-good c = unit-test (c .before) ∙ not-false _ (c .if2 .left)
-
-extent-test : (c : tie.After-good-extent)
-    → goodExtent (c .before .before .before .before .before .before .before .before .before .args .n .base .0)
-    (c .before .before .before .before .before .before .before .before .before .args .n .range .0) ≡ c .good-extent .result
-extent-test c = sym (c .good-extent .ensures)
 
 returns : tie.Need-returns
 returns c = simp (node-parts, kind-test (c .before) ∙ not-true _ (c .if1 .taken))
@@ -41,22 +35,8 @@ returns-2 c = simp (node-parts, kind-good (c .before .before .before), unit-test
 
 returns-3 : tie.Need-returns-3
 returns-3 c =
-    let s = c .before .before in
-    simp (node-parts, kind-good (s .before .before .before), unit-good s, extent-test (c .before) ∙ not-true _ (c .if3 .taken))
-
-returns-4 : tie.Need-returns-4
-returns-4 c =
-    let s = c .before .before in
-    simp (node-parts, kind-good (s .before .before .before), unit-good s, extent-test (c .before) ∙ not-false _ (c .if3 .left))
+    let s = c .before in
+    simp (node-parts, kind-good (s .before .before .before), unit-good s, sym (c .good-extent .ensures))
 
 pub good-node-spec : {M : Type 1} → statement M
-good-node-spec =
-    tie.close
-    (tie.spec
-    (λ c κs. search needs)
-    returns
-    (λ c κs. search needs)
-    returns-2
-    (λ c κs. search needs)
-    returns-3
-    returns-4)
+good-node-spec = tie.close (tie.spec (λ c κs. search needs) returns (λ c κs. search needs) returns-2 (λ c κs. search needs) returns-3)

@@ -15,12 +15,12 @@ use Rattle.model.specs.Graph.{Graph, graphOf, NodeRow}
 use Rattle.model.specs.Taken.{TakenTables}
 use Rattle.tables.proofs.Rows.{nodes-length}
 use Rattle.sorting.specs.declared.Row.{Row}
-use Rattle.sorting.specs.Rows.{rowsOf, numbersOf}
+use Rattle.sorting.specs.Rows.{rowWidth, rowsOf, numbersOf}
 use Rattle.normalisation.specs.Merging.{ofDisplacement}
 use Rattle.listing.specs.Listing.{Appended}
 use Rattle.listing.proofs.Appending.{append-length}
 use Rattle.references.specs.References.{recordsAt}
-use Rattle.arrivals.specs.State.{usedAt, arenaRow, markNumber, isMet, referenceAt, isListed, placeOf, countOf, usedIn, rootIn, Agree}
+use Rattle.arrivals.specs.State.{markWidth, usedAt, arenaRow, markNumber, isMet, referenceAt, isListed, listRow, countOf, usedIn, rootIn, Agree}
 use Rattle.arrivals.specs.Sweep.{Listed, Sweeping}
 use Rattle.arrivals.proofs.Relisting.{listed-moved, relisted-sweeping}
 
@@ -32,12 +32,12 @@ pub agree-trans : {n : ℕ} {s t u : List ℤ} → Agree n s t → Agree n t u �
 agree-trans a b = record { long = b .long ∙ a .long; same = λ j k. b .same j k ∙ a .same j k }
 
 -- states of one length with the same front agree
-pub agree-front : (n : ℕ) {s t : List ℤ} → length t ≡ length s → take (3 * n) t ≡ take (3 * n) s → Agree n s t
+pub agree-front : (n : ℕ) {s t : List ℤ} → length t ≡ length s → take (rowWidth * n) t ≡ take (rowWidth * n) s → Agree n s t
 agree-front n {s} {t} long front =
     record {
       long = long;
       same = λ j h.
-          sym (getD-take (3 * n) t j (pos 0) h) ∙ ap (λ (l : List ℤ). getD l j (pos 0)) front ∙ getD-take (3 * n) s j (pos 0) h;
+          sym (getD-take (rowWidth * n) t j (pos 0) h) ∙ ap (λ (l : List ℤ). getD l j (pos 0)) front ∙ getD-take (rowWidth * n) s j (pos 0) h;
     }
 
 -- the root and the used part are the same
@@ -48,40 +48,40 @@ pub agree-used : {n : ℕ} {s t : List ℤ} → arenaRow ≤ n → Agree n s t �
 agree-used h a = ap natAbs (a .same 12000 (omega (arith, h)))
 
 -- rows that have the same numbers are the same
-rows-agree : (n : ℕ) (s t : List ℤ) → ((j : ℕ) → j < 3 * n → getD t j (pos 0) ≡ getD s j (pos 0)) → rowsOf t n ≡ rowsOf s n
+rows-agree : (n : ℕ) (s t : List ℤ) → ((j : ℕ) → j < rowWidth * n → getD t j (pos 0) ≡ getD s j (pos 0)) → rowsOf t n ≡ rowsOf s n
 unfolding rowsOf
 rows-agree zero s t e = refl
 rows-agree (suc n) s t e =
     let p = e 0 (omega arith) in
     let q = e 1 (omega arith) in
     let r = e 2 (omega arith) in
-    let rest = rows-agree n (drop 3 s) (drop 3 t) (λ j h. getD-drop 3 t j (pos 0) ∙ e (3 + j) (omega (arith, h)) ∙ sym (getD-drop 3 s j (pos 0))) in
+    let rest = rows-agree n (drop rowWidth s) (drop rowWidth t) (λ j h. getD-drop rowWidth t j (pos 0) ∙ e (rowWidth + j) (omega (arith, h)) ∙ sym (getD-drop rowWidth s j (pos 0))) in
     rw (p, q, r, rest) refl
 
 -- so are records in front of the row
 pub agree-records : {n : ℕ} {s t : List ℤ} (p c : ℕ) → p + c ≤ n → Agree n s t → recordsAt t p c ≡ recordsAt s p c
 agree-records {n} {s} {t} p c h a =
     ap (map ofDisplacement)
-    (rows-agree c (drop (3 * p) s) (drop (3 * p) t)
-    (λ j k. getD-drop (3 * p) t j (pos 0) ∙ a .same (3 * p + j) (omega (arith, h, k)) ∙ sym (getD-drop (3 * p) s j (pos 0))))
+    (rows-agree c (drop (rowWidth * p) s) (drop (rowWidth * p) t)
+    (λ j k. getD-drop (rowWidth * p) t j (pos 0) ∙ a .same (rowWidth * p + j) (omega (arith, h, k)) ∙ sym (getD-drop (rowWidth * p) s j (pos 0))))
 
 -- rows appended behind the first n leave what stands in front
-pub appended-agrees : {rows : List Row} {s t : List ℤ} {n m : ℕ} → 3 * (n + length rows) ≤ length s → Appended rows s t n m → Agree n s t
+pub appended-agrees : {rows : List Row} {s t : List ℤ} {n m : ℕ} → rowWidth * (n + length rows) ≤ length s → Appended rows s t n m → Agree n s t
 appended-agrees {rows} {s} {t} {n} k a =
     record {
       long = append-length k a;
       same = λ j h.
           ap (λ l. getD l j (pos 0)) (a .numbers)
-          ∙ List·getD-append (take (3 * n) s) (numbersOf rows ++ drop (3 * (n + length rows)) s) (pos 0) j
-          (omega (arith, h, length-take-le (3 * n) s (omega (arith, k))))
-          ∙ getD-take (3 * n) s j (pos 0) h;
+          ∙ List·getD-append (take (rowWidth * n) s) (numbersOf rows ++ drop (rowWidth * (n + length rows)) s) (pos 0) j
+          (omega (arith, h, length-take-le (rowWidth * n) s (omega (arith, k))))
+          ∙ getD-take (rowWidth * n) s j (pos 0) h;
     }
 
 -- ---- the facts of a sweep
 
 module _ {n : ℕ} {s t : List ℤ} (low : arenaRow ≤ n) (a : Agree n s t) where
-  mark-agrees : (v k : ℕ) → v < maxNodes → k < 6 → markNumber t v k ≡ markNumber s v k
-  mark-agrees v k h j = a .same (6 * v + k) (omega (arith, h, j, low))
+  mark-agrees : (v k : ℕ) → v < maxNodes → k < markWidth → markNumber t v k ≡ markNumber s v k
+  mark-agrees v k h j = a .same (markWidth * v + k) (omega (arith, h, j, low))
 
   -- the mark of a node is the same
   pub met-agrees : (v : ℕ) → v < maxNodes → isMet t v ≡ isMet s v
@@ -94,14 +94,14 @@ module _ {n : ℕ} {s t : List ℤ} (low : arenaRow ≤ n) (a : Agree n s t) whe
   pub listed-agrees : (v : ℕ) → v < maxNodes → isListed t v ≡ isListed s v
   listed-agrees v h = ap (leZ (pos 0)) (mark-agrees v 4 h (omega arith))
 
-  place-agrees : (v : ℕ) → v < maxNodes → placeOf t v ≡ placeOf s v
-  place-agrees v h = ap natAbs (mark-agrees v 4 h (omega arith))
+  listRow-agrees : (v : ℕ) → v < maxNodes → listRow t v ≡ listRow s v
+  listRow-agrees v h = ap natAbs (mark-agrees v 4 h (omega arith))
 
   -- so is its list, where it lies in front of the row
   list-agrees : {g : Graph} {r : ℤ} (v : ℕ) → v < maxNodes → usedIn s ≤ n → Listed g r s v → Listed g r t v
   list-agrees v h u l =
-      listed-moved (place-agrees v h) (mark-agrees v 5 h (omega arith)) (omega (arith, agree-used low a))
-      (agree-records (placeOf s v) (countOf s v) (omega (arith, l .within, u)) a) l
+      listed-moved (listRow-agrees v h) (mark-agrees v 5 h (omega arith)) (omega (arith, agree-used low a))
+      (agree-records (listRow s v) (countOf s v) (omega (arith, l .within, u)) a) l
 
 -- a node row of taken tables is one of 2,000
 pub row-few : {ns es : List ℤ} {v : ℕ} → TakenTables ns es → NodeRow (graphOf ns es) (pos v) → v < maxNodes

@@ -36,7 +36,7 @@ use Rattle.forward.specs.Forward.{plannedCount, plannedOf}
 use Rattle.references.specs.References.{Reference, Brings, shifted, InOwner, recordsAt}
 use Rattle.references.proofs.Bringing.{shifted-brings}
 use Rattle.entering.specs.Entering.{Covered}
-use Rattle.arrivals.specs.declared.Placed.{Placed}
+use Rattle.arrivals.specs.declared.ListRows.{ListRows}
 use Rattle.arrivals.specs.State.{isMet, referenceAt, usedIn, rootIn, Agree}
 use Rattle.arrivals.specs.Sweep.{HasSome, doneOf, RightMark, Makeable, Made, Swept, Askable, Answered}
 use Rattle.arrivals.proofs.Relisting.{row-number}
@@ -77,7 +77,7 @@ module _ {ns es : List ℤ} {plan : List ℕ} {leaf : ℕ} {s spare : List ℤ} 
   reached-normal l full exact = normal-unique full exact (list-of-reached (taken-fit (o .state .state .tables .graph) (o .block)))
 
   -- records from the free row on that are the list of the root and the leaf, with the same state in front: from there on it is free to be worked in
-  answered-rows : {root : ℕ} {u : List ℤ} {r : Placed} → Swept ns es plan root s → r .row ≡ usedIn s → Agree (usedIn s) s u → r .count ≤ maxPaths
+  answered-rows : {root : ℕ} {u : List ℤ} {r : ListRows} → Swept ns es plan root s → r .row ≡ usedIn s → Agree (usedIn s) s u → r .count ≤ maxPaths
       → r .count ≡ length (listOf (graphOf ns es) (rootIn s) (pos leaf))
       → recordsAt u (r .row) (r .count) ≡ sortedByDisplacement (listOf (graphOf ns es) (rootIn s) (pos leaf)) → Answered ns es plan root leaf u r
   answered-rows {u = u} {r = r} w at agrees few count rows =
@@ -91,7 +91,7 @@ module _ {ns es : List ℤ} {plan : List ℕ} {leaf : ℕ} {s spare : List ℤ} 
       }
 
   -- where nothing is marked nothing is reached: the list is empty
-  pub answered-unmet : {root : ℕ} {r : Placed} → Swept ns es plan root s → r .row ≡ usedIn s → r .count ≡ 0 → isMet s leaf ≡ false
+  pub answered-unmet : {root : ℕ} {r : ListRows} → Swept ns es plan root s → r .row ≡ usedIn s → r .count ≡ 0 → isMet s leaf ≡ false
       → Answered ns es plan root leaf s r
   unfolding normal sortedByDisplacement sorted rowsOf
   answered-unmet {r = r} w at zero unmet =
@@ -203,7 +203,7 @@ module _ {ns es : List ℤ} {plan : List ℕ} {leaf : ℕ} {s spare : List ℤ} 
           }
 
       -- and is that of the root and the leaf
-      pub answered : {root : ℕ} {u : List ℤ} {p : Placed} → Swept ns es plan root s → Made (graphOf ns es) (rootIn s) f s u p
+      pub answered : {root : ℕ} {u : List ℤ} {p : ListRows} → Swept ns es plan root s → Made (graphOf ns es) (rootIn s) f s u p
           → Answered ns es plan root leaf u p
       answered {u = u} w m =
           let g = graphOf ns es in

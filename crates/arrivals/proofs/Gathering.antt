@@ -14,7 +14,7 @@ use Rattle.integers.proofs.Linear.{ints, sum}
 use Rattle.integers.proofs.Tests.{eqZ?, test-of}
 use Rattle.integers.proofs.Range.{leZ-true}
 use Rattle.lists.specs.Lists.{_∈_, keep}
-use Rattle.model.specs.Limits.{maxNodes}
+use Rattle.model.specs.Limits.{edgeWidth, maxNodes}
 use Rattle.model.specs.Rows.{Edge, nodeRows, edgeRows}
 use Rattle.model.specs.Graph.{Graph, graphOf, NodeRow, node, bitOffset}
 use Rattle.model.specs.Walk.{StandsOn, Walk}
@@ -36,7 +36,7 @@ use Rattle.steps.proofs.Rows.{edge-in}
 use Rattle.entering.proofs.Ways.{way-onward}
 use Rattle.entering.proofs.Counts.{count-entering, count-way}
 use Rattle.sorting.specs.declared.Row.{Row}
-use Rattle.sorting.specs.Rows.{rowsOf}
+use Rattle.sorting.specs.Rows.{rowWidth, rowsOf}
 use Rattle.sorting.proofs.Tables.{rowsOf-length}
 use Rattle.normalisation.specs.Merging.{ofDisplacement}
 use Rattle.listing.specs.Listing.{Appended}
@@ -45,7 +45,7 @@ use Rattle.forward.specs.Forward.{headAt, nextAt}
 use Rattle.references.specs.References.{Reference, own, Brings, InOwner, SmallRecord, through, isNone, recordsAt, cutRows, Cuttable}
 use Rattle.references.proofs.Bringing.{own-lying, lying-small, through-brings, through-lying}
 use Rattle.references.proofs.Cutting.{cut-rows-brings, cut-rows-full, cut-rows-few}
-use Rattle.arrivals.specs.State.{markWidth, arenaRow, markNumber, isMet, referenceAt, isListed, placeOf, countOf, rootIn, Agree}
+use Rattle.arrivals.specs.State.{markWidth, arenaRow, markNumber, isMet, referenceAt, isListed, listRow, countOf, rootIn, Agree}
 use Rattle.arrivals.specs.Sweep.{HasSome, doneOf, Listed, RightMark, Sweeping, Gatherable, Gathered}
 use Rattle.arrivals.specs.Moves.{Crossable, crossing}
 use Rattle.arrivals.proofs.Agreeing.{agree-root, agree-used, agree-less, appended-agrees, sweeping-agrees, row-few}
@@ -79,7 +79,7 @@ nonneg-abs {z} h = pos-natAbs z (yes-nonNeg h)
 
 -- so many records are read from a state
 records-length : (s : List ℤ) (p c : ℕ) → length (recordsAt s p c) ≡ c
-records-length s p c = length-map (rowsOf (drop (3 * p) s) c) ofDisplacement ∙ rowsOf-length (drop (3 * p) s) c
+records-length s p c = length-map (rowsOf (drop (rowWidth * p) s) c) ofDisplacement ∙ rowsOf-length (drop (rowWidth * p) s) c
 
 module _ {ns es : List ℤ} {plan : List ℕ} {f : Reference} {left : ℕ} {s : List ℤ} {n : ℕ} (k : Gatherable ns es plan f left s n) where
   -- the owner as the code has it
@@ -111,12 +111,12 @@ module _ {ns es : List ℤ} {plan : List ℕ} {f : Reference} {left : ℕ} {s : 
       pub list-readable : (markWidth * o + markWidth ≤ length s) × (pos 0 ≤ℤ markNumber s o 4) × (pos 0 ≤ℤ markNumber s o 5)
       list-readable = (omega (arith, owner-few, k .sweeping .room), leZ-true (pos 0) (markNumber s o 4) y, omega (arith, ints, owner-list .counted))
 
-      list-exact : (x b : ℤ) → HasSome (recordsAt s (placeOf s o) (countOf s o)) x b ↔ Walk (graphOf ns es) (rootIn s) x (f .owner) b
+      list-exact : (x b : ℤ) → HasSome (recordsAt s (listRow s o) (countOf s o)) x b ↔ Walk (graphOf ns es) (rootIn s) x (f .owner) b
       list-exact x b =
-          subst (λ (v : ℤ). HasSome (recordsAt s (placeOf s o) (countOf s o)) x b ↔ Walk (graphOf ns es) (rootIn s) x v b) q (owner-list .exact x b)
+          subst (λ (v : ℤ). HasSome (recordsAt s (listRow s o) (countOf s o)) x b ↔ Walk (graphOf ns es) (rootIn s) x v b) q (owner-list .exact x b)
 
       -- its records have bits of the root, and bit addresses of the owner
-      module _ (z : Record) (m : z ∈ recordsAt s (placeOf s o) (countOf s o)) where
+      module _ (z : Record) (m : z ∈ recordsAt s (listRow s o) (countOf s o)) where
         first-walks : Walk (graphOf ns es) (rootIn s) (z .first) (f .owner) (z .first -ℤ z .displacement)
         first-walks = list-exact (z .first) (z .first -ℤ z .displacement) .0 (z, m, has-at z (z .first) (omega (arith, ints)) (owner-list .full z m))
 
@@ -144,7 +144,7 @@ module _ {ns es : List ℤ} {plan : List ℕ} {f : Reference} {left : ℕ} {s : 
       list-few = subst (λ (v : ℤ). countOf s o ≤ pathCount (graphOf ns es) (rootIn s) v) q (owner-list .few)
 
       -- with the reference to all bits of the root as it is read
-      pub list-cuttable : {all : Reference} → all ≡ own (graphOf ns es) (rootIn s) → Cuttable f (all .low) (all .high) s (placeOf s o) (countOf s o) n
+      pub list-cuttable : {all : Reference} → all ≡ own (graphOf ns es) (rootIn s) → Cuttable f (all .low) (all .high) s (listRow s o) (countOf s o) n
       list-cuttable e =
           let root = own-lying (k .sweeping .tables) (k .sweeping .root .row) in
           rw e
@@ -162,16 +162,16 @@ module _ {ns es : List ℤ} {plan : List ℕ} {f : Reference} {left : ℕ} {s : 
           }
 
       -- gathered by the list
-      pub list-gathered : {t : List ℤ} {m : ℕ} → Appended (cutRows f (recordsAt s (placeOf s o) (countOf s o))) s t n m
+      pub list-gathered : {t : List ℤ} {m : ℕ} → Appended (cutRows f (recordsAt s (listRow s o) (countOf s o))) s t n m
           → Gathered (graphOf ns es) (rootIn s) f s t n m
       list-gathered a =
-          let l = recordsAt s (placeOf s o) (countOf s o) in
+          let l = recordsAt s (listRow s o) (countOf s o) in
           record {
             rows = cutRows f l;
             appended = a;
             exact = cut-rows-brings (graphOf ns es) (rootIn s) f l list-exact;
             full = cut-rows-full f l;
-            few = omega (arith, list-few, cut-rows-few f l, records-length s (placeOf s o) (countOf s o));
+            few = omega (arith, list-few, cut-rows-few f l, records-length s (listRow s o) (countOf s o));
           }
 
     -- ---- through edges
@@ -306,7 +306,7 @@ module _ {ns es : List ℤ} {plan : List ℕ} {f : Reference} {left : ℕ} {s : 
       abbrev edge : Edge
       edge = edgeAt es e
 
-      there : 3 * e + 3 ≤ length es
+      there : edgeWidth * e + edgeWidth ≤ length es
       there = omega (arith, h, edges-length es)
 
       at-edge : getD (edgeRows es) e edge ≡ edge
@@ -469,7 +469,7 @@ module _ {ns es : List ℤ} {plan : List ℕ} {f : Reference} {left : ℕ} {s : 
               covered = covered-way through-sweeping (source-way .1) (done-closed through-sweeping edge turn-done);
               deep = λ p y. deeper p (subst (λ (r : ℤ). Way (graphOf ns es) r p (part .owner)) through-root y);
               behind = omega (arith, k .behind, w .written .count, agree-used low through-agrees);
-              room = subst (λ (r : ℤ). 3 * (m + pathCount (graphOf ns es) r (part .owner)) ≤ length t) (sym through-root)
+              room = subst (λ (r : ℤ). rowWidth * (m + pathCount (graphOf ns es) r (part .owner)) ≤ length t) (sym through-root)
                   (omega (arith, k .room, w .few, w .written .count, turn-paths, part-paths, through-agrees .long));
             }
           where

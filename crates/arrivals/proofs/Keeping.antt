@@ -6,7 +6,7 @@ use mathlib.Core.Logic.{_≢_, _↔_, Iff·trans}
 use Prim.Native.Nat.{ℕ, _+_, _*_, _≤_, _<_}
 use native.Mathlib.Omega.{arith}
 use lib.Dec.{eqb, ltb}
-use lib.IntN.{ℤ, pos, negsuc, natAbs}
+use lib.IntN.{ℤ, pos, natAbs}
 use lib.Signed.{leZ}
 use lib.ListN.{length, getD, drop, set, length-drop, length-set}
 use lib.Seq.{ext-getD, getD-drop, getD-set-same, getD-set-other, drop-set-lt}
@@ -21,13 +21,13 @@ use Rattle.model.specs.Bitmapping.{Record}
 use Rattle.model.proofs.Paths.{way-short}
 use Rattle.steps.proofs.Rows.{node-good}
 use Rattle.reach.specs.Counting.{pathCount}
-use Rattle.sorting.specs.Rows.{Ascending}
-use Rattle.normalisation.specs.Merging.{byDisplacement, recordsOf}
+use Rattle.sorting.specs.Rows.{rowWidth, Ascending}
+use Rattle.normalisation.specs.Merging.{byDisplacement, displacedOf}
 use Rattle.references.specs.References.{Reference, own, Brings, InOwner, recordsAt}
 use Rattle.references.proofs.Bringing.{own-brings, own-lying}
 use Rattle.entering.specs.Entering.{Covered}
-use Rattle.arrivals.specs.declared.Placed.{Placed}
-use Rattle.arrivals.specs.State.{Mark, markNumber, markAt, setMark, marked, isMet, referenceAt, isListed, placeOf, countOf, usedAt, rootAt, arenaRow, arenaRows, stateRoom, usedIn, rootIn, Agree}
+use Rattle.arrivals.specs.declared.ListRows.{ListRows}
+use Rattle.arrivals.specs.State.{markWidth, Mark, markNumber, markAt, setMark, marked, isMet, referenceAt, isListed, listRow, countOf, usedAt, rootAt, arenaRow, arenaRows, stateRoom, usedIn, rootIn, Agree, noRoom}
 use Rattle.arrivals.specs.Sweep.{HasSome, doneOf, Listed, Sweeping, Makeable, Made}
 use Rattle.arrivals.specs.Moves.{Storable, storing, Ownable, ListMade}
 use Rattle.arrivals.proofs.Relisting.{row-number, number-row, listed-moved, Relisted, relisted-met, relisted-sweeping}
@@ -45,7 +45,7 @@ pub record Remarked (v : ℕ) (m : Mark) (used : ℕ) (s t : List ℤ) : Type 0 
   pub number : getD t usedAt (pos 0) ≡ pos used
   pub same : markAt t v ≡ m
   pub other : (w : ℕ) → w < maxNodes → w ≢ v → markAt t w ≡ markAt s w
-  pub behind : (n : ℕ) → 3 * arenaRow ≤ n → drop n t ≡ drop n s
+  pub behind : (n : ℕ) → rowWidth * arenaRow ≤ n → drop n t ≡ drop n s
 
 module _ (s : List ℤ) (v : ℕ) (m : Mark) (row : v < maxNodes) (room : length s ≡ stateRoom) where
   -- the numbers behind the marks stay
@@ -83,13 +83,13 @@ module _ (s : List ℤ) (v : ℕ) (m : Mark) (row : v < maxNodes) (room : length
       -- no mark has the number of rows
       used-other : (w : ℕ) → w < maxNodes → markAt (set (setMark s v m) usedAt (pos used)) w ≡ markAt (setMark s v m) w
       used-other w h =
-          let number : (k : ℕ) → k < 6 → getD (set (setMark s v m) usedAt (pos used)) (6 * w + k) (pos 0) ≡ getD (setMark s v m) (6 * w + k) (pos 0) =
-          λ k l. getD-set-other (setMark s v m) usedAt (6 * w + k) (pos used) (pos 0) (λ e. omega arith) in
+          let number : (k : ℕ) → k < markWidth → getD (set (setMark s v m) usedAt (pos used)) (markWidth * w + k) (pos 0) ≡ getD (setMark s v m) (markWidth * w + k) (pos 0) =
+          λ k l. getD-set-other (setMark s v m) usedAt (markWidth * w + k) (pos used) (pos 0) (λ e. omega arith) in
           let owner = number 0 (omega arith) in
           let delta = number 1 (omega arith) in
           let low = number 2 (omega arith) in
           let high = number 3 (omega arith) in
-          let place = number 4 (omega arith) in
+          let row = number 4 (omega arith) in
           let count = number 5 (omega arith) in
           cc
 
@@ -97,7 +97,7 @@ module _ (s : List ℤ) (v : ℕ) (m : Mark) (row : v < maxNodes) (room : length
 module _ {ns es : List ℤ} {plan : List ℕ} {i v used : ℕ} {s t : List ℤ} {m : Mark} (w : Sweeping ns es plan i s) (c : Remarked v m used s t)
     (reference : referenceAt s v ≡ record { owner = m .owner; delta = m .delta; low = m .low; high = m .high }) (unlisted : isListed s v ≡ false)
     (more : usedIn s ≤ used) (room : used ≤ arenaRow + arenaRows)
-    (list : leZ (pos 0) (m .place) ≡ true → Listed (graphOf ns es) (rootIn s) t v)
+    (list : leZ (pos 0) (m .row) ≡ true → Listed (graphOf ns es) (rootIn s) t v)
   where
     -- what is so of v, and of the other nodes with the mark that they had, is so of all
     mark-cases : (P : ℕ → Type 0) → P v → ((x : ℕ) → markAt t x ≡ markAt s x → P x) → (x : ℕ) → x < length (nodeRows ns) → P x
@@ -121,15 +121,15 @@ module _ {ns es : List ℤ} {plan : List ℕ} {i v used : ℕ} {s t : List ℤ} 
           usedHigh = omega (arith, after, room);
           rootListed = λ r p.
               mark-cases (λ x. isListed s x ≡ true → isListed t x ≡ true) (λ q. absurd (not-both q unlisted))
-              (λ x e q. ap (λ (m : Mark). leZ (pos 0) (m .place)) e ∙ q) r (row-number ns es (subst (NodeRow (graphOf ns es)) (sym p) (w .root .row)))
+              (λ x e q. ap (λ (m : Mark). leZ (pos 0) (m .row)) e ∙ q) r (row-number ns es (subst (NodeRow (graphOf ns es)) (sym p) (w .root .row)))
               (w .rootListed r p);
           listed = λ x h.
               mark-cases (λ x. x < length (nodeRows ns) → isMet s x ≡ true → isListed t x ≡ true → Listed (graphOf ns es) (rootIn s) t x)
-              (λ k n q. list (sym (ap (λ (m : Mark). leZ (pos 0) (m .place)) (c .same)) ∙ q))
+              (λ k n q. list (sym (ap (λ (m : Mark). leZ (pos 0) (m .row)) (c .same)) ∙ q))
               (λ x e k n q.
-              let old = w .marks x k .listed n (sym (ap (λ (m : Mark). leZ (pos 0) (m .place)) e) ∙ q) in
-              listed-moved (ap (λ (m : Mark). natAbs (m .place)) e) (ap (λ (m : Mark). m .count) e) (omega (arith, after, more))
-              (ap (λ l. recordsOf l (countOf s x)) (c .behind (3 * placeOf s x) (omega (arith, old .behind)))) old)
+              let old = w .marks x k .listed n (sym (ap (λ (m : Mark). leZ (pos 0) (m .row)) e) ∙ q) in
+              listed-moved (ap (λ (m : Mark). natAbs (m .row)) e) (ap (λ (m : Mark). m .count) e) (omega (arith, after, more))
+              (ap (λ l. displacedOf l (countOf s x)) (c .behind (rowWidth * listRow s x) (omega (arith, old .behind)))) old)
               x h h;
         }
 
@@ -171,7 +171,7 @@ module _ {ns es : List ℤ} {plan : List ℕ} {v : ℕ} {s spare : List ℤ} (o 
           spareRoom = o .spareRoom;
         }
 
-    module _ {u : List ℤ} {p : Placed} (q : Made (graphOf ns es) (rootIn s) f s u p) where
+    module _ {u : List ℤ} {p : ListRows} (q : Made (graphOf ns es) (rootIn s) f s u p) where
       low : arenaRow ≤ p .row
       low = omega (arith, q .at, o .sweeping .usedLow)
 
@@ -194,21 +194,21 @@ module _ {ns es : List ℤ} {plan : List ℕ} {v : ℕ} {s spare : List ℤ} (o 
           → Listed (graphOf ns es) (rootIn u) z v
       kept-listed z c =
           let g = graphOf ns es in
-          let place : placeOf z v ≡ p .row = ap (λ (m : Mark). natAbs (m .place)) (c .same) in
+          let row : listRow z v ≡ p .row = ap (λ (m : Mark). natAbs (m .row)) (c .same) in
           let number : markNumber z v 5 ≡ pos (p .count) = ap (λ (m : Mark). m .count) (c .same) in
           let count : countOf z v ≡ p .count = ap natAbs number in
           let after : usedIn z ≡ p .row + p .count = ap natAbs (c .number) in
           let root : rootIn s ≡ rootIn u = sym (agree-root low (q .agrees)) in
-          let records : recordsAt z (placeOf z v) (countOf z v) ≡ recordsAt u (p .row) (p .count) =
-          ap (λ n. recordsAt z n (countOf z v)) place
+          let records : recordsAt z (listRow z v) (countOf z v) ≡ recordsAt u (p .row) (p .count) =
+          ap (λ n. recordsAt z n (countOf z v)) row
           ∙ ap (λ n. recordsAt z (p .row) n) count
-          ∙ ap (λ l. recordsOf l (p .count)) (c .behind (3 * p .row) (omega (arith, low))) in
+          ∙ ap (λ l. displacedOf l (p .count)) (c .behind (rowWidth * p .row) (omega (arith, low))) in
           let brings : (x b : ℤ) → Brings g (rootIn s) f x b ↔ Walk g (rootIn s) x (pos v) b =
           λ x b. subst (λ (e : Reference). Brings g (rootIn s) e x b ↔ Walk g (rootIn s) x (pos v) b) (sym ownable-own) (own-brings g (rootIn s) (pos v) x b) in
           record {
             counted = ap pos count ∙ sym number;
-            behind = omega (arith, place, low);
-            within = omega (arith, place, count, after);
+            behind = omega (arith, row, low);
+            within = omega (arith, row, count, after);
             exact = λ x b.
                 subst (λ (l : List Record). HasSome l x b ↔ Walk g (rootIn u) x (pos v) b) (sym records)
                 (subst (λ (r : ℤ). HasSome (recordsAt u (p .row) (p .count)) x b ↔ Walk g r x (pos v) b) root (Iff·trans (made-exact q x b) (brings x b)));
@@ -251,10 +251,10 @@ module _ {ns es : List ℤ} {plan : List ℕ} {v : ℕ} {s spare : List ℤ} (o 
           number = q .agrees .same usedAt (omega (arith, low)) ∙ sym (ap pos (q .at) ∙ o .sweeping .usedNumber)
 
           go : (b : Bool) → Test (arenaRow + arenaRows < p .row + p .count) (p .row + p .count ≤ arenaRow + arenaRows) b
-              → ListMade ns es plan v s (cond b (setMark u v (marked (own (graphOf ns es) (pos v)) (negsuc 1) (pos 0)))
+              → ListMade ns es plan v s (cond b (setMark u v (marked (own (graphOf ns es) (pos v)) noRoom (pos 0)))
               (set (setMark u v (marked (own (graphOf ns es) (pos v)) (pos (p .row)) (pos (p .count)))) usedAt (pos (p .row + p .count))))
           go true (passed h) =
-              let m = marked (own (graphOf ns es) (pos v)) (negsuc 1) (pos 0) in
+              let m = marked (own (graphOf ns es) (pos v)) noRoom (pos 0) in
               let c = remarked-mark u v m row room (p .row) number in
               kept-relisted (setMark u v m) (λ i w.
               remarked-relisted w c reference none (omega (arith, used-before)) (omega (arith, q .at, o .sweeping .usedHigh)) (λ q. absurd (not-both q refl)))

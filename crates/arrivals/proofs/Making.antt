@@ -19,14 +19,14 @@ use Rattle.model.proofs.Taken.{taken-address}
 use Rattle.model.proofs.Walks.{walk-start}
 use Rattle.model.proofs.Normalisation.{normal-has, normal-list, normal-length}
 use Rattle.reach.specs.Counting.{pathCount}
-use Rattle.sorting.specs.Rows.{numbersOf, Ascending}
+use Rattle.sorting.specs.Rows.{rowWidth, numbersOf, Ascending}
 use Rattle.sorting.proofs.Tables.{rowsOf-written}
 use Rattle.sorting.proofs.Halves.{part-lent, part-length, part-back}
-use Rattle.normalisation.specs.Merging.{AllSmall, byDisplacement, ofDisplacement, recordsOf, sortedByDisplacement}
+use Rattle.normalisation.specs.Merging.{AllSmallLast, byDisplacement, ofDisplacement, displacedOf, sortedByDisplacement}
 use Rattle.normalisation.proofs.Sorted.{by-displacement-members, by-displacement-ascending}
 use Rattle.listing.proofs.Appending.{append-length}
 use Rattle.references.specs.References.{Reference, Brings, recordsAt}
-use Rattle.arrivals.specs.declared.Placed.{Placed}
+use Rattle.arrivals.specs.declared.ListRows.{ListRows}
 use Rattle.arrivals.specs.State.{usedIn, rootIn}
 use Rattle.arrivals.specs.Sweep.{HasSome, Gathered, Makeable, Made}
 use Rattle.arrivals.proofs.Agreeing.{agree-trans, appended-agrees}
@@ -35,23 +35,23 @@ module _ {ns es : List ℤ} {plan : List ℕ} {f : Reference} {n m : ℕ} {s t s
     (h : Gathered (graphOf ns es) (rootIn s) f s t n m)
   where
     -- there is room for the rows
-    room : 3 * (n + length (h .rows)) ≤ length s
+    room : rowWidth * (n + length (h .rows)) ≤ length s
     room = omega (arith, at, o .gatherable .room, h .few)
 
     -- how many rows were gathered, and that so many stand in the state
-    pub gathered-count : (n ≤ m) × (m - n ≡ length (h .rows)) × (3 * m ≤ length t)
+    pub gathered-count : (n ≤ m) × (m - n ≡ length (h .rows)) × (rowWidth * m ≤ length t)
     gathered-count = let count = h .appended .count in (omega arith, omega arith, omega (arith, room, append-length room (h .appended)))
 
     -- the records that stand behind the first n rows
-    records : recordsOf (midOf (3 * n) (length t - 3 * n) t) (m - n) ≡ map ofDisplacement (h .rows)
+    records : displacedOf (midOf (rowWidth * n) (length t - rowWidth * n) t) (m - n) ≡ map ofDisplacement (h .rows)
     records =
-        let behind = drop (3 * (n + length (h .rows))) s in
-        let size = length-take-le (3 * n) s (omega (arith, room)) in
-        let part = part-lent (3 * n) t ∙ ap (drop (3 * n)) (h .appended .numbers) ∙ drop-at (take (3 * n) s) (numbersOf (h .rows) ++ behind) (3 * n) size in
-        ap (λ l. recordsOf l (m - n)) part ∙ ap (map ofDisplacement) (rowsOf-written (h .rows) behind (m - n) (sym (gathered-count .1)))
+        let behind = drop (rowWidth * (n + length (h .rows))) s in
+        let size = length-take-le (rowWidth * n) s (omega (arith, room)) in
+        let part = part-lent (rowWidth * n) t ∙ ap (drop (rowWidth * n)) (h .appended .numbers) ∙ drop-at (take (rowWidth * n) s) (numbersOf (h .rows) ++ behind) (rowWidth * n) size in
+        ap (λ l. displacedOf l (m - n)) part ∙ ap (map ofDisplacement) (rowsOf-written (h .rows) behind (m - n) (sym (gathered-count .1)))
 
     -- they are small: each has its last bit, which walks from the root
-    small : AllSmall (map ofDisplacement (h .rows))
+    small : AllSmallLast (map ofDisplacement (h .rows))
     small q k =
         let w = o .gatherable .sweeping in
         let full = h .full q k in
@@ -60,39 +60,39 @@ module _ {ns es : List ℤ} {plan : List ℕ} {f : Reference} {n m : ℕ} {s t s
         record { full = full; high = omega (arith, ints, stands .1) }
 
     -- so that they can be merged in the part from row n on
-    pub gathered-mergeable : (3 * (m - n) ≤ length (midOf (3 * n) (length t - 3 * n) t)) × (3 * (m - n) ≤ length spare)
-        × AllSmall (recordsOf (midOf (3 * n) (length t - 3 * n) t) (m - n))
+    pub gathered-mergeable : (rowWidth * (m - n) ≤ length (midOf (rowWidth * n) (length t - rowWidth * n) t)) × (rowWidth * (m - n) ≤ length spare)
+        × AllSmallLast (displacedOf (midOf (rowWidth * n) (length t - rowWidth * n) t) (m - n))
     gathered-mergeable =
         let count = gathered-count in (
-          omega (arith, count .0, count .2, part-length (3 * n) t),
+          omega (arith, count .0, count .2, part-length (rowWidth * n) t),
           omega (arith, count .1, h .few, o .few, o .spareRoom),
-          subst AllSmall (sym records) small,
+          subst AllSmallLast (sym records) small,
         )
 
     -- that part put back merged
-    pub list-made : (p : List ℤ) (k : ℕ) → length p ≡ length (midOf (3 * n) (length t - 3 * n) t)
-        → k ≡ length (normal (recordsOf (midOf (3 * n) (length t - 3 * n) t) (m - n)))
-        → recordsOf p k ≡ sortedByDisplacement (normal (recordsOf (midOf (3 * n) (length t - 3 * n) t) (m - n)))
-        → Made (graphOf ns es) (rootIn s) f s (putMid (3 * n) (length t - 3 * n) t p) (record { row = n; count = k })
+    pub list-made : (p : List ℤ) (k : ℕ) → length p ≡ length (midOf (rowWidth * n) (length t - rowWidth * n) t)
+        → k ≡ length (normal (displacedOf (midOf (rowWidth * n) (length t - rowWidth * n) t) (m - n)))
+        → displacedOf p k ≡ sortedByDisplacement (normal (displacedOf (midOf (rowWidth * n) (length t - rowWidth * n) t) (m - n)))
+        → Made (graphOf ns es) (rootIn s) f s (putMid (rowWidth * n) (length t - rowWidth * n) t p) (record { row = n; count = k })
     list-made p k long count merged =
-        let front = length-take-le (3 * n) t (omega (arith, gathered-count)) in
-        subst (λ (u : List ℤ). Made (graphOf ns es) (rootIn s) f s u (record { row = n; count = k })) (sym (part-back (3 * n) t p))
+        let front = length-take-le (rowWidth * n) t (omega (arith, gathered-count)) in
+        subst (λ (u : List ℤ). Made (graphOf ns es) (rootIn s) f s u (record { row = n; count = k })) (sym (part-back (rowWidth * n) t p))
         record {
           at = at;
           agrees = agree-trans (appended-agrees room (h .appended))
               record {
-                long = omega (arith, length-append (take (3 * n) t) p, front, long, part-length (3 * n) t, gathered-count);
-                same = λ j l. List·getD-append (take (3 * n) t) p (pos 0) j (omega (arith, front)) ∙ getD-take (3 * n) t j (pos 0) l;
+                long = omega (arith, length-append (take (rowWidth * n) t) p, front, long, part-length (rowWidth * n) t, gathered-count);
+                same = λ j l. List·getD-append (take (rowWidth * n) t) p (pos 0) j (omega (arith, front)) ∙ getD-take (rowWidth * n) t j (pos 0) l;
               };
           made = map ofDisplacement (h .rows);
           exact = h .exact;
           full = h .full;
           few = omega (arith, length-map (h .rows) ofDisplacement, h .few);
           count = count ∙ ap (λ l. length (normal l)) records;
-          records = ap (λ l. recordsOf l k) (drop-at (take (3 * n) t) p (3 * n) front) ∙ merged ∙ ap (λ l. sortedByDisplacement (normal l)) records;
+          records = ap (λ l. displacedOf l k) (drop-at (take (rowWidth * n) t) p (rowWidth * n) front) ∙ merged ∙ ap (λ l. sortedByDisplacement (normal l)) records;
         }
 
-module _ {g : Graph} {r : ℤ} {f : Reference} {old new : List ℤ} {p : Placed} (m : Made g r f old new p) where
+module _ {g : Graph} {r : ℤ} {f : Reference} {old new : List ℤ} {p : ListRows} (m : Made g r f old new p) where
   -- the list has no more records than paths lead to the owner
   pub made-few : p .count ≤ pathCount g r (f .owner)
   made-few = omega (arith, m .count, normal-length (m .made), m .few)

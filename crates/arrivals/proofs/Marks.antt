@@ -16,23 +16,23 @@ use Rattle.integers.proofs.Range.{leZ-true}
 use Rattle.integers.proofs.Tests.{Test, passed, failed, eq?}
 use Rattle.model.specs.Limits.{maxNodes}
 use Rattle.references.specs.References.{Reference}
-use Rattle.arrivals.specs.State.{Mark, markNumber, markAt, setMark, marked, isMet, referenceAt, isListed, placeOf, countOf, usedAt, usedIn, rootIn}
+use Rattle.arrivals.specs.State.{markWidth, Mark, markNumber, markAt, setMark, marked, isMet, referenceAt, isListed, listRow, usedAt, usedIn, rootIn}
 use Rattle.arrivals.specs.Moves.{Blank}
 
 -- the owner is the first number of a mark
-pub owner-number : (s : List ℤ) (v : ℕ) → getD s (6 * v) (pos 0) ≡ markNumber s v 0
+pub owner-number : (s : List ℤ) (v : ℕ) → getD s (markWidth * v) (pos 0) ≡ markNumber s v 0
 owner-number s v = rw add-zero
 
 -- six numbers stored one after another are a mark
 pub mark-stored :
-    (s : List ℤ) (v : ℕ) (m : Mark) {owner delta low high place count : ℤ}
-    → owner ≡ m .owner → delta ≡ m .delta → low ≡ m .low → high ≡ m .high → place ≡ m .place → count ≡ m .count
-    → set (set (set (set (set (set s (6 * v) owner) (6 * v + 1) delta) (6 * v + 2) low) (6 * v + 3) high) (6 * v + 4) place) (6 * v + 5) count
+    (s : List ℤ) (v : ℕ) (m : Mark) {owner delta low high row count : ℤ}
+    → owner ≡ m .owner → delta ≡ m .delta → low ≡ m .low → high ≡ m .high → row ≡ m .row → count ≡ m .count
+    → set (set (set (set (set (set s (markWidth * v) owner) (markWidth * v + 1) delta) (markWidth * v + 2) low) (markWidth * v + 3) high) (markWidth * v + 4) row) (markWidth * v + 5) count
     ≡ setMark s v m
-mark-stored s v m o d l h p c = cc (add-zero (6 * v))
+mark-stored s v m o d l h p c = cc (add-zero (markWidth * v))
 
 -- it is not negative where something has arrived
-pub owner-low : (s : List ℤ) (v : ℕ) → isMet s v ≡ true → pos 0 ≤ℤ getD s (6 * v) (pos 0)
+pub owner-low : (s : List ℤ) (v : ℕ) → isMet s v ≡ true → pos 0 ≤ℤ getD s (markWidth * v) (pos 0)
 owner-low s v e = rw (owner-number s v) (leZ-true (pos 0) (markNumber s v 0) e)
 
 -- storing a mark leaves the length
@@ -40,14 +40,14 @@ pub mark-length : (s : List ℤ) (v : ℕ) (m : Mark) → length (setMark s v m)
 mark-length s v m = simp length-set
 
 -- and every number that is none of the mark's
-pub mark-elsewhere : (s : List ℤ) (v j : ℕ) (m : Mark) → ((k : ℕ) → k < 6 → j ≢ 6 * v + k) → getD (setMark s v m) j (pos 0) ≡ getD s j (pos 0)
+pub mark-elsewhere : (s : List ℤ) (v j : ℕ) (m : Mark) → ((k : ℕ) → k < markWidth → j ≢ markWidth * v + k) → getD (setMark s v m) j (pos 0) ≡ getD s j (pos 0)
 mark-elsewhere s v j m n =
-    let owner : j ≢ 6 * v + 0 = n 0 (omega arith) in
-    let delta : j ≢ 6 * v + 1 = n 1 (omega arith) in
-    let low : j ≢ 6 * v + 2 = n 2 (omega arith) in
-    let high : j ≢ 6 * v + 3 = n 3 (omega arith) in
-    let place : j ≢ 6 * v + 4 = n 4 (omega arith) in
-    let count : j ≢ 6 * v + 5 = n 5 (omega arith) in
+    let owner : j ≢ markWidth * v + 0 = n 0 (omega arith) in
+    let delta : j ≢ markWidth * v + 1 = n 1 (omega arith) in
+    let low : j ≢ markWidth * v + 2 = n 2 (omega arith) in
+    let high : j ≢ markWidth * v + 3 = n 3 (omega arith) in
+    let row : j ≢ markWidth * v + 4 = n 4 (omega arith) in
+    let count : j ≢ markWidth * v + 5 = n 5 (omega arith) in
     rw (getD-set-other, getD-set-other, getD-set-other, getD-set-other, getD-set-other, getD-set-other)
 
 -- such as those behind the marks
@@ -64,8 +64,8 @@ mark-root s v m h = mark-behind s v (usedAt + 1) m h (omega arith)
 
 module _ (s : List ℤ) (v w : ℕ) (m : Mark) (other : w ≢ v) where
   -- its numbers stay
-  pub number-other : (k : ℕ) → k < 6 → markNumber (setMark s v m) w k ≡ markNumber s w k
-  number-other k h = mark-elsewhere s v (6 * w + k) m (λ n l e. other (omega arith))
+  pub number-other : (k : ℕ) → k < markWidth → markNumber (setMark s v m) w k ≡ markNumber s w k
+  number-other k h = mark-elsewhere s v (markWidth * w + k) m (λ n l e. other (omega arith))
 
   -- so do the whole mark and what is read of it
   pub mark-other : markAt (setMark s v m) w ≡ markAt s w
@@ -74,7 +74,7 @@ module _ (s : List ℤ) (v w : ℕ) (m : Mark) (other : w ≢ v) where
       let delta = number-other 1 (omega arith) in
       let low = number-other 2 (omega arith) in
       let high = number-other 3 (omega arith) in
-      let place = number-other 4 (omega arith) in
+      let row = number-other 4 (omega arith) in
       let count = number-other 5 (omega arith) in
       cc
 
@@ -85,13 +85,10 @@ module _ (s : List ℤ) (v w : ℕ) (m : Mark) (other : w ≢ v) where
   reference-other = ap (λ (x : Mark). record { owner = x .owner; delta = x .delta; low = x .low; high = x .high }) mark-other
 
   pub listed-other : isListed (setMark s v m) w ≡ isListed s w
-  listed-other = ap (λ (x : Mark). leZ (pos 0) (x .place)) mark-other
+  listed-other = ap (λ (x : Mark). leZ (pos 0) (x .row)) mark-other
 
-  pub place-other : placeOf (setMark s v m) w ≡ placeOf s w
-  place-other = ap (λ (x : Mark). natAbs (x .place)) mark-other
-
-  pub count-other : countOf (setMark s v m) w ≡ countOf s w
-  count-other = ap (λ (x : Mark). natAbs (x .count)) mark-other
+  pub listRow-other : listRow (setMark s v m) w ≡ listRow s w
+  listRow-other = ap (λ (x : Mark). natAbs (x .row)) mark-other
 
 -- ---- the mark that was stored
 
@@ -100,10 +97,10 @@ numbers-apart : (n k l : ℕ) → eqb k l ≡ false → n + k ≢ n + l
 numbers-apart n k l t e = eqb-false k l t (omega arith)
 
 -- a number of a mark stands in a state that has room for the mark
-number-inside : (n k l : ℕ) → n + 6 ≤ l → T (ltb k 6) → n + k < l
-number-inside n k l h t = omega (arith, ltb→lt k 6 t)
+number-inside : (n k l : ℕ) → n + markWidth ≤ l → T (ltb k markWidth) → n + k < l
+number-inside n k l h t = omega (arith, ltb→lt k markWidth t)
 
-module _ (s : List ℤ) (v : ℕ) (m : Mark) (room : 6 * v + 6 ≤ length s) where
+module _ (s : List ℤ) (v : ℕ) (m : Mark) (room : markWidth * v + markWidth ≤ length s) where
   -- it is read again, whole
   pub mark-same : markAt (setMark s v m) v ≡ m
   mark-same = search (getD-set-same, getD-set-other, length-set, numbers-apart, number-inside)
@@ -112,43 +109,31 @@ module _ (s : List ℤ) (v : ℕ) (m : Mark) (room : 6 * v + 6 ≤ length s) whe
   pub owner-same : markNumber (setMark s v m) v 0 ≡ m .owner
   owner-same = ap (λ (x : Mark). x .owner) mark-same
 
-  pub delta-same : markNumber (setMark s v m) v 1 ≡ m .delta
-  delta-same = ap (λ (x : Mark). x .delta) mark-same
-
-  pub low-same : markNumber (setMark s v m) v 2 ≡ m .low
-  low-same = ap (λ (x : Mark). x .low) mark-same
-
-  pub high-same : markNumber (setMark s v m) v 3 ≡ m .high
-  high-same = ap (λ (x : Mark). x .high) mark-same
-
-  pub place-same : markNumber (setMark s v m) v 4 ≡ m .place
-  place-same = ap (λ (x : Mark). x .place) mark-same
-
-  pub count-same : markNumber (setMark s v m) v 5 ≡ m .count
-  count-same = ap (λ (x : Mark). x .count) mark-same
+  pub row-same : markNumber (setMark s v m) v 4 ≡ m .row
+  row-same = ap (λ (x : Mark). x .row) mark-same
 
   -- and by what the numbers say
   pub met-same : isMet (setMark s v m) v ≡ leZ (pos 0) (m .owner)
   met-same = ap (leZ (pos 0)) owner-same
 
-  pub listed-same : isListed (setMark s v m) v ≡ leZ (pos 0) (m .place)
-  listed-same = ap (leZ (pos 0)) place-same
+  pub listed-same : isListed (setMark s v m) v ≡ leZ (pos 0) (m .row)
+  listed-same = ap (leZ (pos 0)) row-same
 
 -- the reference of a stored mark
-pub reference-same : (s : List ℤ) (v : ℕ) (f : Reference) (place count : ℤ) → 6 * v + 6 ≤ length s → referenceAt (setMark s v (marked f place count)) v ≡ f
-reference-same s v f place count h =
-    ap (λ (x : Mark). record { owner = x .owner; delta = x .delta; low = x .low; high = x .high }) (mark-same s v (marked f place count) h)
+pub reference-same : (s : List ℤ) (v : ℕ) (f : Reference) (row count : ℤ) → markWidth * v + markWidth ≤ length s → referenceAt (setMark s v (marked f row count)) v ≡ f
+reference-same s v f row count h =
+    ap (λ (x : Mark). record { owner = x .owner; delta = x .delta; low = x .low; high = x .high }) (mark-same s v (marked f row count) h)
 
 -- ---- marks without an owner
 
 -- with the next node the first v + 1 nodes are blank
-pub blank-next : (s : List ℤ) (v : ℕ) → 6 * v < length s → Blank v s → Blank (v + 1) (set s (6 * v) (negsuc 0))
+pub blank-next : (s : List ℤ) (v : ℕ) → markWidth * v < length s → Blank v s → Blank (v + 1) (set s (markWidth * v) (negsuc 0))
 blank-next s v h b w k = go (eqb w v) (eq? w v)
   where
-    go : (t : Bool) → Test (w ≡ v) (w ≢ v) t → isMet (set s (6 * v) (negsuc 0)) w ≡ false
+    go : (t : Bool) → Test (w ≡ v) (w ≢ v) t → isMet (set s (markWidth * v) (negsuc 0)) w ≡ false
     go true (passed e) =
-        let none : markNumber (set s (6 * v) (negsuc 0)) v 0 ≡ negsuc 0 =
-        sym (owner-number (set s (6 * v) (negsuc 0)) v) ∙ getD-set-same s (6 * v) (negsuc 0) (pos 0) h in
+        let none : markNumber (set s (markWidth * v) (negsuc 0)) v 0 ≡ negsuc 0 =
+        sym (owner-number (set s (markWidth * v) (negsuc 0)) v) ∙ getD-set-same s (markWidth * v) (negsuc 0) (pos 0) h in
         rw (e, none)
     go false (failed n) =
-        ap (leZ (pos 0)) (getD-set-other s (6 * v) (6 * w + 0) (negsuc 0) (pos 0) (λ e. n (omega arith))) ∙ b w (omega arith)
+        ap (leZ (pos 0)) (getD-set-other s (markWidth * v) (markWidth * w + 0) (negsuc 0) (pos 0) (λ e. n (omega arith))) ∙ b w (omega arith)

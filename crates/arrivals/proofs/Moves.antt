@@ -6,7 +6,7 @@ use mathlib.Core.Option.{none}
 use Prim.Native.Nat.{ℕ, _+_, _*_, _≤_, _<_}
 use native.Mathlib.Omega.{arith}
 use borrow.Author.Tests.{lt-ltb, le-ltb}
-use lib.IntN.{ℤ, pos, negsuc, natAbs}
+use lib.IntN.{ℤ, pos, natAbs}
 use lib.ListN.{length, set}
 use Rattle.model.specs.Graph.{Graph, NodeRow, graphOf, bitOffset}
 use Rattle.tables.specs.Tables.{edgeAt}
@@ -15,7 +15,7 @@ use Rattle.steps.specs.Steps.{GoodRow}
 use Rattle.steps.proofs.Rows.{node-good, edge-in}
 use Rattle.references.specs.declared.Reference.{Reference as Held}
 use Rattle.references.specs.References.{Reference, referenceOf, own, through, unlessNone, sameReference}
-use Rattle.arrivals.specs.State.{arenaRow, arenaRows, usedAt, rootAt, setMark, marked, isMet, referenceAt}
+use Rattle.arrivals.specs.State.{markWidth, arenaRow, arenaRows, usedAt, rootAt, setMark, marked, isMet, referenceAt, notListed, noRoom}
 use Rattle.arrivals.specs.Moves.{Crossable, crossing, meeting, storing, begun}
 
 -- the owner of all that arrives at v is v
@@ -31,7 +31,7 @@ module _ {ns es : List ℤ} {e : ℕ} {f : Reference} {s : List ℤ} (x : Crossa
 
   module _ {u : ℕ} (from : pos u ≡ edgeAt es e .from) where
     -- it has a mark in the state
-    pub from-marked : 6 * u + 6 ≤ length s
+    pub from-marked : markWidth * u + markWidth ≤ length s
     from-marked =
         let good : GoodRow ns u = node-good (x .tables) (subst (NodeRow (graphOf ns es)) (sym from) from-row) in
         omega (arith, good .there, x .tables .nodes .few, x .marks)
@@ -49,7 +49,7 @@ module _ {ns es : List ℤ} {e : ℕ} {f : Reference} {s : List ℤ} (x : Crossa
 
 module _ (s : List ℤ) (v : ℕ) (all f : Reference) (rows : ℤ) where
   -- at a node where nothing had arrived it is kept
-  pub meeting-first : isMet s v ≡ false → meeting s v all f rows ≡ setMark s v (marked f (negsuc 0) rows)
+  pub meeting-first : isMet s v ≡ false → meeting s v all f rows ≡ setMark s v (marked f notListed rows)
   meeting-first n = rw n
 
   -- the same again changes nothing
@@ -57,14 +57,14 @@ module _ (s : List ℤ) (v : ℕ) (all f : Reference) (rows : ℤ) where
   meeting-same y e = rw (y, e)
 
   -- of another one the node is its own owner
-  pub meeting-other : isMet s v ≡ true → sameReference (referenceAt s v) f ≡ false → meeting s v all f rows ≡ setMark s v (marked all (negsuc 0) rows)
+  pub meeting-other : isMet s v ≡ true → sameReference (referenceAt s v) f ≡ false → meeting s v all f rows ≡ setMark s v (marked all notListed rows)
   meeting-other y n = rw (y, n)
 
 -- ---- rows kept
 
 module _ (all : Reference) (v used k : ℕ) (s : List ℤ) where
   -- rows that do not fit are not kept
-  pub storing-full : arenaRow + arenaRows < used + k → storing all v used k s ≡ setMark s v (marked all (negsuc 1) (pos 0))
+  pub storing-full : arenaRow + arenaRows < used + k → storing all v used k s ≡ setMark s v (marked all noRoom (pos 0))
   storing-full h = rw (lt-ltb (arenaRow + arenaRows) (used + k) h)
 
   -- rows that fit are
@@ -73,15 +73,15 @@ module _ (all : Reference) (v used k : ℕ) (s : List ℤ) where
   storing-kept h = rw (le-ltb (arenaRow + arenaRows) (used + k) h)
 
   -- as they are stored number by number
-  pub rows-stored : {t : List ℤ} {held : Reference} {place count behind : ℤ} → t ≡ setMark s v (marked held place count) → held ≡ all → place ≡ pos used
+  pub rows-stored : {t : List ℤ} {held : Reference} {row count behind : ℤ} → t ≡ setMark s v (marked held row count) → held ≡ all → row ≡ pos used
       → count ≡ pos k → behind ≡ pos (used + k) → used + k ≤ arenaRow + arenaRows → set t usedAt behind ≡ storing all v used k s
   rows-stored m a p c b h = cc (storing-kept h)
 
 -- ---- the root
 
 -- its mark, its row, and the two numbers behind the marks are the state with the root marked
-pub root-stored : (all : Reference) (root : ℕ) (s : List ℤ) {t u : List ℤ} {held : Reference} {place low high used last : ℤ} {r : ℕ}
-    → t ≡ setMark s root (marked held place (pos 1)) → held ≡ all → place ≡ pos arenaRow → low ≡ all .low → high ≡ all .high
+pub root-stored : (all : Reference) (root : ℕ) (s : List ℤ) {t u : List ℤ} {held : Reference} {row low high used last : ℤ} {r : ℕ}
+    → t ≡ setMark s root (marked held row (pos 1)) → held ≡ all → row ≡ pos arenaRow → low ≡ all .low → high ≡ all .high
     → Appended (record { first = pos 0; second = low; third = high } ∷ []) t u arenaRow r → used ≡ pos (arenaRow + 1) → last ≡ pos root
     → set (set u usedAt used) rootAt last ≡ begun all root s
 root-stored all root s m a p f e b n l = let numbers = b .numbers in cc

@@ -11,7 +11,7 @@ use mathlib.Core.Option.{Option, none, some}
 use Prim.Native.Nat.{ℕ, _+_, _*_, _≤_, _<_}
 use native.Mathlib.Omega.{arith}
 use lib.Dec.{T, eqb}
-use lib.IntN.{ℤ, pos, negsuc, natAbs, _+ℤ_}
+use lib.IntN.{ℤ, pos, natAbs, _+ℤ_}
 use lib.Signed.{leZ, _≤ℤ_}
 use lib.ListN.{length, getD, take, drop, set, length-append, length-drop, length-set, List·getD-append}
 use lib.Seq.{length-take-le, getD-take, getD-set-same, getD-set-other, drop-set-lt, drop-at}
@@ -25,9 +25,9 @@ use Rattle.model.specs.Walk.{StandsOn, Walk}
 use Rattle.model.specs.Paths.{Root, Way, stay}
 use Rattle.model.specs.Bitmapping.{Record, Has}
 use Rattle.sorting.specs.declared.Row.{Row}
-use Rattle.sorting.specs.Rows.{numbersOf, Ascending, none, more}
+use Rattle.sorting.specs.Rows.{rowWidth, numbersOf, Ascending, none, more}
 use Rattle.sorting.proofs.Tables.{rowsOf-written}
-use Rattle.normalisation.specs.Merging.{byDisplacement, ofDisplacement, recordsOf}
+use Rattle.normalisation.specs.Merging.{byDisplacement, ofDisplacement, displacedOf}
 use Rattle.tables.specs.Tables.{edgeAt}
 use Rattle.tables.proofs.Rows.{edges-length}
 use Rattle.steps.proofs.Rows.{edge-in}
@@ -39,10 +39,10 @@ use Rattle.entering.proofs.Ways.{way-onward, way-back}
 use Rattle.forward.specs.Forward.{plannedCount, plannedOf}
 use Rattle.references.specs.References.{Reference, own, Brings, through, isNone, unlessNone, InOwner, SmallReference, sameReference, recordsAt}
 use Rattle.references.proofs.Bringing.{through-brings, none-brings, through-lying, through-inside, own-lying, lying-small, same-reference-is}
-use Rattle.arrivals.specs.State.{markWidth, Mark, markNumber, markAt, setMark, marked, usedAt, rootAt, arenaRow, stateRoom, isMet, referenceAt, placeOf, countOf, usedIn, rootIn}
+use Rattle.arrivals.specs.State.{markWidth, Mark, markNumber, markAt, setMark, marked, usedAt, rootAt, arenaRow, stateRoom, isMet, referenceAt, listRow, countOf, usedIn, rootIn, notListed}
 use Rattle.arrivals.specs.Sweep.{doneOf, Came, HasSome, Listed, RightMark, Sweeping, Sweepable}
 use Rattle.arrivals.specs.Moves.{Crossable, crossing, meeting, Ownable, Blank, begun}
-use Rattle.arrivals.proofs.Marks.{mark-same, mark-other, mark-behind, mark-length, mark-used, mark-root, met-other, reference-other, listed-other, place-other, number-other, met-same, reference-same, listed-same}
+use Rattle.arrivals.proofs.Marks.{mark-same, mark-other, mark-behind, mark-length, mark-used, mark-root, met-other, reference-other, listed-other, listRow-other, number-other, met-same, reference-same, listed-same}
 use Rattle.arrivals.proofs.Agreeing.{row-few, rows-few}
 use Rattle.arrivals.proofs.Relisting.{listed-moved}
 use Rattle.arrivals.proofs.Settled.{not-both, front-in, next-covered, done-next, settled}
@@ -104,21 +104,21 @@ marked-further c m =
 
 -- a mark without a list
 abbrev bare : Reference → ℤ → Mark
-bare f rows = marked f (negsuc 0) rows
+bare f rows = marked f notListed rows
 
 module _ (s : List ℤ) (to : ℕ) (m : Mark) (low : to < maxNodes) (room : length s ≡ stateRoom) where
   -- records in the arena stay
   records-stay : (p c : ℕ) → arenaRow ≤ p → recordsAt (setMark s to m) p c ≡ recordsAt s p c
   records-stay p c h =
-      let past : (k : ℕ) → k < markWidth → markWidth * to + k < 3 * p = λ k j. omega arith in
+      let past : (k : ℕ) → k < markWidth → markWidth * to + k < rowWidth * p = λ k j. omega arith in
       let owner = past 0 (omega arith) in
       let delta = past 1 (omega arith) in
       let first = past 2 (omega arith) in
       let last = past 3 (omega arith) in
-      let place = past 4 (omega arith) in
+      let row = past 4 (omega arith) in
       let count = past 5 (omega arith) in
-      let same : drop (3 * p) (setMark s to m) ≡ drop (3 * p) s = simp (drop-set-lt {A = ℤ} (3 * p)) in
-      ap (λ (l : List ℤ). recordsOf l c) same
+      let same : drop (rowWidth * p) (setMark s to m) ≡ drop (rowWidth * p) s = simp (drop-set-lt {A = ℤ} (rowWidth * p)) in
+      ap (λ (l : List ℤ). displacedOf l c) same
 
   module _ (owner : pos 0 ≤ℤ m .owner) where
     -- something has arrived at the node
@@ -149,8 +149,8 @@ module _ (s : List ℤ) (to : ℕ) (m : Mark) (low : to < maxNodes) (room : leng
           other = λ z q x b. rw same (k .other (met z) (λ j. q (same-owner ∙ j)) x b);
           listed = λ z q.
               let l = k .listed (met z) (sym (listed-other s to v m n) ∙ q) in
-              listed-moved (place-other s to v m n) (number-other s to v m n 5 (omega arith)) (omega (arith, mark-used s to m low))
-              (records-stay (placeOf s v) (countOf s v) (l .behind)) l;
+              listed-moved (listRow-other s to v m n) (number-other s to v m n 5 (omega arith)) (omega (arith, mark-used s to m low))
+              (records-stay (listRow s v) (countOf s v) (l .behind)) l;
         }
 
 -- such a mark is right where its reference brings what has come, or is all that arrives
@@ -163,7 +163,7 @@ marked-stored : {g : Graph} {r : ℤ} {done : List Edge} (s : List ℤ) (to : �
     → RightMark g r done (setMark s to (bare f rows)) to
 marked-stored {g} {r} {done} s to f rows low room inOwner inside owned way itself other =
     let m = bare f rows in
-    let same : referenceAt (setMark s to m) to ≡ f = reference-same s to f (negsuc 0) rows (omega arith) in
+    let same : referenceAt (setMark s to m) to ≡ f = reference-same s to f notListed rows (omega arith) in
     let owner : referenceAt (setMark s to m) to .owner ≡ f .owner = ap (λ (k : Reference). k .owner) same in
     record {
       unmet = λ z. absurd (not-both (met-stored s to m low room (inOwner .row .low)) z);
@@ -285,7 +285,7 @@ module _ {ns es : List ℤ} {plan : List ℕ} {i : ℕ} {s : List ℤ} (w : Swee
         root = rw root (w .root);
         rootMet = λ r q. ap (λ (k : Mark). leZ (pos 0) (k .owner)) (stays r q) ∙ w .rootMet r (q ∙ root);
         rootOwn = λ r q. ap (λ (k : Mark). k .owner) (stays r q) ∙ w .rootOwn r (q ∙ root);
-        rootListed = λ r q. ap (λ (k : Mark). leZ (pos 0) (k .place)) (stays r q) ∙ w .rootListed r (q ∙ root);
+        rootListed = λ r q. ap (λ (k : Mark). leZ (pos 0) (k .row)) (stays r q) ∙ w .rootListed r (q ∙ root);
         few = λ e k. rw root (w .few e k);
         marks = λ v h. subst (λ (z : ℤ). RightMark g z (doneOf es plan (i + 1)) t v) (sym root) (go v h low (eqb v to) (eq? v to));
       }
@@ -512,7 +512,7 @@ module _ {ns es : List ℤ} {plan : List ℕ} {i : ℕ} {s : List ℤ} (w : Swee
   next-passed = front-in (i + 1) (plannedOf es plan) (done-next w there (nextEdge es plan i) .1 (inr refl))
 
   -- a list may be made of the node that it leaves: no more paths lead there than to the node that it enters
-  pub next-ownable : {from : ℕ} {spare : List ℤ} → pos from ≡ nextEdge es plan i .from → isMet s from ≡ true → 3 * maxPaths ≤ length spare
+  pub next-ownable : {from : ℕ} {spare : List ℤ} → pos from ≡ nextEdge es plan i .from → isMet s from ≡ true → rowWidth * maxPaths ≤ length spare
       → Ownable ns es plan from s spare
   next-ownable {from} leaves met room =
       let g = graphOf ns es in
@@ -538,12 +538,12 @@ abbrev rootMarked : Reference → ℕ → List ℤ → List ℤ
 rootMarked all root s = setMark s root (marked all (pos arenaRow) (pos 1))
 
 abbrev rootWritten : Reference → ℕ → List ℤ → List ℤ
-rootWritten all root s = take (3 * arenaRow) (rootMarked all root s) ++ (numbersOf (rootRow all ∷ []) ++ drop (3 * arenaRow + 3) (rootMarked all root s))
+rootWritten all root s = take (rowWidth * arenaRow) (rootMarked all root s) ++ (numbersOf (rootRow all ∷ []) ++ drop (rowWidth * arenaRow + rowWidth) (rootMarked all root s))
 
 module _ (all : Reference) (root : ℕ) (s : List ℤ) (low : root < maxNodes) (room : length s ≡ stateRoom) where
   -- the lengths of what is written
-  front-length : length (take (3 * arenaRow) (rootMarked all root s)) ≡ 3 * arenaRow
-  front-length = length-take-le (3 * arenaRow) (rootMarked all root s) (omega (arith, mark-length s root (marked all (pos arenaRow) (pos 1))))
+  front-length : length (take (rowWidth * arenaRow) (rootMarked all root s)) ≡ rowWidth * arenaRow
+  front-length = length-take-le (rowWidth * arenaRow) (rootMarked all root s) (omega (arith, mark-length s root (marked all (pos arenaRow) (pos 1))))
 
   written-length : length (rootWritten all root s) ≡ stateRoom
   unfolding numbersOf
@@ -551,8 +551,8 @@ module _ (all : Reference) (root : ℕ) (s : List ℤ) (low : root < maxNodes) (
       let t = rootMarked all root s in
       omega (
         arith,
-        length-append (take (3 * arenaRow) t) (numbersOf (rootRow all ∷ []) ++ drop (3 * arenaRow + 3) t),
-        length-drop (3 * arenaRow + 3) t,
+        length-append (take (rowWidth * arenaRow) t) (numbersOf (rootRow all ∷ []) ++ drop (rowWidth * arenaRow + rowWidth) t),
+        length-drop (rowWidth * arenaRow + rowWidth) t,
         front-length,
         mark-length s root (marked all (pos arenaRow) (pos 1)),
       )
@@ -582,8 +582,8 @@ module _ (all : Reference) (root : ℕ) (s : List ℤ) (low : root < maxNodes) (
       let t = rootMarked all root s in
       getD-set-other (set (rootWritten all root s) usedAt (pos (arenaRow + 1))) rootAt j (pos root) (pos 0) (λ e. omega arith)
       ∙ getD-set-other (rootWritten all root s) usedAt j (pos (arenaRow + 1)) (pos 0) (λ e. omega arith)
-      ∙ List·getD-append (take (3 * arenaRow) t) (numbersOf (rootRow all ∷ []) ++ drop (3 * arenaRow + 3) t) (pos 0) j (omega (arith, front-length))
-      ∙ getD-take (3 * arenaRow) t j (pos 0) (omega arith)
+      ∙ List·getD-append (take (rowWidth * arenaRow) t) (numbersOf (rootRow all ∷ []) ++ drop (rowWidth * arenaRow + rowWidth) t) (pos 0) j (omega (arith, front-length))
+      ∙ getD-take (rowWidth * arenaRow) t j (pos 0) (omega arith)
 
   begun-mark : (v : ℕ) → v < maxNodes → markAt (begun all root s) v ≡ markAt (rootMarked all root s) v
   begun-mark v h =
@@ -593,7 +593,7 @@ module _ (all : Reference) (root : ℕ) (s : List ℤ) (low : root < maxNodes) (
       let delta = number 1 (omega arith) in
       let first = number 2 (omega arith) in
       let last = number 3 (omega arith) in
-      let place = number 4 (omega arith) in
+      let row = number 4 (omega arith) in
       let count = number 5 (omega arith) in
       cc
 
@@ -601,12 +601,12 @@ module _ (all : Reference) (root : ℕ) (s : List ℤ) (low : root < maxNodes) (
   begun-records : recordsAt (begun all root s) arenaRow 1 ≡ ofDisplacement (rootRow all) ∷ []
   begun-records =
       let t = rootMarked all root s in
-      let rest = drop (3 * arenaRow + 3) t in
-      let part : drop (3 * arenaRow) (begun all root s) ≡ numbersOf (rootRow all ∷ []) ++ rest =
-      drop-set-lt (3 * arenaRow) (set (rootWritten all root s) usedAt (pos (arenaRow + 1))) rootAt (pos root) (omega arith)
-      ∙ drop-set-lt (3 * arenaRow) (rootWritten all root s) usedAt (pos (arenaRow + 1)) (omega arith)
-      ∙ drop-at (take (3 * arenaRow) t) (numbersOf (rootRow all ∷ []) ++ rest) (3 * arenaRow) front-length in
-      ap (λ (l : List ℤ). recordsOf l 1) part ∙ ap (map ofDisplacement) (rowsOf-written (rootRow all ∷ []) rest 1 refl)
+      let rest = drop (rowWidth * arenaRow + rowWidth) t in
+      let part : drop (rowWidth * arenaRow) (begun all root s) ≡ numbersOf (rootRow all ∷ []) ++ rest =
+      drop-set-lt (rowWidth * arenaRow) (set (rootWritten all root s) usedAt (pos (arenaRow + 1))) rootAt (pos root) (omega arith)
+      ∙ drop-set-lt (rowWidth * arenaRow) (rootWritten all root s) usedAt (pos (arenaRow + 1)) (omega arith)
+      ∙ drop-at (take (rowWidth * arenaRow) t) (numbersOf (rootRow all ∷ []) ++ rest) (rowWidth * arenaRow) front-length in
+      ap (λ (l : List ℤ). displacedOf l 1) part ∙ ap (map ofDisplacement) (rowsOf-written (rootRow all ∷ []) rest 1 refl)
 
 -- a record of all bits of a root, with displacement 0, has what arrives at the root
 root-exact : {g : Graph} {r : ℤ} → Root g r → (x b : ℤ) → HasSome (ofDisplacement (rootRow (own g r)) ∷ []) x b ↔ Walk g r x r b
@@ -654,16 +654,16 @@ module _ {ns es : List ℤ} {plan : List ℕ} {root : ℕ} {old spare : List ℤ
         let g = graphOf ns es in
         let all = own g (pos root) in
         let t = begun all root s in
-        let place : placeOf t root ≡ arenaRow = ap (λ (q : Mark). natAbs (q .place)) root-mark in
+        let row : listRow t root ≡ arenaRow = ap (λ (q : Mark). natAbs (q .row)) root-mark in
         let count : countOf t root ≡ 1 = ap (λ (q : Mark). natAbs (q .count)) root-mark in
         let used : usedIn t ≡ arenaRow + 1 = ap natAbs (begun-used all root s root-low room) in
-        let records : recordsAt t (placeOf t root) (countOf t root) ≡ ofDisplacement (rootRow all) ∷ [] =
-        ap (λ (p : ℕ). recordsAt t p (countOf t root)) place ∙ ap (recordsAt t arenaRow) count ∙ begun-records all root s root-low room in
+        let records : recordsAt t (listRow t root) (countOf t root) ≡ ofDisplacement (rootRow all) ∷ [] =
+        ap (λ (p : ℕ). recordsAt t p (countOf t root)) row ∙ ap (recordsAt t arenaRow) count ∙ begun-records all root s root-low room in
         let number : markNumber t root 5 ≡ pos 1 = ap (λ (q : Mark). q .count) root-mark in
         record {
           counted = ap pos count ∙ sym number;
-          behind = omega (arith, place);
-          within = omega (arith, place, count, used);
+          behind = omega (arith, row);
+          within = omega (arith, row, count, used);
           exact = λ x b. subst (λ (l : List Record). HasSome l x b ↔ Walk g (pos root) x (pos root) b) (sym records) (root-exact (a .start) x b);
           full = λ q m.
               let e : q ≡ ofDisplacement (rootRow all) = List·Memᴰ·eq-of-singleton (subst (λ (l : List Record). q ∈ l) records m) in
@@ -728,7 +728,7 @@ module _ {ns es : List ℤ} {plan : List ℕ} {root : ℕ} {old spare : List ℤ
           root = rw start-root (a .start);
           rootMet = λ r q. rw (is-root r q) root-met;
           rootOwn = λ r q. rw (is-root r q) (ap (λ (f : Reference). f .owner) root-reference);
-          rootListed = λ r q. rw (is-root r q) (ap (λ (k : Mark). leZ (pos 0) (k .place)) root-mark);
+          rootListed = λ r q. rw (is-root r q) (ap (λ (k : Mark). leZ (pos 0) (k .row)) root-mark);
           few = λ e k. rw start-root (a .few e k);
           marks = λ v h. subst (λ (z : ℤ). RightMark g z (doneOf es plan 0) t v) (sym start-root) (go v h (eqb v root) (eq? v root));
         }

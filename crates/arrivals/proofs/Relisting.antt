@@ -20,7 +20,7 @@ use Rattle.reach.specs.Counting.{pathCount}
 use Rattle.sorting.specs.Rows.{Ascending}
 use Rattle.normalisation.specs.Merging.{byDisplacement}
 use Rattle.references.specs.References.{Reference, Brings, InOwner, recordsAt}
-use Rattle.arrivals.specs.State.{markNumber, isMet, referenceAt, isListed, placeOf, countOf, usedAt, arenaRow, arenaRows, usedIn, rootIn}
+use Rattle.arrivals.specs.State.{markNumber, isMet, referenceAt, isListed, listRow, countOf, usedAt, arenaRow, arenaRows, usedIn, rootIn}
 use Rattle.arrivals.specs.Sweep.{HasSome, doneOf, Came, Listed, RightMark, Sweeping}
 
 -- ---- node rows
@@ -36,14 +36,14 @@ number-row ns es {v} h = record { low = omega (arith, ints); high = omega (arith
 
 -- ---- other lists
 
--- a list stays that of its node where its place, its number of records and the records stay
-pub listed-moved : {g : Graph} {r : ℤ} {s t : List ℤ} {v : ℕ} → placeOf t v ≡ placeOf s v → markNumber t v 5 ≡ markNumber s v 5 → usedIn s ≤ usedIn t
-    → recordsAt t (placeOf s v) (countOf s v) ≡ recordsAt s (placeOf s v) (countOf s v) → Listed g r s v → Listed g r t v
-listed-moved {g} {r} {s} {t} {v} place number more same h =
+-- a list stays that of its node where its row, its number of records and the records stay
+pub listed-moved : {g : Graph} {r : ℤ} {s t : List ℤ} {v : ℕ} → listRow t v ≡ listRow s v → markNumber t v 5 ≡ markNumber s v 5 → usedIn s ≤ usedIn t
+    → recordsAt t (listRow s v) (countOf s v) ≡ recordsAt s (listRow s v) (countOf s v) → Listed g r s v → Listed g r t v
+listed-moved {g} {r} {s} {t} {v} row number more same h =
     record {
       counted = subst (λ (z : ℤ). pos (natAbs z) ≡ z) (sym number) (h .counted);
-      behind = omega (arith, place, h .behind);
-      within = omega (arith, place, count, more, h .within);
+      behind = omega (arith, row, h .behind);
+      within = omega (arith, row, count, more, h .within);
       exact = λ x b. subst (λ (l : List Record). HasSome l x b ↔ Walk g r x (pos v) b) (sym records) (h .exact x b);
       full = λ q k. h .full q (subst (λ (l : List Record). q ∈ l) records k);
       few = omega (arith, count, h .few);
@@ -53,8 +53,8 @@ listed-moved {g} {r} {s} {t} {v} place number more same h =
     count : countOf t v ≡ countOf s v
     count = ap natAbs number
 
-    records : recordsAt t (placeOf t v) (countOf t v) ≡ recordsAt s (placeOf s v) (countOf s v)
-    records = ap (λ p. recordsAt t p (countOf t v)) place ∙ ap (λ c. recordsAt t (placeOf s v) c) count ∙ same
+    records : recordsAt t (listRow t v) (countOf t v) ≡ recordsAt s (listRow s v) (countOf s v)
+    records = ap (λ p. recordsAt t p (countOf t v)) row ∙ ap (λ c. recordsAt t (listRow s v) c) count ∙ same
 
 -- a state with the length, the root and the references of another, whose lists are right
 pub record Relisted (ns es : List ℤ) (s t : List ℤ) : Type 0 where

@@ -5,7 +5,7 @@ use mathlib.Core.List.{List, [], _∷_, _++_}
 use mathlib.Core.Option.{Option, none}
 use Prim.Native.Nat.{ℕ, _+_, _*_, _≤_, _<_, _^_}
 use lib.Dec.{ltb}
-use lib.IntN.{ℤ, pos, negsuc, natAbs}
+use lib.IntN.{ℤ, pos, natAbs}
 use lib.ListN.{length, set, take, drop}
 use Rattle.model.specs.Limits.{edgeWidth, maxNodes, maxPaths}
 use Rattle.model.specs.Rows.{Edge, nodeRows}
@@ -14,11 +14,11 @@ use Rattle.model.specs.Taken.{TakenTables}
 use Rattle.tables.specs.Tables.{edgeAt}
 use Rattle.reach.specs.Counting.{pathCount}
 use Rattle.steps.specs.Steps.{GoodRow}
-use Rattle.sorting.specs.Rows.{numbersOf}
+use Rattle.sorting.specs.Rows.{rowWidth, numbersOf}
 use Rattle.entering.specs.Entering.{Covered}
 use Rattle.forward.specs.Forward.{plannedCount}
 use Rattle.references.specs.References.{Reference, through, unlessNone, SmallReference, sameReference}
-use Rattle.arrivals.specs.State.{markWidth, rowWidth, usedAt, rootAt, arenaRow, arenaRows, stateRoom, setMark, marked, isMet, referenceAt, rootIn}
+use Rattle.arrivals.specs.State.{markWidth, usedAt, rootAt, arenaRow, arenaRows, stateRoom, setMark, marked, isMet, referenceAt, rootIn, notListed, noRoom}
 use Rattle.arrivals.specs.Sweep.{doneOf, Sweeping}
 
 -- ---- over an edge
@@ -42,7 +42,7 @@ crossing g e f s =
 -- owner, not listed yet, with a list of so many rows at most, if its mark tells true
 abbrev pub meeting : List ℤ → ℕ → Reference → Reference → ℤ → List ℤ
 meeting s v all f rows =
-    cond (isMet s v) (cond (sameReference (referenceAt s v) f) s (setMark s v (marked all (negsuc 0) rows))) (setMark s v (marked f (negsuc 0) rows))
+    cond (isMet s v) (cond (sameReference (referenceAt s v) f) s (setMark s v (marked all notListed rows))) (setMark s v (marked f notListed rows))
 
 -- k rows from row `used` on may become the list of node v: the number of the row behind them is one of 64 bits
 pub record Storable (ns : List ℤ) (v used k : ℕ) (s : List ℤ) : Type 0 where
@@ -54,7 +54,7 @@ pub record Storable (ns : List ℤ) (v used k : ℕ) (s : List ℤ) : Type 0 whe
 -- the state with k rows from row `used` on as the list of v, where they fit; else v has no list
 abbrev pub storing : Reference → ℕ → ℕ → ℕ → List ℤ → List ℤ
 storing all v used k s =
-    cond (ltb (arenaRow + arenaRows) (used + k)) (setMark s v (marked all (negsuc 1) (pos 0)))
+    cond (ltb (arenaRow + arenaRows) (used + k)) (setMark s v (marked all noRoom (pos 0)))
     (set (setMark s v (marked all (pos used) (pos k))) usedAt (pos (used + k)))
 
 -- a marked node all of whose entering edges are passed, with at most 1,024 paths to it, and room for a list

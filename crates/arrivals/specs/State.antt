@@ -3,18 +3,16 @@ use mathlib.Core.Path.{_≡_}
 use mathlib.Core.Bool.{Bool}
 use mathlib.Core.List.{List}
 use Prim.Native.Nat.{ℕ, _+_, _*_, _/_, _<_}
-use lib.IntN.{ℤ, pos, natAbs}
+use lib.IntN.{ℤ, pos, negsuc, natAbs}
 use lib.Signed.{leZ}
 use lib.ListN.{length, getD, set}
 use Rattle.model.specs.Limits.{maxNodes, maxPaths}
+use Rattle.sorting.specs.Rows.{rowWidth}
 use Rattle.references.specs.References.{Reference}
 
--- numbers of a mark, and of a row
+-- numbers of a mark
 abbrev pub markWidth : ℕ
 markWidth = 6
-
-abbrev pub rowWidth : ℕ
-rowWidth = 3
 
 -- behind the marks: from which row on the arena is free, and the root
 abbrev pub usedAt : ℕ
@@ -40,8 +38,16 @@ pub record Mark : Type 0 where
   pub delta : ℤ
   pub low : ℤ
   pub high : ℤ
-  pub place : ℤ
+  pub row : ℤ
   pub count : ℤ
+
+-- the row of a mark where the node has no list yet
+abbrev pub notListed : ℤ
+notListed = negsuc 0
+
+-- the row of a mark where the node has no list, since there is no room for it
+abbrev pub noRoom : ℤ
+noRoom = negsuc 1
 
 -- number k of the mark of node v
 abbrev pub markNumber : List ℤ → ℕ → ℕ → ℤ
@@ -55,7 +61,7 @@ markAt s v =
       delta = markNumber s v 1;
       low = markNumber s v 2;
       high = markNumber s v 3;
-      place = markNumber s v 4;
+      row = markNumber s v 4;
       count = markNumber s v 5;
     }
 
@@ -63,7 +69,7 @@ markAt s v =
 abbrev pub setMark : List ℤ → ℕ → Mark → List ℤ
 setMark s v m =
     set (set (set (set (set (set s (markWidth * v + 0) (m .owner)) (markWidth * v + 1) (m .delta)) (markWidth * v + 2) (m .low))
-    (markWidth * v + 3) (m .high)) (markWidth * v + 4) (m .place)) (markWidth * v + 5) (m .count)
+    (markWidth * v + 3) (m .high)) (markWidth * v + 4) (m .row)) (markWidth * v + 5) (m .count)
 
 -- something has arrived at v
 abbrev pub isMet : List ℤ → ℕ → Bool
@@ -73,17 +79,17 @@ isMet s v = leZ (pos 0) (markNumber s v 0)
 abbrev pub referenceAt : List ℤ → ℕ → Reference
 referenceAt s v = record { owner = markNumber s v 0; delta = markNumber s v 1; low = markNumber s v 2; high = markNumber s v 3 }
 
--- a mark with this reference, place and count
+-- a mark with this reference, row and count
 abbrev pub marked : Reference → ℤ → ℤ → Mark
-marked f place count = record { owner = f .owner; delta = f .delta; low = f .low; high = f .high; place = place; count = count }
+marked f row count = record { owner = f .owner; delta = f .delta; low = f .low; high = f .high; row = row; count = count }
 
 -- a list is stored for node v
 abbrev pub isListed : List ℤ → ℕ → Bool
 isListed s v = leZ (pos 0) (markNumber s v 4)
 
 -- first row and number of records of the list of v
-abbrev pub placeOf : List ℤ → ℕ → ℕ
-placeOf s v = natAbs (markNumber s v 4)
+abbrev pub listRow : List ℤ → ℕ → ℕ
+listRow s v = natAbs (markNumber s v 4)
 
 abbrev pub countOf : List ℤ → ℕ → ℕ
 countOf s v = natAbs (markNumber s v 5)

@@ -18,14 +18,14 @@ use Rattle.model.specs.Runs.{normal, listOf}
 use Rattle.model.specs.Taken.{TakenTables}
 use Rattle.reach.specs.Counting.{pathCount}
 use Rattle.sorting.specs.declared.Row.{Row}
-use Rattle.sorting.specs.Rows.{Ascending}
+use Rattle.sorting.specs.Rows.{rowWidth, Ascending}
 use Rattle.normalisation.specs.Merging.{byDisplacement, ofDisplacement, sortedByDisplacement}
 use Rattle.listing.specs.Listing.{Appended}
 use Rattle.entering.specs.Entering.{Covered}
 use Rattle.forward.specs.Forward.{plannedCount, plannedOf, Planned}
 use Rattle.references.specs.References.{Reference, own, Brings, InOwner, recordsAt}
-use Rattle.arrivals.specs.declared.Placed.{Placed}
-use Rattle.arrivals.specs.State.{rowWidth, stateRoom, usedAt, arenaRow, arenaRows, isMet, referenceAt, isListed, placeOf, countOf, usedIn, rootIn, markNumber, Agree}
+use Rattle.arrivals.specs.declared.ListRows.{ListRows}
+use Rattle.arrivals.specs.State.{stateRoom, usedAt, arenaRow, arenaRows, isMet, referenceAt, isListed, listRow, countOf, usedIn, rootIn, markNumber, Agree}
 
 -- some record of the list has x with y
 abbrev pub HasSome : List Record → ℤ → ℤ → Type 0
@@ -47,12 +47,12 @@ pub record Came (g : Graph) (r : ℤ) (done : List Edge) (v x b : ℤ) : Type 0 
 -- sorted by displacement
 pub record Listed (g : Graph) (r : ℤ) (s : List ℤ) (v : ℕ) : Type 0 where
   pub counted : pos (countOf s v) ≡ markNumber s v 5
-  pub behind : arenaRow ≤ placeOf s v
-  pub within : placeOf s v + countOf s v ≤ usedIn s
-  pub exact : (x b : ℤ) → HasSome (recordsAt s (placeOf s v) (countOf s v)) x b ↔ Walk g r x (pos v) b
-  pub full : (q : Record) → q ∈ recordsAt s (placeOf s v) (countOf s v) → q .first ≤ℤ q .last
+  pub behind : arenaRow ≤ listRow s v
+  pub within : listRow s v + countOf s v ≤ usedIn s
+  pub exact : (x b : ℤ) → HasSome (recordsAt s (listRow s v) (countOf s v)) x b ↔ Walk g r x (pos v) b
+  pub full : (q : Record) → q ∈ recordsAt s (listRow s v) (countOf s v) → q .first ≤ℤ q .last
   pub few : countOf s v ≤ pathCount g r (pos v)
-  pub ascending : Ascending (map byDisplacement (recordsAt s (placeOf s v) (countOf s v)))
+  pub ascending : Ascending (map byDisplacement (recordsAt s (listRow s v) (countOf s v)))
 
 -- the mark of v once these edges are passed: where nothing is marked nothing has come; else the owner is marked and leads to v, the reference brings exactly
 -- what has come, or is all that arrives at v where v is its own owner, its bit addresses are some of v's, and a list stored for v is the list of what arrives
@@ -112,7 +112,7 @@ pub record Makeable (ns es : List ℤ) (plan : List ℕ) (f : Reference) (s spar
 
 -- behind the used part of the arena stands the normal list, as rows by displacement, sorted, of records that have exactly what the reference brings, none
 -- empty, and no more than paths lead to the owner
-pub record Made (g : Graph) (r : ℤ) (f : Reference) (old new : List ℤ) (p : Placed) : Type 0 where
+pub record Made (g : Graph) (r : ℤ) (f : Reference) (old new : List ℤ) (p : ListRows) : Type 0 where
   pub at : p .row ≡ usedIn old
   pub agrees : Agree (p .row) old new
   pub made : List Record
@@ -148,7 +148,7 @@ pub record Askable (ns es : List ℤ) (plan : List ℕ) (leaf : ℕ) (s spare : 
   pub spareRoom : rowWidth * maxPaths ≤ length spare
 
 -- the bitmapping list of the root and a leaf stands in the state, as rows by displacement, sorted. From its first row on the state is free to be worked in
-pub record Answered (ns es : List ℤ) (plan : List ℕ) (root leaf : ℕ) (new : List ℤ) (r : Placed) : Type 0 where
+pub record Answered (ns es : List ℤ) (plan : List ℕ) (root leaf : ℕ) (new : List ℤ) (r : ListRows) : Type 0 where
   pub free : (s : List ℤ) → length s ≡ length new → take (rowWidth * r .row) s ≡ take (rowWidth * r .row) new → Swept ns es plan root s
   pub within : rowWidth * (r .row + r .count) ≤ length new
   pub count : r .count ≡ length (listOf (graphOf ns es) (pos root) (pos leaf))

@@ -26,7 +26,7 @@ use model::EDGE_WIDTH;
 use model::MAX_CHAIN;
 use model::MAX_PATHS;
 use model::NODE_WIDTH;
-use normalisation::merge_rows;
+use normalisation::normalise_rows;
 use references::Brought;
 use references::Reference;
 use references::gather_list;
@@ -34,14 +34,13 @@ use references::own_reference;
 use references::same_reference;
 use references::shifted;
 use references::through;
+use sorting::ROW_WIDTH;
 use sorting::Row;
 use tables::edge_from;
 use tables::edge_to;
 
-// Numbers of a mark, and of a row.
+// Numbers of a mark.
 const MARK_WIDTH: usize = 6;
-
-const ROW_WIDTH: usize = 3;
 
 // Behind the marks: from which row on the arena is free, and the root.
 const USED_AT: usize = 12000;
@@ -61,7 +60,7 @@ const SHARE: usize = 4;
 pub const STATE_ROOM: usize = 22755;
 
 // Where a list stands in a state: its first row, and how many records it has.
-pub struct Placed {
+pub struct ListRows {
     pub row: usize,
     pub count: usize,
 }
@@ -100,12 +99,12 @@ fn reference_at(state: &[i64], v: usize) -> Reference
 }
 
 // The first row of the list of node v: below 0 where none is stored.
-fn place_at(state: &[i64], v: usize) -> i64
+fn list_row(state: &[i64], v: usize) -> i64
     requires { ⌜ markWidth * v + markWidth ≤ length (now state) ⌝ }
     ensures { λ r. ⌜ r ≡ markNumber (now (state .entry)) v 4 ⌝ }
 {
-    let place = state[MARK_WIDTH * v + 4];
-    place
+    let row = state[MARK_WIDTH * v + 4];
+    row
 }
 
 // Whether a list is stored for node v.
@@ -113,8 +112,8 @@ fn is_listed(state: &[i64], v: usize) -> bool
     requires { ⌜ markWidth * v + markWidth ≤ length (now state) ⌝ }
     ensures { λ r. ⌜ r ≡ isListed (now (state .entry)) v ⌝ }
 {
-    let place = state[MARK_WIDTH * v + 4];
-    0 <= place
+    let row = state[MARK_WIDTH * v + 4];
+    0 <= row
 }
 
 // Number `at` of a state, where it is not negative.
@@ -127,12 +126,12 @@ fn number_at(state: &[i64], at: usize) -> usize
 }
 
 // Where the list that is stored for node v stands.
-fn stored_at(state: &[i64], v: usize) -> Placed
+fn stored_at(state: &[i64], v: usize) -> ListRows
     requires { ⌜
         (markWidth * v + markWidth ≤ length (now state)) × (pos 0 ≤ℤ markNumber (now state) v 4) × (pos 0 ≤ℤ markNumber (now state) v 5) ⌝ }
     ensures { λ r. ⌜ (pos (r .row) ≡ markNumber (now (state .entry)) v 4) × (pos (r .count) ≡ markNumber (now (state .entry)) v 5) ⌝ }
 {
-    Placed {
+    ListRows {
         row: number_at(state, MARK_WIDTH * v + 4),
         count: number_at(state, MARK_WIDTH * v + 5),
     }
@@ -181,9 +180,9 @@ fn crowded(state: &[i64], v: usize) -> bool
 }
 
 // Stores the mark of node v.
-fn put_mark(state: &mut [i64], v: usize, f: Reference, place: i64, count: i64)
+fn put_mark(state: &mut [i64], v: usize, f: Reference, row: i64, count: i64)
     requires { ⌜ (markWidth * v + markWidth ≤ length (now state)) × (f .owner < maxNodes) ⌝ }
-    ensures { λ _. ⌜ now (state .exit) ≡ setMark (now (state .entry)) v (marked (referenceOf f) place count) ⌝ }
+    ensures { λ _. ⌜ now (state .exit) ≡ setMark (now (state .entry)) v (marked (referenceOf f) row count) ⌝ }
 {
     let delta = f.delta;
     let low = f.low;
@@ -195,7 +194,7 @@ fn put_mark(state: &mut [i64], v: usize, f: Reference, place: i64, count: i64)
     state[MARK_WIDTH * v + 1] = shift;
     state[MARK_WIDTH * v + 2] = first;
     state[MARK_WIDTH * v + 3] = last;
-    state[MARK_WIDTH * v + 4] = place;
+    state[MARK_WIDTH * v + 4] = row;
     state[MARK_WIDTH * v + 5] = count;
 }
 
@@ -257,16 +256,16 @@ fn make_list(
     f: Reference,
     state: &mut [i64],
     spare: &mut [i64],
-) -> Placed
+) -> ListRows
     requires { ⌜ Makeable (now nodes) (now edges) (now plan) (referenceOf f) (now state) (now spare) ⌝ }
     ensures { λ r. ⌜
         Made (graphOf (now (nodes .entry)) (now (edges .entry))) (rootIn (now (state .entry))) (referenceOf f) (now (state .entry)) (now (state .exit)) r ⌝ }
 {
     let used = number_at(state, USED_AT);
     let n = gather(nodes, edges, plan, f, MAX_CHAIN, state, used);
-    Placed {
+    ListRows {
         row: used,
-        count: merge_rows(&mut state[ROW_WIDTH * used..], n - used, spare),
+        count: normalise_rows(&mut state[ROW_WIDTH * used..], n - used, spare),
     }
 }
 
@@ -300,7 +299,7 @@ fn store_list(
     if reference.owner != v {
         return;
     }
-    if place_at(state, v) != NOT_LISTED {
+    if list_row(state, v) != NOT_LISTED {
         return;
     }
     if crowded(state, v) {
@@ -419,14 +418,14 @@ pub fn list_at(
     leaf: usize,
     state: &mut [i64],
     spare: &mut [i64],
-) -> Placed
+) -> ListRows
     requires { ⌜ Askable (now nodes) (now edges) (now plan) leaf (now state) (now spare) ⌝ }
     ensures { λ r. ⌜
         ((root : ℕ) → Swept (now (nodes .entry)) (now (edges .entry)) (now (plan .entry)) root (now (state .entry))
         → Answered (now (nodes .entry)) (now (edges .entry)) (now (plan .entry)) root leaf (now (state .exit)) r) ⌝ }
 {
     if !is_met(state, leaf) {
-        return Placed {
+        return ListRows {
             row: number_at(state, USED_AT),
             count: 0,
         };

@@ -16,6 +16,7 @@ use Rattle.model.specs.declared.Written.{Written}
 use Rattle.model.specs.declared.Written.the-variants.{Count, Refused}
 use Rattle.reach.specs.Counting.{valuesOf}
 use Rattle.reach.proofs.Values.{values-length, values-at}
+use Rattle.model.specs.Limits.{recordWidth}
 use Rattle.listing.specs.Listing.{bitRecord}
 use Rattle.bitmapping.specs.Checking.{spaced, Copied}
 
@@ -55,7 +56,7 @@ module _ (f : ℕ → ℤ) (n : ℕ) (old : List ℤ) where
 -- ---- which numbers
 
 -- three numbers a record are written
-pub numbers-length : (records : List Record) → length (numbersOf records) ≡ 3 * length records
+pub numbers-length : (records : List Record) → length (numbersOf records) ≡ recordWidth * length records
 unfolding numbersOf
 numbers-length [] = refl
 numbers-length (s ∷ records) = let h = numbers-length records in omega arith
@@ -74,21 +75,21 @@ spaced-front from n h =
     let at : 0 + 1 * i ≡ i = omega arith in
     values-at f (pos 0) n i j ∙ rw (at, getD-take n from i (pos 0) j) refl)
 
-bits-at : (bits : List ℤ) (i : ℕ) → getD (numbersOf (map bitRecord bits)) (2 + 3 * i) (pos 0) ≡ getD bits i (pos 0)
+bits-at : (bits : List ℤ) (i : ℕ) → getD (numbersOf (map bitRecord bits)) (2 + recordWidth * i) (pos 0) ≡ getD bits i (pos 0)
 unfolding numbersOf
 bits-at [] i = refl
 bits-at (b ∷ bits) zero = refl
-bits-at (b ∷ bits) (suc i) = let next : 2 + 3 * suc i ≡ suc (suc (suc (2 + 3 * i))) = omega arith in rw next (bits-at bits i)
+bits-at (b ∷ bits) (suc i) = let next : 2 + recordWidth * suc i ≡ suc (suc (suc (2 + recordWidth * i))) = omega arith in rw next (bits-at bits i)
 
 -- records of n bits have three numbers a bit
-pub bits-room : (from bits : List ℤ) (n : ℕ) → length bits ≡ n → take (3 * n) from ≡ numbersOf (map bitRecord bits) → 3 * n ≤ length from
-bits-room from bits n e q = front-room from (3 * n) (numbers-length (map bitRecord bits) ∙ ap (λ m. 3 * m) (length-map bits bitRecord ∙ e)) q
+pub bits-room : (from bits : List ℤ) (n : ℕ) → length bits ≡ n → take (recordWidth * n) from ≡ numbersOf (map bitRecord bits) → recordWidth * n ≤ length from
+bits-room from bits n e q = front-room from (recordWidth * n) (numbers-length (map bitRecord bits) ∙ ap (λ m. recordWidth * m) (length-map bits bitRecord ∙ e)) q
 
 -- the third number of each row, where the rows are records of bits
-pub spaced-bits : (from bits : List ℤ) (n : ℕ) → length bits ≡ n → take (3 * n) from ≡ numbersOf (map bitRecord bits) → spaced from 2 3 n ≡ bits
+pub spaced-bits : (from bits : List ℤ) (n : ℕ) → length bits ≡ n → take (recordWidth * n) from ≡ numbersOf (map bitRecord bits) → spaced from 2 recordWidth n ≡ bits
 spaced-bits from bits n e front =
-    let f : ℕ → ℤ = λ k. getD from (2 + 3 * k) (pos 0) in
+    let f : ℕ → ℤ = λ k. getD from (2 + recordWidth * k) (pos 0) in
     ext-getD (pos 0) (valuesOf f n) bits (values-length f n ∙ sym e)
     (λ i k.
     let j : i < n = omega (arith, k, values-length f n) in
-    values-at f (pos 0) n i j ∙ sym (getD-take (3 * n) from (2 + 3 * i) (pos 0) (omega arith)) ∙ ap (λ (l : List ℤ). getD l (2 + 3 * i) (pos 0)) front ∙ bits-at bits i)
+    values-at f (pos 0) n i j ∙ sym (getD-take (recordWidth * n) from (2 + recordWidth * i) (pos 0) (omega arith)) ∙ ap (λ (l : List ℤ). getD l (2 + recordWidth * i) (pos 0)) front ∙ bits-at bits i)

@@ -4,7 +4,7 @@ use mathlib.Core.List.{List}
 use Prim.Native.Nat.{ℕ, _*_, _≤_}
 use lib.IntN.{ℤ, pos}
 use lib.ListN.{length}
-use Rattle.model.specs.Limits.{maxPaths}
+use Rattle.model.specs.Limits.{recordWidth, maxPaths}
 use Rattle.model.specs.Graph.{graphOf}
 use Rattle.model.specs.Calls.{full}
 use Rattle.tables.proofs.Checks.{checked}
@@ -15,7 +15,7 @@ use Rattle.bitmapping.proofs.Answers.{asked-tables, asked-root, asked-l
 
 -- where what a call is asked for is taken, with the counts of the paths to the leaf, listing and walking can start
 pub asked-ready : (ns es : List ℤ) (r l : ℤ) → full tt ≡ checked (checkAsked ns es r l) → (root leaf : ℕ) → pos root ≡ r → pos leaf ≡ l
-    → (old : List ℕ) {counts : List ℕ} {work : List ℤ} → counts ≡ countsOver (graphOf ns es) l old → 3 * maxPaths ≤ length work
+    → (old : List ℕ) {counts : List ℕ} {work : List ℤ} → counts ≡ countsOver (graphOf ns es) l old → recordWidth * maxPaths ≤ length work
     → Ready ns es root leaf counts work
 asked-ready ns es r l taken root leaf same last old counted room =
     record {

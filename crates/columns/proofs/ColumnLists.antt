@@ -1,5 +1,5 @@
 -- The columns of a table's names: found one after the other, and each of them among the fields of the names line.
-use mathlib.Core.Path.{_≡_, refl, sym, ap, _∙_}
+use mathlib.Core.Path.{_≡_, refl, sym, _∙_}
 use mathlib.Core.Bool.{Bool, true, false, cond}
 use mathlib.Core.List.{List, [], _∷_, _++_}
 use mathlib.Core.Option.{Option, none, some}
@@ -13,6 +13,7 @@ use Rattle.filerules.proofs.Names.{Stand, nil, cons, names-read}
 use Rattle.model.specs.Bytes.{Bytes}
 use Rattle.model.specs.MapFile.{Table}
 use Rattle.model.specs.Reader.{fieldsOf, columnOf, columnsOf, columns, consOption}
+use Rattle.filerules.proofs.Values.{stand-length}
 use Rattle.columns.specs.declared.Columns.{Columns}
 use Rattle.columns.specs.Given.{maxNames, columnList, listed, snocOption, NameGiven, ColumnsGiven, GoodColumns}
 
@@ -86,10 +87,6 @@ unfolding columns
 reached-all t line r = record { count = r .count; names = r .names }
 
 -- ---- columns among the fields
-
-stand-length : {fs ns : List Bytes} {cs : List ℕ} → Stand fs ns cs → length cs ≡ length ns
-stand-length nil = refl
-stand-length (cons h e s) = ap suc (stand-length s)
 
 stand-below : {fs ns : List Bytes} {cs : List ℕ} → Stand fs ns cs → (j : ℕ) → j < length cs → getD cs j 0 < length fs
 stand-below nil j h = absurd (omega arith)

@@ -4,7 +4,7 @@ ghost use Prim.Native.Nat.{suc, _≤_, _<_};
 ghost use lib.ListN.{length, drop};
 ghost use Rattle.model.specs.Reader.{fieldsOf, columnOf};
 ghost use Rattle.cursor.specs.Parts.{firstLine, laterLines};
-ghost use Rattle.cursor.specs.Given.{Placed, Stands};
+ghost use Rattle.cursor.specs.Given.{InText, Stands};
 ghost use Rattle.columns.specs.Given.{maxNames, columnFound, NameGiven};
 use cursor::Cursor;
 
@@ -32,7 +32,7 @@ pub struct Heading {
 
 // Counts the fields of the line that starts at the cursor.
 pub fn count_fields(text: &[u8], from: Cursor) -> Heading
-    requires { ⌜ Placed (now text) from ⌝ }
+    requires { ⌜ InText (now text) from ⌝ }
     ensures fields { λ r. ⌜ r .fields ≡ length (fieldsOf (firstLine (drop (from .at) (now (text .entry))))) ⌝ }
     ensures next { λ r. ⌜ Stands (now (text .entry)) (laterLines (drop (from .at) (now (text .entry)))) (suc (from .line)) (r .next) ⌝ }
 {

@@ -1,3 +1,3 @@
-pub mod Covering
+pub mod Containing
 pub mod Tests
 pub mod Turns

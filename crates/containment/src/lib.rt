@@ -6,10 +6,10 @@ ghost use Prim.Native.Nat.{_+_, _*_, _≤_};
 ghost use lib.Signed.{leZ};
 ghost use lib.ListN.{length};
 ghost use Rattle.integers.specs.Integers.{eqZ};
-ghost use Rattle.sorting.specs.Rows.{rowAt};
+ghost use Rattle.sorting.specs.Rows.{rowWidth, rowAt};
 ghost use Rattle.model.specs.Verdicts.{contained};
-ghost use Rattle.normalisation.specs.Merging.{ofDisplacement};
-ghost use Rattle.containment.specs.Covering.{coveredBy, displacedOf};
+ghost use Rattle.normalisation.specs.Merging.{ofDisplacement, displacedOf};
+ghost use Rattle.containment.specs.Containing.{containsAll};
 use sorting::Row;
 
 // Whether two records have one displacement. Each is a row by displacement.
@@ -31,7 +31,7 @@ fn root_bits_within(r: Row, s: Row) -> bool
 
 // Whether r is contained in row i of t. Each is a row by displacement.
 fn contained_in(r: Row, t: &[i64], i: usize) -> bool
-    requires { ⌜ 3 * i + 3 ≤ length (now t) ⌝ }
+    requires { ⌜ rowWidth * i + rowWidth ≤ length (now t) ⌝ }
     ensures { λ b. ⌜ b ≡ contained (ofDisplacement r) (ofDisplacement (rowAt (now (t .entry)) i)) ⌝ }
 {
     if same_displacement(r, sorting::row_at(t, i)) {
@@ -41,9 +41,9 @@ fn contained_in(r: Row, t: &[i64], i: usize) -> bool
 }
 
 // Whether each of the ni rows of imp is contained in one of the ns rows of spec, in one pass. Both are rows by displacement, sorted.
-pub fn covered(spec: &[i64], ns: usize, imp: &[i64], ni: usize) -> bool
-    requires { ⌜ (3 * ns ≤ length (now spec)) × (3 * ni ≤ length (now imp)) ⌝ }
-    ensures { λ b. ⌜ b ≡ coveredBy (displacedOf (now (spec .entry)) ns) (displacedOf (now (imp .entry)) ni) ⌝ }
+pub fn contains_all(spec: &[i64], ns: usize, imp: &[i64], ni: usize) -> bool
+    requires { ⌜ (rowWidth * ns ≤ length (now spec)) × (rowWidth * ni ≤ length (now imp)) ⌝ }
+    ensures { λ b. ⌜ b ≡ containsAll (displacedOf (now (spec .entry)) ns) (displacedOf (now (imp .entry)) ni) ⌝ }
 {
     let mut i: usize = 0;
     let mut j: usize = 0;

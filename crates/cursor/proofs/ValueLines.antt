@@ -13,7 +13,7 @@ use Rattle.model.specs.Bytes.{Bytes}
 use Rattle.model.specs.Reader.{consOption}
 use Rattle.cursor.specs.declared.Cursor.{Cursor}
 use Rattle.cursor.specs.Parts.{laterLines, restOf, innerValue, lastValue, lineValues}
-use Rattle.cursor.specs.Given.{Placed, Stands}
+use Rattle.cursor.specs.Given.{InText, Stands}
 use Rattle.cursor.proofs.Parts.{rest-shorter, later-inner}
 use Rattle.cursor.proofs.Fields.{values-inner, values-last, inner-followed}
 
@@ -34,18 +34,18 @@ behind-cons xs v (some vs) = ap {B = Option (List ℤ)} some (sym (append-assoc 
 pub record LineLeft (text : Bytes) (width : ℕ) (row₀ : List ℤ) (c₀ : Cursor) (row : List ℤ) (c : Cursor) (i : ℕ) : Type 0 where
   pub short : i < width
   pub kept : length row ≡ length row₀
-  pub placed : Placed text c
+  pub inText : InText text c
   pub same : lineValues width (drop (c₀ .at) text) ≡ behind (take i row) (lineValues (width - i) (drop (c .at) text))
   pub later : laterLines (drop (c .at) text) ≡ laterLines (drop (c₀ .at) text)
   pub line : c .line ≡ c₀ .line
 
 -- none is read
-pub left-all : (text : Bytes) (width : ℕ) (row : List ℤ) (c : Cursor) → 1 ≤ width → Placed text c → LineLeft text width row c row c 0
+pub left-all : (text : Bytes) (width : ℕ) (row : List ℤ) (c : Cursor) → 1 ≤ width → InText text c → LineLeft text width row c row c 0
 left-all text width row c h p =
     record {
       short = omega arith;
       kept = refl;
-      placed = p;
+      inText = p;
       same = rw (sub-zero width) (sym (behind-nil (lineValues width (drop (c .at) text))));
       later = refl;
       line = refl;
@@ -74,12 +74,12 @@ module _ {text : Bytes} {width : ℕ} {row₀ : List ℤ} {c₀ : Cursor} {row :
         record {
           short = due;
           kept = length-set row i v ∙ l .kept;
-          placed = record {
+          inText = record {
             within = s .within;
             low = omega (
               arith,
-              l .placed .low,
-              l .placed .within,
+              l .inText .low,
+              l .inText .within,
               s .line,
               s .within,
               ap length (s .before),

@@ -23,7 +23,7 @@ pub record FieldGiven (text : Bytes) (at : ℕ) (f : Field) : Type 0 where
   pub value : signedValue (f .value) ≡ valueOf (firstField (drop at text))
 
 -- the cursor stands in the text, and there are no more lines before it than bytes
-pub record Placed (text : Bytes) (c : Cursor) : Type 0 where
+pub record InText (text : Bytes) (c : Cursor) : Type 0 where
   pub within : c .at ≤ length text
   pub low : c .line ≤ c .at + 1
 

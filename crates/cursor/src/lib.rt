@@ -3,7 +3,7 @@ ghost use mathlib.Core.Path.{_≡_};
 ghost use Prim.Native.Nat.{suc, _+_, _≤_};
 ghost use lib.ListN.{length, drop};
 ghost use Rattle.cursor.specs.Parts.{laterLines, firstField, blankFirst, innerValue, lastValue, restOf};
-ghost use Rattle.cursor.specs.Given.{FieldGiven, Placed, NumGiven, LineGiven};
+ghost use Rattle.cursor.specs.Given.{FieldGiven, InText, NumGiven, LineGiven};
 use values::Signed;
 
 // ---- fields
@@ -79,7 +79,7 @@ impl Cursor {
 
     // The number of the field at the cursor, behind which another follows, with the cursor before that.
     pub fn value(self, text: &[u8]) -> Num
-        requires { ⌜ Placed (now text) self ⌝ }
+        requires { ⌜ InText (now text) self ⌝ }
         ensures { λ r. ⌜ NumGiven (now (text .entry)) (innerValue (drop (self .at) (now (text .entry)))) (restOf (drop (self .at) (now (text .entry)))) (self .line) r ⌝ }
     {
         let field = read_field(text, self.at);
@@ -101,7 +101,7 @@ impl Cursor {
 
     // The number of the field at the cursor, the last of its line, with the cursor before the next line.
     pub fn last_value(self, text: &[u8]) -> Num
-        requires { ⌜ Placed (now text) self ⌝ }
+        requires { ⌜ InText (now text) self ⌝ }
         ensures { λ r. ⌜ NumGiven (now (text .entry)) (lastValue (drop (self .at) (now (text .entry)))) (laterLines (drop (self .at) (now (text .entry)))) (suc (self .line)) r ⌝ }
     {
         let field = read_field(text, self.at);
@@ -143,7 +143,7 @@ pub enum Line {
 
 // Reads a line of `width` values into the front of `row`.
 pub fn read_line(text: &[u8], from: Cursor, width: usize, row: &mut [i64]) -> Line
-    requires { ⌜ Placed (now text) from × (1 ≤ width) × (width ≤ length (now row)) ⌝ }
+    requires { ⌜ InText (now text) from × (1 ≤ width) × (width ≤ length (now row)) ⌝ }
     ensures { λ r. ⌜ LineGiven (now (text .entry)) from width (now (row .exit)) r ⌝ }
 {
     let mut c = from;

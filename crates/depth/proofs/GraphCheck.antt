@@ -1,70 +1,38 @@
 -- The check of one graph is the checks of its rows and then what its edges are: its answer, the buffer for the order, and that a graph
 -- that it takes is taken.
-use mathlib.Core.Path.{_≡_, refl, sym, ap, subst, _∙_}
+use mathlib.Core.Path.{_≡_, sym, ap, subst, _∙_}
 use mathlib.Core.List.{List, flatMap}
-use mathlib.Core.Option.{Option, none, some}
-use Prim.Native.Nat.{ℕ, suc, _*_, _≤_}
+use mathlib.Core.Option.{none, some}
+use Prim.Native.Nat.{ℕ, suc, _≤_}
 use native.Mathlib.Omega.{arith}
 use lib.IntN.{ℤ}
-use lib.ListN.{length}
 use Rattle.integers.proofs.Linear.{ints}
-use Rattle.integers.proofs.Tests.{leb?}
 use Rattle.lists.specs.Lists.{_∈_}
-use Rattle.lists.proofs.Decisions.{test-stable}
 use Rattle.model.specs.Limits.{nodeWidth, edgeWidth, maxNodes, maxEdges}
 use Rattle.model.specs.Rows.{Edge, nodeRows, edgeRows}
 use Rattle.model.specs.Graph.{graphOf, NodeRow}
-use Rattle.model.specs.Refusals.{Refusal, NoneHolds, tooMany, shapeConditions, edgeConditions, graphConditions}
+use Rattle.model.specs.Refusals.{edgeConditions, graphConditions}
 use Rattle.model.specs.Checks.{when, _then_, firstOf, checkShape, checkNode, checkEdge, cyclic, deep, checkGraph}
-use Rattle.model.specs.Calls.{refused, full, answer}
+use Rattle.model.specs.Calls.{answer}
 use Rattle.model.specs.Answers.{refusalOf, checkedAnswer}
 use Rattle.model.specs.declared.Reason.{Reason}
 use Rattle.model.specs.declared.Checked.{Checked}
 use Rattle.model.specs.declared.Checked.the-variants as checked
 use Rattle.model.specs.Taken.{TakenTables}
+use Rattle.model.proofs.Checks.{then-none, answer-some, answer-none}
 use Rattle.model.proofs.Settled.{Settled, settled-each}
-use Rattle.model.proofs.GraphChecks.{shape-settled, edge-settled, edges-end, graph-settled}
-use Rattle.model.proofs.Taken.{tables-taken}
+use Rattle.model.proofs.GraphChecks.{edge-settled, edges-end, graph-settled}
+use Rattle.model.proofs.Taken.{shape-taken, tables-taken}
 use Rattle.tables.specs.Tables.{checkRows}
 use Rattle.tables.proofs.Rows.{nodes-length}
+use Rattle.tables.proofs.Checks.{check-graph-rows}
 use Rattle.depth.specs.declared.Chained.{Chained}
 use Rattle.depth.specs.Order.{chainsOf, chainRefusal}
 use Rattle.depth.specs.Passes.{Within, Orderable, OrderedInto, orderOf}
 use Rattle.depth.specs.Check.{orderUnless, orderAfter, GraphChecked}
 use Rattle.depth.proofs.ChainChecks.{chains-checked}
 
-then-regroup : (a b c : Option Refusal) → ((a then b) then c) ≡ (a then (b then c))
-unfolding _then_
-then-regroup none b c = refl
-then-regroup (some r) b c = refl
-
-then-none : (a b : Option Refusal) → (a then b) ≡ none → (a ≡ none) × (b ≡ none)
-unfolding _then_
-then-none none b e = (refl, e)
-then-none (some r) b e = let z : _≡_ {A = ℕ} 0 1 = cc in absurd (omega arith)
-
--- the check of one graph: the checks of its rows, then those for a cycle and for a long chain
-pub graph-rows : (t : ℕ) (ns es : List ℤ)
-    → checkGraph t ns es ≡ (checkRows t ns es then (when (cyclic (graphOf ns es)) 5 t 0 then when (deep (graphOf ns es)) 6 t 0))
-unfolding checkGraph checkRows
-graph-rows t ns es =
-    let chains = when (cyclic (graphOf ns es)) 5 t 0 then when (deep (graphOf ns es)) 6 t 0 in
-    let nodeShape = checkShape t nodeWidth maxNodes ns in
-    let edgeShape = checkShape (suc t) edgeWidth maxEdges es in
-    let nodes = firstOf (checkNode t) (nodeRows ns) in
-    let edges = firstOf (checkEdge (suc t) (graphOf ns es)) (edgeRows es) in
-    sym (
-    then-regroup nodeShape (edgeShape then nodes then edges) chains
-    ∙ ap (λ c. nodeShape then c) (then-regroup edgeShape (nodes then edges) chains ∙ ap (λ c. edgeShape then c) (then-regroup nodes edges chains))
-    )
-
 -- ---- rows that the checks take
-
-shape-few : (t width most : ℕ) (xs : List ℤ) → checkShape t width most xs ≡ none → length xs ≤ width * most
-unfolding shapeConditions
-shape-few t width most xs e =
-    let good : NoneHolds (shapeConditions t width most xs) = subst (λ c. Settled c (shapeConditions t width most xs)) e (shape-settled t width most xs) in
-    test-stable (leb? (length xs) (width * most)) (λ k. good .0 (tooMany k))
 
 module _ (t : ℕ) (ns es : List ℤ) (good : checkRows t ns es ≡ none) where
   rows-parts : (checkShape t nodeWidth maxNodes ns ≡ none) × (checkShape (suc t) edgeWidth maxEdges es ≡ none)
@@ -89,12 +57,12 @@ module _ (t : ℕ) (ns es : List ℤ) (good : checkRows t ns es ≡ none) where
   pub rows-orderable : {room : ℕ} → maxEdges ≤ room → Orderable es room
   unfolding graphOf
   rows-orderable h =
-      let few = shape-few (suc t) edgeWidth maxEdges es (rows-parts .1) in
+      let few = shape-taken (suc t) edgeWidth maxEdges es (rows-parts .1) .few in
       record { few = few; fits = omega arith; ends = λ e m. (within (rows-ends e m .0), within (rows-ends e m .1)) }
     where
       within : {v : ℤ} → NodeRow (graphOf ns es) v → Within maxNodes v
       within r =
-          let few = shape-few t nodeWidth maxNodes ns (rows-parts .0) in
+          let few = shape-taken t nodeWidth maxNodes ns (rows-parts .0) .few in
           record { low = r .low; high = omega (arith, ints, r .high, few, nodes-length ns) }
 
   -- the check refuses as the chains of the edges say
@@ -102,7 +70,7 @@ module _ (t : ℕ) (ns es : List ℤ) (good : checkRows t ns es ≡ none) where
   unfolding _then_ graphOf
   rows-chains =
       let chains = when (cyclic (graphOf ns es)) 5 t 0 then when (deep (graphOf ns es)) 6 t 0 in
-      graph-rows t ns es ∙ ap (λ c. c then chains) good ∙ chains-checked (graphOf ns es) rows-ends t
+      check-graph-rows t ns es ∙ ap (λ c. c then chains) good ∙ chains-checked (graphOf ns es) rows-ends t
 
   -- the buffer has the edges in order
   pub rows-order : (buffer : List ℕ) → orderAfter t ns es buffer ≡ orderOf es buffer
@@ -111,39 +79,28 @@ module _ (t : ℕ) (ns es : List ℤ) (good : checkRows t ns es ≡ none) where
 
 -- ---- the answer of the check
 
-module _ {A : Type 0} (a : A) where
-  answer-some : (c : Option Refusal) {r : Refusal} → refused r ≡ answer c a → c ≡ some r
-  unfolding answer
-  answer-some none e = let z : _≡_ {A = ℕ} 0 1 = cc in absurd (omega arith)
-  answer-some (some s) e = cc
-
-  answer-none : (c : Option Refusal) → full a ≡ answer c a → c ≡ none
-  unfolding answer
-  answer-none none e = refl
-  answer-none (some s) e = let z : _≡_ {A = ℕ} 0 1 = cc in absurd (omega arith)
-
 module _ (t : ℕ) (ns es : List ℤ) (buffer : List ℕ) where
   -- where the checks of the rows refuse, the check does so, and the buffer is untouched
   pub rows-refused : (r : Reason) → checkedAnswer (checked.Refused r) ≡ answer (checkRows t ns es) tt → GraphChecked t ns es buffer (checked.Refused r) buffer
   unfolding answer orderAfter orderUnless _then_
   rows-refused r e =
-      let bad : checkRows t ns es ≡ some (refusalOf r) = answer-some tt (checkRows t ns es) e in
+      let bad : checkRows t ns es ≡ some (refusalOf r) = answer-some tt (checkRows t ns es) .0 (sym e) in
       let chains = when (cyclic (graphOf ns es)) 5 t 0 then when (deep (graphOf ns es)) 6 t 0 in
       record {
-        answers = sym (ap (λ c. answer c tt) (graph-rows t ns es ∙ ap (λ c. c then chains) bad));
+        answers = sym (ap (λ c. answer c tt) (check-graph-rows t ns es ∙ ap (λ c. c then chains) bad));
         order = sym (ap (λ c. orderUnless c es buffer) bad);
       }
 
   module _ (taken : checkedAnswer checked.Taken ≡ answer (checkRows t ns es) tt) where
     -- where they take the graph, its edges can be ordered
     pub rows-taken : {room : ℕ} → maxEdges ≤ room → Orderable es room
-    rows-taken h = rows-orderable t ns es (answer-none tt (checkRows t ns es) taken) h
+    rows-taken h = rows-orderable t ns es (answer-none tt (checkRows t ns es) .0 (sym taken)) h
 
     -- and the check answers as the chains of its edges say
     pub chains-answered : {found : Chained} {buffer′ : List ℕ} {given : Checked} → OrderedInto es buffer found buffer′
         → checkedAnswer given ≡ answer (chainRefusal t found) tt → GraphChecked t ns es buffer given buffer′
     chains-answered o e =
-        let good = answer-none tt (checkRows t ns es) taken in
+        let good = answer-none tt (checkRows t ns es) .0 (sym taken) in
         record {
           answers = e ∙ ap (λ c. answer (chainRefusal t c) tt) (o .chains) ∙ ap (λ c. answer c tt) (sym (rows-chains t ns es good));
           order = o .order ∙ sym (rows-order t ns es good buffer);
@@ -155,11 +112,11 @@ module _ (t : ℕ) (ns es : List ℤ) (takes : checkedAnswer checked.Taken ≡ a
   -- its tables are taken
   pub checked-taken : TakenTables ns es
   checked-taken =
-      tables-taken t ns es (subst (λ c. Settled c (graphConditions t ns es)) (answer-none tt (checkGraph t ns es) takes) (graph-settled t ns es))
+      tables-taken t ns es (subst (λ c. Settled c (graphConditions t ns es)) (answer-none tt (checkGraph t ns es) .0 (sym takes)) (graph-settled t ns es))
 
   -- the buffer has its edges in order
   pub checked-order : (buffer : List ℕ) → orderAfter t ns es buffer ≡ orderOf es buffer
   checked-order buffer =
       let chains = when (cyclic (graphOf ns es)) 5 t 0 then when (deep (graphOf ns es)) 6 t 0 in
-      let none-all : (checkRows t ns es then chains) ≡ none = sym (graph-rows t ns es) ∙ answer-none tt (checkGraph t ns es) takes in
+      let none-all : (checkRows t ns es then chains) ≡ none = sym (check-graph-rows t ns es) ∙ answer-none tt (checkGraph t ns es) .0 (sym takes) in
       rows-order t ns es (then-none (checkRows t ns es) chains none-all .0) buffer

@@ -7,4 +7,3 @@ pub mod Stamps
 pub mod Splits
 pub mod Peeling
 pub mod GraphCheck
-pub mod Reading

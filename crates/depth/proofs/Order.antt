@@ -1,5 +1,5 @@
 -- The order of edges from the leaves up: before each edge stand all that leave the node it enters, and it has each edge of a taken graph once.
-use mathlib.Core.Path.{_≡_, refl, sym, ap, subst}
+use mathlib.Core.Path.{_≡_, refl, sym, subst}
 use mathlib.Core.Bool.{Bool, true, false, not}
 use mathlib.Core.Logic.{_⊎_, inl, inr, ⊎-elim, _↔_}
 use mathlib.Core.List.{List, [], _∷_, _++_, map, List·Memᴰ·head, List·Memᴰ·tail, List·Memᴰ·not-nil, List·Memᴰ·cases-cons, List·Memᴰ·append-cases, Memᴰ·append-left, Memᴰ·append-right, Memᴰ·cast}
@@ -22,7 +22,7 @@ use Rattle.model.specs.Taken.{Taken}
 use Rattle.model.proofs.Chains.{number-any, each-in, followed-out, Longer}
 use Rattle.depth.specs.Order.{lasts, peeled, edgeOrder, Backward}
 use Rattle.depth.proofs.ChainChecks.{left-none}
-use Rattle.depth.proofs.Rounds.{begins-first, begins-start, begins-drained, peeled-length}
+use Rattle.depth.proofs.Rounds.{begins-first, begins-start, begins-drained}
 
 -- ---- which edges a round removes
 
@@ -150,9 +150,3 @@ order-members {g} t e = (
   λ m. ⊎-elim (λ n. n) (λ n. absurd (List·Memᴰ·not-nil (subst (λ (l : List Edge). e ∈ l) (order-drained (t .short)) n)))
       (peeled-cases (length (g .edges)) (g .edges) m),
 )
-
--- as many as there are
-pub order-length : {g : Graph} → Taken g → length (edgeOrder (g .edges)) ≡ length (g .edges)
-unfolding edgeOrder
-order-length {g} t =
-    omega (arith, peeled-length (length (g .edges)) (g .edges), ap length (order-drained (t .short)))

@@ -28,7 +28,7 @@ use Rattle.tables.specs.Tables.{edgeAt}
 use Rattle.tables.proofs.Rows.{edges-length, edges-at, edge-own}
 use Rattle.depth.specs.declared.Chained.the-variants as chained
 use Rattle.depth.specs.Order.{lasts, peeled, edgeOrder, chainsOf}
-use Rattle.depth.specs.Passes.{upTo, Within, Placed, stamped, entersStamped, SplitInto, orderOf, Orderable, Unpeeled, OrderedInto}
+use Rattle.depth.specs.Passes.{upTo, Within, EndsWithin, stamped, entersStamped, SplitInto, orderOf, Orderable, Unpeeled, OrderedInto}
 use Rattle.depth.proofs.Keeping.{length-none, keep-agree, keep-map}
 use Rattle.depth.proofs.Rounds.{followed-none, round-stuck, begins-start, begins-last, begins-sum, begins-over, begins-stuck, begins-out, peeled-last, peeled-length, order-reached}
 use Rattle.depth.proofs.Stores.{sets-append, sets-front, sets-take, upTo-length, upTo-at}
@@ -61,10 +61,10 @@ within-same {v = v} w = pos-natAbs v (yes-nonNeg (w .low))
 
 -- ---- the two passes of a round
 
-module _ (es : List ℤ) (stamp : ℕ) (rows marks : List ℕ) (placed : Placed es (length marks) rows) (fresh : (v : ℕ) → getD marks v 0 < stamp) where
+module _ (es : List ℤ) (stamp : ℕ) (rows marks : List ℕ) (within : EndsWithin es (length marks) rows) (fresh : (v : ℕ) → getD marks v 0 < stamp) where
   -- the nodes that the rows leave are places among the marks
-  pub placed-starts : Starts es stamp rows marks
-  placed-starts e m = let w = placed .from e m in omega (arith, ints, w .high, within-same w)
+  pub within-starts : Starts es stamp rows marks
+  within-starts e m = let w = within .from e m in omega (arith, ints, w .high, within-same w)
 
   -- an edge row enters a stamped node exactly where an edge of the rows follows it
   pub round-test : (e : ℕ) → e ∈ rows
@@ -83,7 +83,7 @@ module _ (es : List ℤ) (stamp : ℕ) (rows marks : List ℕ) (placed : Placed 
           let c = map-out (λ c. c .from) (map (edgeAt es) rows) (each-out starts (any-number v (each starts) t)) in
           let r = map-out (edgeAt es) rows (c .1) in
           let place : natAbs v ≡ startOf es (r .0) = ap natAbs (c .2 ∙ ap (λ d. d .from) (r .2)) in
-          let stamped-v = stamped-in es stamp rows marks placed-starts (natAbs v) (Memᴰ·cast place (map-in (startOf es) (r .1))) in
+          let stamped-v = stamped-in es stamp rows marks within-starts (natAbs v) (Memᴰ·cast place (map-in (startOf es) (r .1))) in
           T-true (eqb (getD (stamped es stamp rows marks) (natAbs v) 0) stamp) (eq-eqb (getD (stamped es stamp rows marks) (natAbs v) 0) stamp stamped-v)
 
       enters : T (eqb (getD (stamped es stamp rows marks) (natAbs v) 0) stamp) → T (any (eqZ v) (each starts))
@@ -91,9 +91,9 @@ module _ (es : List ℤ) (stamp : ℕ) (rows marks : List ℕ) (placed : Placed 
           ⊎-elim (λ q. absurd (omega (arith, fresh (natAbs v))))
           (λ n.
           let r = map-out (startOf es) rows n in
-          let same : v ≡ edgeAt es (r .0) .from = sym (within-same (placed .to e m)) ∙ ap pos (r .2) ∙ within-same (placed .from (r .0) (r .1)) in
+          let same : v ≡ edgeAt es (r .0) .from = sym (within-same (within .to e m)) ∙ ap pos (r .2) ∙ within-same (within .from (r .0) (r .1)) in
           number-any (each-in (Memᴰ·cast same (map-in (λ c. c .from) (map-in (edgeAt es) (r .1))))))
-          (stamped-out es stamp rows marks placed-starts (natAbs v) (eqb→eq (getD (stamped es stamp rows marks) (natAbs v) 0) stamp t))
+          (stamped-out es stamp rows marks within-starts (natAbs v) (eqb→eq (getD (stamped es stamp rows marks) (natAbs v) 0) stamp t))
 
   -- the edges that the split keeps are those that the round leaves over
   pub kept-edges : map (edgeAt es) (keep (entersStamped es stamp (stamped es stamp rows marks)) rows) ≡ followed (map (edgeAt es) rows)
@@ -195,8 +195,8 @@ module _ (es : List ℤ) (old : List ℕ) where
       left-length = ap length (sym (p .over)) ∙ length-map (take left rest) (edgeAt es) ∙ length-take-le left rest (p .long)
 
       -- the rows that are left over can be passed
-      pub peeling-placed : Placed es (length marks) (take left rest)
-      peeling-placed = record {
+      pub peeling-within : EndsWithin es (length marks) (take left rest)
+      peeling-within = record {
         there = λ e m. omega (arith, edge-own es (member e m) .0);
         from = λ e m. within (table .ends (edgeAt es e) (member e m) .0);
         to = λ e m. within (table .ends (edgeAt es e) (member e m) .1);
@@ -252,7 +252,7 @@ module _ (es : List ℤ) (old : List ℕ) where
           -- the rows that are kept are those of the edges that one round more leaves over
           next-over : map (edgeAt es) kept-rows ≡ begins (round + 1) (edgeRows es)
           next-over =
-              kept-edges es (round + 1) (take left rest) marks peeling-placed fresh
+              kept-edges es (round + 1) (take left rest) marks peeling-within fresh
               ∙ ap followed (p .over)
               ∙ sym (begins-last round (edgeRows es))
               ∙ ap (λ n. begins n (edgeRows es)) (sym (add-one round))
@@ -263,7 +263,7 @@ module _ (es : List ℤ) (old : List ℕ) where
               let before = map (λ (e : Edge). e .row) (peeled round (edgeRows es)) in
               let removed : moved-rows ≡ map (λ e. e .row) (lasts (begins round (edgeRows es))) =
               sym (rows-own es moved-rows)
-              ∙ ap (map (λ e. e .row)) (moved-edges es (round + 1) (take left rest) marks peeling-placed fresh ∙ ap lasts (p .over)) in
+              ∙ ap (map (λ e. e .row)) (moved-edges es (round + 1) (take left rest) marks peeling-within fresh ∙ ap lasts (p .over)) in
               let grown : before ++ moved-rows ≡ map (λ e. e .row) (peeled (round + 1) (edgeRows es)) =
               ap (λ l. before ++ l) removed
               ∙ sym (map-append (λ (e : Edge). e .row) (peeled round (edgeRows es)) (lasts (begins round (edgeRows es))))
@@ -322,7 +322,7 @@ module _ (es : List ℤ) (old : List ℕ) where
                 some = below-more (λ k. begins k (edgeRows es) ≢ []) round (p .some) (λ none. omega (arith, left-length, ap length none));
                 nodes = stamped-length es (round + 1) (take left rest) marks ∙ p .nodes;
                 below =
-                    stamped-below es (round + 1) (take left rest) marks (placed-starts es (round + 1) (take left rest) marks peeling-placed fresh)
+                    stamped-below es (round + 1) (take left rest) marks (within-starts es (round + 1) (take left rest) marks peeling-within fresh)
                     (λ v. omega (arith, fresh v));
                 moved = next-moved;
               }

@@ -11,7 +11,7 @@ use lib.ListN.{length, getD, set, take, drop, replicate, length-append, List·ge
 use lib.Seq.{sets, sets-eq, getD-set-other, take-suc, getD-take, length-take-le, take-at, getD-at}
 use Rattle.integers.proofs.Tests.{Test, passed, failed, ltb?}
 use Rattle.lists.specs.Lists.{_∈_}
-use Rattle.tables.proofs.Rows.{getD-in}
+use Rattle.lists.proofs.Places.{getD-in}
 use Rattle.depth.specs.Passes.{upTo}
 
 module _ {A : Type 0} where

@@ -26,7 +26,7 @@ pub record Within (nodes : ℕ) (v : ℤ) : Type 0 where
   pub high : v <ℤ pos nodes
 
 -- edge rows of a table whose ends are among so many nodes
-pub record Placed (es : List ℤ) (nodes : ℕ) (rows : List ℕ) : Type 0 where
+pub record EndsWithin (es : List ℤ) (nodes : ℕ) (rows : List ℕ) : Type 0 where
   pub there : (e : ℕ) → e ∈ rows → edgeWidth * e + edgeWidth ≤ length es
   pub from : (e : ℕ) → e ∈ rows → Within nodes (edgeAt es e .from)
   pub to : (e : ℕ) → e ∈ rows → Within nodes (edgeAt es e .to)

@@ -7,7 +7,7 @@ ghost use Rattle.model.specs.Limits.{maxEdges};
 ghost use Rattle.model.specs.Calls.{checkAnswer};
 ghost use Rattle.model.specs.Answers.{checkedAnswer};
 ghost use Rattle.depth.specs.Check.{GraphChecked};
-ghost use Rattle.depth.specs.Passes.{upTo, Placed, stamped, entersStamped, SplitInto, Orderable, Unpeeled, OrderedInto};
+ghost use Rattle.depth.specs.Passes.{upTo, EndsWithin, stamped, entersStamped, SplitInto, Orderable, Unpeeled, OrderedInto};
 use model::Checked;
 use model::EDGE_WIDTH;
 use model::MAX_CHAIN;
@@ -36,7 +36,7 @@ fn number_rows(rows: &mut [usize], count: usize)
 
 // Stamps every node that one of the first `left` edge rows of `rest` leaves.
 fn stamp_starts(edges: &[i64], rest: &[usize], left: usize, stamp: usize, marks: &mut [usize])
-    requires { ⌜ (left ≤ length (now rest)) × Placed (now edges) (length (now marks)) (take left (now rest)) ⌝ }
+    requires { ⌜ (left ≤ length (now rest)) × EndsWithin (now edges) (length (now marks)) (take left (now rest)) ⌝ }
     ensures { λ _. ⌜ now (marks .exit) ≡ stamped (now (edges .entry)) stamp (take left (now (rest .entry))) (now (marks .entry)) ⌝ }
 {
     let mut i: usize = 0;
@@ -59,7 +59,7 @@ fn split_rows(
     order: &mut [usize],
     at: usize,
 ) -> usize
-    requires { ⌜ (left ≤ length (now rest)) × Placed (now edges) (length (now marks)) (take left (now rest)) × (at + left ≤ length (now order)) ⌝ }
+    requires { ⌜ (left ≤ length (now rest)) × EndsWithin (now edges) (length (now marks)) (take left (now rest)) × (at + left ≤ length (now order)) ⌝ }
     ensures { λ r. ⌜ SplitInto (entersStamped (now (edges .entry)) stamp (now (marks .entry))) left (now (rest .entry)) (now (order .entry)) at r (now (rest .exit)) (now (order .exit)) ⌝ }
 {
     let mut kept: usize = 0;

@@ -4,13 +4,14 @@ use mathlib.Core.Bool.{Bool, true, false}
 use mathlib.Core.Logic.{_≢_, _⊎_, inl, inr, ⊎-elim, _↔_}
 use mathlib.Core.List.{List, [], _∷_, _++_, append-assoc, List·Memᴰ·append-cases, List·Memᴰ·cases-cons, List·Memᴰ·head, List·Memᴰ·tail, List·Memᴰ·not-nil, Memᴰ·append-left, Memᴰ·append-right, Memᴰ·cast}
 use mathlib.Core.Option.{none, some}
-use Prim.Native.Nat.{ℕ, zero, suc, _+_, _<_}
+use Prim.Native.Nat.{ℕ, suc, _+_, _<_}
 use native.Mathlib.Omega.{arith}
 use lib.ListN.{length, getD, length-append}
 use Rattle.integers.proofs.Tests.{Test, passed, failed, eq?}
 use Rattle.lists.specs.Lists.{_∈_, any, Distinct, none as noMore, more}
 use Rattle.lists.proofs.Distinct.{distinct-length}
 use Rattle.lists.proofs.Decisions.{Decides, any?}
+use Rattle.lists.proofs.Places.{getD-in}
 use Rattle.model.specs.Bytes.{Bytes, blank, same}
 use Rattle.model.specs.MapFile.{Table, NamesLine}
 use Rattle.model.specs.Reader.{fieldsOf, columnOf, columnsOf, columns}
@@ -102,11 +103,6 @@ columns-in (n ∷ ns) fs h =
     let c = column-in n 0 fs (h n (List·Memᴰ·head refl)) in
     let cs = columns-in ns fs (λ x m. h x (List·Memᴰ·tail m)) in
     (c .0 ∷ cs .0, cons-in (c .1) (cs .1))
-
-getD-in : {A : Type 0} (l : List A) (i : ℕ) (d : A) → i < length l → getD l i d ∈ l
-getD-in [] i d h = absurd (omega arith)
-getD-in (x ∷ l) zero d h = List·Memᴰ·head refl
-getD-in (x ∷ l) (suc i) d h = List·Memᴰ·tail (getD-in l i d (omega arith))
 
 -- a name that has a column is a field
 stand-in : {fs ns : List Bytes} {cs : List ℕ} → Stand fs ns cs → (n : Bytes) → n ∈ ns → n ∈ fs

@@ -17,6 +17,7 @@ use Rattle.model.specs.Report.{report}
 use Rattle.model.specs.Reader.{readMap}
 use Rattle.model.specs.TextCheck.{Reported, reportedOf, checkRead, textAnswer, reportConditions, textConditions}
 use Rattle.model.specs.Demands.{Demand3}
+use Rattle.model.proofs.Checks.{answer-only}
 use Rattle.model.proofs.Settled.{Settled, none-next, settled-next, Exact}
 use Rattle.model.proofs.SingleChecks.{output-settled}
 use Rattle.model.proofs.Pairing.{compare-settled}
@@ -28,11 +29,6 @@ answer-refusal : {A : Type 0} (c : Option Refusal) (x : A) → refusalIn (answer
 unfolding answer
 answer-refusal none x = refl
 answer-refusal (some r) x = refl
-
-answer-only : {A : Type 0} (c : Option Refusal) (a x : A) → answer c a ≡ full x → x ≡ a
-unfolding answer
-answer-only none a x e = cc
-answer-only (some r) a x e = cc
 
 -- the check of tables that were read, with room for so many bytes of report
 checkReported : ℕ → Tables → Option Refusal
@@ -69,7 +65,7 @@ module _ (room : ℕ) (text : Bytes) (t : Tables) (tables : TablesOf text t) whe
   full-reported : (given : Answer Tables) → ((u : Tables) → given ≡ full u → u ≡ t) → (x : Reported) → checkRead room given ≡ full x → x ≡ reportedOf (findings t)
   unfolding checkRead checkReported
   full-reported (refused r) same x e = cc
-  full-reported (full u) same x e = answer-only (checkReported room u) (reportedOf (findings u)) x e ∙ ap (λ (w : Tables). reportedOf (findings w)) (same u refl)
+  full-reported (full u) same x e = sym (answer-only (reportedOf (findings u)) (checkReported room u) e) ∙ ap (λ (w : Tables). reportedOf (findings w)) (same u refl)
 
   -- the text check refuses exactly with the refusal of the first condition that holds, and gives the report on the tables of the text
   -- exactly when none holds

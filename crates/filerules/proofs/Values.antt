@@ -5,7 +5,7 @@ use mathlib.Core.Bool.{Bool, true, false, cond}
 use mathlib.Core.Logic.{_≢_, _⊎_, ⊎-elim, _↔_}
 use mathlib.Core.List.{List, [], _∷_, map, map-map, nil≢cons, List·Memᴰ·cases-cons, List·Memᴰ·head, List·Memᴰ·tail, List·Memᴰ·not-nil, Memᴰ·cast}
 use mathlib.Core.Option.{Option, none, some}
-use Prim.Native.Nat.{ℕ, zero, suc, _<_, _^_}
+use Prim.Native.Nat.{ℕ, suc, _<_, _^_}
 use native.Mathlib.Omega.{arith}
 use lib.IntN.{ℤ, pos, natAbs}
 use lib.ListN.{length, getD, length-map}
@@ -13,6 +13,7 @@ use Rattle.integers.proofs.Tests.{passed, failed, eq?, eqZ?}
 use Rattle.lists.specs.Lists.{_∈_, isNil, Distinct, none as noMore, more}
 use Rattle.lists.proofs.Membership.{map-in, map-out}
 use Rattle.lists.proofs.Decisions.{Decides, decides-or}
+use Rattle.lists.proofs.Places.{map-at, map-same}
 use Rattle.model.specs.Limits.{maxDigits}
 use Rattle.model.specs.Bytes.{Bytes, shown, spaced, same}
 use Rattle.model.specs.MapFile.{Table, NamesLine, ValueLine}
@@ -22,17 +23,6 @@ use Rattle.filerules.proofs.Numerals.{value-shown, shown-value}
 use Rattle.filerules.proofs.Fields.{fields-spaced, spaced-fields}
 use Rattle.filerules.proofs.Words.{same?, Word, Regular, shown-word, word-lacks-blank}
 use Rattle.filerules.proofs.Names.{Stand, nil, cons, fields-distinct, names-some}
-
--- ---- maps
-
-map-same : {A B : Type 0} (f g : A → B) (l : List A) → ((x : A) → x ∈ l → f x ≡ g x) → map f l ≡ map g l
-map-same f g [] h = refl
-map-same f g (x ∷ l) h = rw (h x (List·Memᴰ·head refl), map-same f g l (λ y m. h y (List·Memᴰ·tail m)))
-
-getD-map : {A B : Type 0} (f : A → B) (l : List A) (i : ℕ) (d : A) (e : B) → i < length l → getD (map f l) i e ≡ f (getD l i d)
-getD-map f [] i d e h = absurd (omega arith)
-getD-map f (x ∷ l) zero d e h = refl
-getD-map f (x ∷ l) (suc i) d e h = getD-map f l i d e (omega arith)
 
 -- ---- the values of fields
 
@@ -111,9 +101,10 @@ shown-fields value fields n =
 stand-values : {fs ns : List Bytes} {cs : List ℕ} (value : Bytes → ℤ) → Stand fs ns cs → map (λ c. getD (map value fs) c (pos 0)) cs ≡ map value ns
 stand-values value nil = refl
 stand-values {fs} value (cons {n} {c} {ns} {cs} h e s) =
-    cc (getD-map value fs c [] (pos 0) h, e, stand-values value s)
+    cc (map-at value fs c (pos 0) [] h, e, stand-values value s)
 
-stand-length : {fs ns : List Bytes} {cs : List ℕ} → Stand fs ns cs → length cs ≡ length ns
+-- there is a column for each name
+pub stand-length : {fs ns : List Bytes} {cs : List ℕ} → Stand fs ns cs → length cs ≡ length ns
 stand-length nil = refl
 stand-length (cons h e s) = ap suc (stand-length s)
 

@@ -2,7 +2,7 @@ pub mod Marks
 pub mod Leaves
 pub mod Leading
 pub mod Links
-pub mod Kept
+pub mod Stored
 pub mod Reversed
 pub mod Order
 pub mod Plan

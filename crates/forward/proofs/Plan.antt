@@ -16,13 +16,14 @@ use Rattle.lists.specs.Lists.{_∈_, keep, Distinct}
 use Rattle.lists.proofs.Distinct.{keep-distinct}
 use Rattle.lists.proofs.Kept.{keep-length}
 use Rattle.lists.proofs.Membership.{keep-in, keep-out}
+use Rattle.lists.proofs.Places.{getD-in}
 use Rattle.model.specs.Limits.{maxNodes, maxEdges}
 use Rattle.model.specs.Rows.{Edge, edgeRows}
 use Rattle.model.specs.Graph.{Graph, graphOf, NodeRow}
 use Rattle.model.specs.Paths.{over}
 use Rattle.model.specs.Taken.{TakenTables}
 use Rattle.tables.specs.Tables.{edgeAt}
-use Rattle.tables.proofs.Rows.{getD-in, nodes-length, edges-length, edge-own}
+use Rattle.tables.proofs.Rows.{nodes-length, edges-length, edge-own}
 use Rattle.depth.specs.Order.{edgeOrder}
 use Rattle.depth.proofs.Keeping.{keep-map}
 use Rattle.depth.proofs.Order.{order-members}
@@ -31,7 +32,7 @@ use Rattle.reach.proofs.Turns.{order-cut}
 use Rattle.reach.proofs.Ends.{row-below}
 use Rattle.forward.specs.Forward.{Leads, Forward, headAt, nextAt, countAt, planRoom, plannedCount, plannedOf, Planned, LeadingTo, Plannable}
 use Rattle.forward.specs.Passes.{Marking, Marked, LeadsTo, Markable, BackwardRows, entersMarked, leadingRows, planWith, EnteringLinked}
-use Rattle.forward.proofs.Kept.{front-length, front-row}
+use Rattle.forward.proofs.Stored.{front-length, front-row}
 use Rattle.forward.proofs.Reversed.{map-reverse, reverse-in, reverse-out, reverse-distinct}
 use Rattle.forward.proofs.Order.{forward-kept}
 

@@ -1,13 +1,11 @@
 -- The edges that lead to a paired leaf, from the roots down, and for each node the edges that enter it. Assumes nothing.
 use mathlib.Core.Path.{_≡_}
-use mathlib.Core.Bool.{cond}
 use mathlib.Core.List.{List, [], _∷_, map}
 use Prim.Native.Nat.{ℕ, suc, _+_, _≤_, _<_}
-use lib.Dec.{eqb}
 use lib.IntN.{ℤ, pos}
 use lib.ListN.{length, getD, take}
 use Rattle.lists.specs.Lists.{_∈_, Distinct}
-use Rattle.model.specs.Limits.{pairWidth, maxNodes, maxEdges}
+use Rattle.model.specs.Limits.{maxNodes, maxEdges}
 use Rattle.model.specs.Rows.{Edge, nodeRows, edgeRows, pairRows}
 use Rattle.model.specs.Graph.{Graph, graphOf, NodeRow}
 use Rattle.model.specs.Paths.{Way}
@@ -16,6 +14,7 @@ use Rattle.depth.specs.Order.{edgeOrder}
 use Rattle.tables.specs.Tables.{edgeAt}
 use Rattle.reach.specs.Links.{firstRow}
 use Rattle.entering.specs.Entering.{enters}
+use Rattle.pairing.specs.Pairs.{nodeColumns, nodeIn}
 
 -- ---- edges in forward order
 
@@ -72,15 +71,15 @@ pub record LeadingTo (ns es : List ℤ) (ls : List ℤ) (plan : List ℕ) : Type
 
 -- ---- making it
 
--- the nodes in a column of a pair table: 0 the specification's, else the implementation's
+-- the nodes in a column of a pair table
 abbrev pub nodesIn : ℕ → List ℤ → List ℤ
-nodesIn column pairs = map (λ p. cond (eqb column 0) (p .spec) (p .impl)) (pairRows pairs)
+nodesIn column pairs = map (nodeIn column) (pairRows pairs)
 
 -- what a plan starts from: tables whose graph is taken, their edge rows in backward order in front of `order`, nodes of the graph in a column of the pairs,
 -- and room
 pub record Plannable (ns es : List ℤ) (order : List ℕ) (pairs : List ℤ) (column : ℕ) (plan : List ℕ) : Type 0 where
   pub tables : TakenTables ns es
   pub backward : take (length (edgeRows es)) order ≡ map (λ e. e .row) (edgeOrder (edgeRows es))
-  pub inPair : column < pairWidth
+  pub inPair : column < nodeColumns
   pub rows : (l : ℤ) → l ∈ nodesIn column pairs → NodeRow (graphOf ns es) l
   pub room : length plan ≡ planRoom

@@ -3,13 +3,12 @@ use mathlib.Core.Path.{_≡_}
 use mathlib.Core.Bool.{Bool}
 use mathlib.Core.Logic.{_⊎_, _↔_}
 use mathlib.Core.List.{List, map, reverse}
-use Prim.Native.Nat.{ℕ, suc, _+_, _*_, _≤_, _<_}
+use Prim.Native.Nat.{ℕ, suc, _+_, _≤_, _<_}
 use lib.Dec.{ltb}
 use lib.IntN.{ℤ, pos, natAbs}
 use lib.ListN.{length, getD, set, take}
 use lib.Seq.{sets}
 use Rattle.lists.specs.Lists.{_∈_, keep}
-use Rattle.model.specs.Limits.{pairWidth}
 use Rattle.model.specs.Rows.{Edge, nodeRows, edgeRows}
 use Rattle.model.specs.Graph.{Graph, graphOf}
 use Rattle.model.specs.Paths.{Way}
@@ -19,6 +18,7 @@ use Rattle.depth.specs.Order.{edgeOrder}
 use Rattle.depth.specs.Passes.{Within}
 use Rattle.reach.specs.Links.{firstRow}
 use Rattle.entering.specs.Entering.{enters}
+use Rattle.pairing.specs.Pairs.{nodeColumns}
 use Rattle.forward.specs.Forward.{headAt, nextAt, countAt, planRoom, nodesIn}
 
 -- ---- marks: a number for each node, 0 where it is not marked
@@ -35,13 +35,9 @@ Marked marks v = (i : ℕ) × (pos i ≡ v) × (0 < getD marks i 0)
 abbrev pub LeadsTo : Graph → (ℤ → Type 0) → ℤ → Type 0
 LeadsTo g P v = (l : ℤ) × P l × ((p : List Edge) × Way g v p l)
 
--- the node in a column of row k of a pair table
-abbrev pub columnAt : ℕ → List ℤ → ℕ → ℤ
-columnAt column pairs k = getD pairs (pairWidth * k + column) (pos 0)
-
 -- what marking the nodes in a column of a pair table starts from: a mark for each of them, and none that is set
 pub record Markable (pairs : List ℤ) (column : ℕ) (marks : List ℕ) : Type 0 where
-  pub inPair : column < pairWidth
+  pub inPair : column < nodeColumns
   pub within : (l : ℤ) → l ∈ nodesIn column pairs → Within (length marks) l
   pub blank : (v : ℕ) → getD marks v 0 ≡ 0
 

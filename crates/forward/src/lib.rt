@@ -1,17 +1,15 @@
 // The plan of a graph for a comparison, made once: the edges that lead to a paired leaf, from the roots down, and for each node the edges that enter it.
 ghost use mathlib.Core.Path.{_≡_};
-ghost use Prim.Native.Nat.{_+_, _*_, _≤_, _<_};
-ghost use lib.IntN.{pos};
-ghost use lib.Signed.{_≤ℤ_};
+ghost use Prim.Native.Nat.{_+_, _≤_, _<_};
 ghost use lib.ListN.{length, getD, set};
 ghost use Rattle.lists.specs.Lists.{_∈_};
-ghost use Rattle.model.specs.Limits.{pairWidth};
 ghost use Rattle.forward.specs.Forward.{headAt, nextAt, plannedCount, planRoom, Planned, LeadingTo, nodesIn, Plannable};
-ghost use Rattle.forward.specs.Passes.{Marking, columnAt, Markable, BackwardRows, Spread, leadingRows, planWith, HeadsSet, Linkable, EnteringLinked};
+ghost use Rattle.forward.specs.Passes.{Marking, Markable, BackwardRows, Spread, leadingRows, planWith, HeadsSet, Linkable, EnteringLinked};
 use model::EDGE_WIDTH;
 use model::MAX_NODES;
 use model::NODE_WIDTH;
 use model::PAIR_WIDTH;
+use pairing::pair_node;
 use tables::edge_from;
 use tables::edge_to;
 
@@ -60,14 +58,6 @@ pub fn next_entering(plan: &[usize], e: usize) -> usize
     row
 }
 
-// The node in a column of row k of a pair table, as an index.
-fn pair_node(pairs: &[i64], column: usize, k: usize) -> usize
-    requires { ⌜ (column < pairWidth) × (pairWidth * k + pairWidth ≤ length (now pairs)) × (pos 0 ≤ℤ columnAt column (now pairs) k) ⌝ }
-    ensures { λ r. ⌜ pos r ≡ columnAt column (now (pairs .entry)) k ⌝ }
-{
-    pairs[PAIR_WIDTH * k + column] as usize
-}
-
 // Marks the nodes in a column of a pair table.
 fn mark_leaves(pairs: &[i64], column: usize, marks: &mut [usize])
     requires { ⌜ Markable (now pairs) column (now marks) ⌝ }
@@ -101,24 +91,24 @@ fn mark_leading(edges: &[i64], order: &[usize], marks: &mut [usize])
 }
 
 // Stores the rows of the edges that enter a marked node in front of a plan, in the order from the roots down, and how many they are.
-fn keep_leading(edges: &[i64], order: &[usize], marks: &[usize], plan: &mut [usize])
+fn store_leading(edges: &[i64], order: &[usize], marks: &[usize], plan: &mut [usize])
     requires { ⌜ BackwardRows (now edges) (now order) (length (now marks)) ⌝ }
     requires { ⌜ length (now plan) ≡ planRoom ⌝ }
     ensures { λ _. ⌜
         now (plan .exit) ≡ planWith (leadingRows (now (edges .entry)) (now (order .entry)) (now (marks .entry))) (now (plan .entry)) ⌝ }
 {
-    let mut kept = 0;
+    let mut leading = 0;
     let mut i = edges.len() / EDGE_WIDTH;
     while 0 < i {
         i -= 1;
         let e = order[i];
         let to = edge_to(edges, e);
         if marks[to] != 0 {
-            plan[kept] = e;
-            kept += 1;
+            plan[leading] = e;
+            leading += 1;
         }
     }
-    plan[COUNT_AT] = kept;
+    plan[COUNT_AT] = leading;
 }
 
 // Sets the heads of the first `count` nodes to `value`.
@@ -175,5 +165,5 @@ pub fn plan_graph(
     mark_leaves(pairs, column, &mut marks);
     mark_leading(edges, order, &mut marks);
     link_entering(nodes, edges, plan);
-    keep_leading(edges, order, &marks, plan);
+    store_leading(edges, order, &marks, plan);
 }

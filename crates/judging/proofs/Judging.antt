@@ -11,7 +11,7 @@ use lib.IntN.{ℤ, _-ℤ_}
 use Rattle.integers.proofs.Linear.{ints}
 use Rattle.integers.proofs.Tests.{test-of, of-test, T-true}
 use Rattle.sorting.specs.declared.Row.{Row}
-use Rattle.sorting.specs.Rows.{rowsOf}
+use Rattle.sorting.specs.Rows.{rowWidth, rowsOf}
 use Rattle.sorting.proofs.Tables.{rowsOf-length}
 use Rattle.model.specs.Bitmapping.{Record}
 use Rattle.model.specs.Runs.{normal}
@@ -20,15 +20,14 @@ use Rattle.model.specs.Verdicts.{equal, partial, different, sameList, allContai
 use Rattle.model.proofs.Records.{has-at}
 use Rattle.model.proofs.Normalisation.{normal-has, normal-list, normal-length}
 use Rattle.model.proofs.Verdicts.{same-list, each?, rules-unique}
-use Rattle.normalisation.specs.Merging.{ofDisplacement, AllSmall, sortedByDisplacement}
-use Rattle.normalisation.specs.Merging as rows
+use Rattle.normalisation.specs.Merging.{ofDisplacement, displacedOf, AllSmallLast, sortedByDisplacement}
 use Rattle.normalisation.specs.Records.{ofRow, recordsOf, IsNormal}
 use Rattle.normalisation.proofs.Sorted.{by-displacement-length}
 use Rattle.normalisation.proofs.Records.{recordsOf-front, stored-normal}
 use Rattle.normalisation.proofs.Displaced.{displaced-normal, displaced-same}
-use Rattle.containment.specs.Covering.{coveredBy}
-use Rattle.containment.proofs.Covering.{covered-contained}
-use Rattle.verdicts.specs.Records.{SmallRecords, SmallList}
+use Rattle.containment.specs.Containing.{containsAll}
+use Rattle.containment.proofs.Containing.{containsAll-contained}
+use Rattle.verdicts.specs.Records.{AllSmallRootBits, SmallList}
 use Rattle.judging.specs.Judging.{SmallRows}
 
 -- ---- the same rows
@@ -51,19 +50,19 @@ listed-rows (r ∷ l) = ap {B = List Record} (λ k. ofRow r ∷ k) (listed-rows 
 
 module _ (a b : List ℤ) (m n : ℕ) where
   -- rows with the same numbers are the same
-  pub rows-same : sameList (recordsOf a m) (recordsOf b n) ≡ true → rows.recordsOf a m ≡ rows.recordsOf b n
+  pub rows-same : sameList (recordsOf a m) (recordsOf b n) ≡ true → displacedOf a m ≡ displacedOf b n
   rows-same e =
       let same = same-list (recordsOf a m) (recordsOf b n) .0 (T-true (sameList (recordsOf a m) (recordsOf b n)) e) in
       sym (displaced-rows (rowsOf a m)) ∙ ap (map displaced) same ∙ displaced-rows (rowsOf b n)
 
   -- others are not
-  pub rows-unlike : sameList (recordsOf a m) (recordsOf b n) ≡ false → rows.recordsOf a m ≢ rows.recordsOf b n
+  pub rows-unlike : sameList (recordsOf a m) (recordsOf b n) ≡ false → displacedOf a m ≢ displacedOf b n
   rows-unlike e d =
       let same = sym (listed-rows (rowsOf a m)) ∙ ap (map listed) d ∙ listed-rows (rowsOf b n) in
       subst T e (same-list (recordsOf a m) (recordsOf b n) .1 same)
 
 -- n rows are read
-pub rows-length : (t : List ℤ) (n : ℕ) → length (rows.recordsOf t n) ≡ n
+pub rows-length : (t : List ℤ) (n : ℕ) → length (displacedOf t n) ≡ n
 rows-length t n = length-map (rowsOf t n) ofDisplacement ∙ rowsOf-length t n
 
 -- ---- the verdict
@@ -93,21 +92,21 @@ module _ {spec imp rs is : List Record} (p : IsNormal spec) (q : IsNormal imp) (
     judged-empty z = rules-unique (different unequal (λ k. k .some (no-records imp (size ∙ z))))
 
     -- it has, and the pass over the rows finds each of them contained: partial
-    pub judged-within : length is ≢ 0 → coveredBy rs is ≡ true → 1 ≡ verdict spec imp
+    pub judged-within : length is ≢ 0 → containsAll rs is ≡ true → 1 ≡ verdict spec imp
     judged-within s c =
-        let each = test-of (each? spec imp) (T-true (allContained spec imp) (sym (covered-contained p q) ∙ (rw (e, f) at c))) in
+        let each = test-of (each? spec imp) (T-true (allContained spec imp) (sym (containsAll-contained p q) ∙ (rw (e, f) at c))) in
         rules-unique (partial (record { unequal = unequal; some = λ d. s (sym size ∙ ap length d); each = each }))
 
     -- it does not: different
-    pub judged-beyond : coveredBy rs is ≡ false → 2 ≡ verdict spec imp
+    pub judged-beyond : containsAll rs is ≡ false → 2 ≡ verdict spec imp
     judged-beyond c =
-        let none : allContained spec imp ≡ false = sym (covered-contained p q) ∙ (rw (e, f) at c) in
+        let none : allContained spec imp ≡ false = sym (containsAll-contained p q) ∙ (rw (e, f) at c) in
         rules-unique (different unequal (λ k. subst T none (of-test (each? spec imp) (λ n. n (k .each)))))
 
 -- ---- the lowest address
 
 -- a list of small records is so normalised: where a record begins and where it ends, one of the list has a bit
-normal-small : {l : List Record} → SmallRecords l → SmallRecords (normal l)
+normal-small : {l : List Record} → AllSmallRootBits l → AllSmallRootBits (normal l)
 normal-small {l} all s m =
     let full = normal-list l (λ r k. all r k .full) .full s m in
     let (r, i, h) = normal-has l (s .first) (s .first -ℤ s .displacement) .0 (s, m, has-at s (s .first) (omega (arith, ints)) full) in
@@ -116,23 +115,23 @@ normal-small {l} all s m =
 
 module _ {t : List ℤ} {n : ℕ} (all : SmallRows t n) where
   -- so small that they can be normalised
-  pub rows-small : AllSmall (rows.recordsOf t n)
+  pub rows-small : AllSmallLast (displacedOf t n)
   rows-small s m = record { full = all .small s m .full; high = all .small s m .high }
 
   -- the k records of out are those of the n rows of t, normalised
-  module _ (k : ℕ) (out : List ℤ) (count : k ≡ length (normal (rows.recordsOf t n))) (numbers : take (3 * k) out ≡ numbersOf (normal (rows.recordsOf t n))) where
-    rows-read : recordsOf out k ≡ normal (rows.recordsOf t n)
+  module _ (k : ℕ) (out : List ℤ) (count : k ≡ length (normal (displacedOf t n))) (numbers : take (rowWidth * k) out ≡ numbersOf (normal (displacedOf t n))) where
+    rows-read : recordsOf out k ≡ normal (displacedOf t n)
     rows-read = recordsOf-front out k (sym count) numbers
 
     -- they are a normal list of small records
     pub rows-list : length out ≡ length t → SmallList out k
     rows-list kept =
         record {
-          list = stored-normal out k (omega (arith, count, normal-length (rows.recordsOf t n), rows-length t n, all .within, kept)) (sym count) numbers
-              (normal-list (rows.recordsOf t n) (λ s m. all .small s m .full));
+          list = stored-normal out k (omega (arith, count, normal-length (displacedOf t n), rows-length t n, all .within, kept)) (sym count) numbers
+              (normal-list (displacedOf t n) (λ s m. all .small s m .full));
           small = rw rows-read (normal-small (all .small));
         }
 
     -- and the rows of a normal list give that list
-    pub rows-back : {l : List Record} → IsNormal l → rows.recordsOf t n ≡ sortedByDisplacement l → recordsOf out k ≡ l
+    pub rows-back : {l : List Record} → IsNormal l → displacedOf t n ≡ sortedByDisplacement l → recordsOf out k ≡ l
     rows-back h e = rows-read ∙ ap normal e ∙ displaced-normal h

@@ -9,20 +9,21 @@ use lib.IntN.{ℤ}
 use Rattle.model.specs.Bitmapping.{Record}
 use Rattle.model.specs.Verdicts.{verdict, lowest}
 use Rattle.model.specs.Answers.{verdictNumber}
-use Rattle.normalisation.specs.Merging.{recordsOf, sortedByDisplacement}
+use Rattle.sorting.specs.Rows.{rowWidth}
+use Rattle.normalisation.specs.Merging.{displacedOf, sortedByDisplacement}
 use Rattle.normalisation.specs.Records.{IsNormal}
-use Rattle.verdicts.specs.Records.{SmallRecords}
+use Rattle.verdicts.specs.Records.{AllSmallRootBits}
 use Rattle.judging.specs.declared.Judged.{Judged}
 
 -- P holds of every two normal lists whose rows by displacement, sorted, the first na rows of the flat list a and the first nb rows of b are
 abbrev pub OfLists : List ℤ → ℕ → List ℤ → ℕ → (List Record → List Record → Type 0) → Type 0
 OfLists a na b nb P =
-    (l m : List Record) → IsNormal l → IsNormal m → recordsOf a na ≡ sortedByDisplacement l → recordsOf b nb ≡ sortedByDisplacement m → P l m
+    (l m : List Record) → IsNormal l → IsNormal m → displacedOf a na ≡ sortedByDisplacement l → displacedOf b nb ≡ sortedByDisplacement m → P l m
 
--- n rows by displacement stand in the front of the flat list t, and their records are small
+-- n rows by displacement stand in the front of the flat list t, and their records have small root bits
 pub record SmallRows (t : List ℤ) (n : ℕ) : Type 0 where
-  pub within : 3 * n ≤ length t
-  pub small : SmallRecords (recordsOf t n)
+  pub within : rowWidth * n ≤ length t
+  pub small : AllSmallRootBits (displacedOf t n)
 
 -- what is judged of two lists: the verdict and, where it is asked for and they are not equal, the lowest address at which they differ
 pub record IsJudged (spec impl : List Record) (asked : Bool) (r : Judged) : Type 0 where

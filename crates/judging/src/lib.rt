@@ -7,6 +7,7 @@ ghost use Prim.Native.Nat.{_*_, _≤_};
 ghost use lib.ListN.{length};
 ghost use Rattle.model.specs.Verdicts.{verdict, lowest};
 ghost use Rattle.model.specs.Answers.{verdictNumber};
+ghost use Rattle.sorting.specs.Rows.{rowWidth};
 ghost use Rattle.judging.specs.Judging.{OfLists, SmallRows, IsJudged};
 use model::Verdict;
 
@@ -19,7 +20,7 @@ pub struct Judged {
 // The verdict on the ns rows of the specification and the ni rows of the implementation, in one pass over both where they are the same, and else in a
 // second. Rows are the same where their numbers are, whichever way these are read.
 fn verdict_of_rows(spec: &[i64], ns: usize, imp: &[i64], ni: usize) -> Verdict
-    requires { ⌜ (3 * ns ≤ length (now spec)) × (3 * ni ≤ length (now imp)) ⌝ }
+    requires { ⌜ (rowWidth * ns ≤ length (now spec)) × (rowWidth * ni ≤ length (now imp)) ⌝ }
     ensures { λ v. ⌜ OfLists (now (spec .entry)) ns (now (imp .entry)) ni (λ l m. verdictNumber v ≡ verdict l m) ⌝ }
 {
     if verdicts::same_lists(spec, ns, imp, ni) {
@@ -28,7 +29,7 @@ fn verdict_of_rows(spec: &[i64], ns: usize, imp: &[i64], ni: usize) -> Verdict
     if ni == 0 {
         return Verdict::Different;
     }
-    if containment::covered(spec, ns, imp, ni) {
+    if containment::contains_all(spec, ns, imp, ni) {
         return Verdict::Partial;
     }
     Verdict::Different
@@ -45,7 +46,7 @@ fn lowest_of_rows(
     verdict: Verdict,
     asked: bool,
 ) -> i64
-    requires { ⌜ SmallRows (now spec) ns × SmallRows (now imp) ni × (3 * ns ≤ length (now spare)) × (3 * ni ≤ length (now spare)) ⌝ }
+    requires { ⌜ SmallRows (now spec) ns × SmallRows (now imp) ni × (rowWidth * ns ≤ length (now spare)) × (rowWidth * ni ≤ length (now spare)) ⌝ }
     ensures { λ b. ⌜
         OfLists (now (spec .entry)) ns (now (imp .entry)) ni (λ l m. asked ≡ true → verdictNumber verdict ≢ 0 → b ≡ lowest l m) ⌝ }
 {
@@ -70,7 +71,7 @@ pub fn judge(
     spare: &mut [i64],
     asked: bool,
 ) -> Judged
-    requires { ⌜ SmallRows (now spec) ns × SmallRows (now imp) ni × (3 * ns ≤ length (now spare)) × (3 * ni ≤ length (now spare)) ⌝ }
+    requires { ⌜ SmallRows (now spec) ns × SmallRows (now imp) ni × (rowWidth * ns ≤ length (now spare)) × (rowWidth * ni ≤ length (now spare)) ⌝ }
     ensures { λ r. ⌜ OfLists (now (spec .entry)) ns (now (imp .entry)) ni (λ l m. IsJudged l m asked r) ⌝ }
 {
     let verdict = verdict_of_rows(spec, ns, imp, ni);

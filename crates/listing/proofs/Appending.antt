@@ -8,30 +8,30 @@ use lib.IntN.{ℤ}
 use lib.ListN.{length, take, drop, length-append, length-drop, length-take, take-append-drop}
 use lib.Seq.{take-at, drop-at, drop-drop, length-take-le}
 use Rattle.sorting.specs.declared.Row.{Row}
-use Rattle.sorting.specs.Rows.{numbersOf, rowsOf}
+use Rattle.sorting.specs.Rows.{rowWidth, numbersOf, rowsOf}
 use Rattle.sorting.proofs.Tables.{numbersOf-length, numbersOf-append, rowsOf-written}
 use Rattle.listing.specs.Listing.{Appended}
 
 -- no row changes nothing
 pub append-none : (old : List ℤ) (n : ℕ) → Appended [] old old n n
 unfolding numbersOf
-append-none old n = record { count = omega arith; numbers = rw (add-zero n) (sym (take-append-drop (3 * n) old)) }
+append-none old n = record { count = omega arith; numbers = rw (add-zero n) (sym (take-append-drop (rowWidth * n) old)) }
 
 -- one row stored behind n rows
-pub append-one : (old new : List ℤ) (n : ℕ) (r : Row) → new ≡ take (3 * n) old ++ (numbersOf (r ∷ []) ++ drop (3 * n + 3) old)
+pub append-one : (old new : List ℤ) (n : ℕ) (r : Row) → new ≡ take (rowWidth * n) old ++ (numbersOf (r ∷ []) ++ drop (rowWidth * n + rowWidth) old)
     → Appended (r ∷ []) old new n (n + 1)
 append-one old new n r e =
-    let d : 3 * (n + 1) ≡ 3 * n + 3 = omega arith in
-    record { count = refl; numbers = e ∙ ap (λ k. take (3 * n) old ++ (numbersOf (r ∷ []) ++ drop k old)) (sym d) }
+    let d : rowWidth * (n + 1) ≡ rowWidth * n + rowWidth = omega arith in
+    record { count = refl; numbers = e ∙ ap (λ k. take (rowWidth * n) old ++ (numbersOf (r ∷ []) ++ drop k old)) (sym d) }
 
 -- the list keeps its length
-pub append-length : {rows : List Row} {old new : List ℤ} {n r : ℕ} → 3 * (n + length rows) ≤ length old → Appended rows old new n r
+pub append-length : {rows : List Row} {old new : List ℤ} {n r : ℕ} → rowWidth * (n + length rows) ≤ length old → Appended rows old new n r
     → length new ≡ length old
 append-length {rows} {old} {n} h a =
     ap length (a .numbers) ∙ simp (length-append, length-drop, length-take) (omega (arith, numbersOf-length rows))
 
 -- rows behind rows
-pub append-append : {first second : List Row} {old mid new : List ℤ} {n m r : ℕ} → 3 * (n + length (first ++ second)) ≤ length old
+pub append-append : {first second : List Row} {old mid new : List ℤ} {n m r : ℕ} → rowWidth * (n + length (first ++ second)) ≤ length old
     → Appended first old mid n m → Appended second mid new m r → Appended (first ++ second) old new n r
 append-append {first} {second} {old} {mid} {new} {n} {m} {r} h a b =
     record { count = omega (arith, a .count, b .count, both); numbers = b .numbers ∙ rw (front, behind, numbersOf-append first second) (simp append-assoc) }
@@ -39,33 +39,33 @@ append-append {first} {second} {old} {mid} {new} {n} {m} {r} h a b =
     both : length (first ++ second) ≡ length first + length second
     both = length-append first second
 
-    size : length (take (3 * n) old ++ numbersOf first) ≡ 3 * m
+    size : length (take (rowWidth * n) old ++ numbersOf first) ≡ rowWidth * m
     size =
         omega (
           arith,
-          length-append (take (3 * n) old) (numbersOf first),
-          length-take-le (3 * n) old (omega (arith, h)),
+          length-append (take (rowWidth * n) old) (numbersOf first),
+          length-take-le (rowWidth * n) old (omega (arith, h)),
           numbersOf-length first,
           a .count,
         )
 
-    parted : mid ≡ (take (3 * n) old ++ numbersOf first) ++ drop (3 * (n + length first)) old
-    parted = a .numbers ∙ sym (append-assoc (take (3 * n) old) (numbersOf first) (drop (3 * (n + length first)) old))
+    parted : mid ≡ (take (rowWidth * n) old ++ numbersOf first) ++ drop (rowWidth * (n + length first)) old
+    parted = a .numbers ∙ sym (append-assoc (take (rowWidth * n) old) (numbersOf first) (drop (rowWidth * (n + length first)) old))
 
-    front : take (3 * m) mid ≡ take (3 * n) old ++ numbersOf first
-    front = ap (take (3 * m)) parted ∙ take-at (take (3 * n) old ++ numbersOf first) (drop (3 * (n + length first)) old) (3 * m) size
+    front : take (rowWidth * m) mid ≡ take (rowWidth * n) old ++ numbersOf first
+    front = ap (take (rowWidth * m)) parted ∙ take-at (take (rowWidth * n) old ++ numbersOf first) (drop (rowWidth * (n + length first)) old) (rowWidth * m) size
 
-    behind : drop (3 * (m + length second)) mid ≡ drop (3 * (n + length (first ++ second))) old
+    behind : drop (rowWidth * (m + length second)) mid ≡ drop (rowWidth * (n + length (first ++ second))) old
     behind =
-        let p : 3 * (m + length second) ≡ 3 * m + 3 * length second = omega arith in
-        let q : 3 * (n + length (first ++ second)) ≡ 3 * (n + length first) + 3 * length second = omega (arith, both) in
+        let p : rowWidth * (m + length second) ≡ rowWidth * m + rowWidth * length second = omega arith in
+        let q : rowWidth * (n + length (first ++ second)) ≡ rowWidth * (n + length first) + rowWidth * length second = omega (arith, both) in
         rw (p, q)
-        (sym (drop-drop (3 * length second) (3 * m) mid)
-        ∙ ap (drop (3 * length second))
-        (ap (drop (3 * m)) parted ∙ drop-at (take (3 * n) old ++ numbersOf first) (drop (3 * (n + length first)) old) (3 * m) size)
-        ∙ drop-drop (3 * length second) (3 * (n + length first)) old)
+        (sym (drop-drop (rowWidth * length second) (rowWidth * m) mid)
+        ∙ ap (drop (rowWidth * length second))
+        (ap (drop (rowWidth * m)) parted ∙ drop-at (take (rowWidth * n) old ++ numbersOf first) (drop (rowWidth * (n + length first)) old) (rowWidth * m) size)
+        ∙ drop-drop (rowWidth * length second) (rowWidth * (n + length first)) old)
 
 -- rows appended to none are the first rows
 pub append-rows : {rows : List Row} {old new : List ℤ} {r : ℕ} → Appended rows old new 0 r → rowsOf new r ≡ rows
 append-rows {rows} {old} {new} {r} a =
-    ap (λ t. rowsOf t r) (a .numbers) ∙ rowsOf-written rows (drop (3 * (0 + length rows)) old) r (omega (arith, a .count))
+    ap (λ t. rowsOf t r) (a .numbers) ∙ rowsOf-written rows (drop (rowWidth * (0 + length rows)) old) r (omega (arith, a .count))

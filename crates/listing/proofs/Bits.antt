@@ -11,13 +11,13 @@ use Rattle.model.specs.Calls.{ascending}
 use Rattle.model.proofs.Records.{touch-is}
 use Rattle.model.proofs.Normalisation.{normal-unique}
 use Rattle.model.proofs.WalkCall.{Ascending, nil, cons, ascending-members, ascending-ordered}
-use Rattle.normalisation.specs.Merging.{AllSmall}
+use Rattle.normalisation.specs.Merging.{AllSmallLast}
 use Rattle.normalisation.specs.Records.{IsNormal}
 use Rattle.normalisation.proofs.Displaced.{normal-held}
 use Rattle.listing.specs.Listing.{bitRecord}
 
 -- they are small
-pub bits-small : (l : List ℤ) → AllSmall (map bitRecord l)
+pub bits-small : (l : List ℤ) → AllSmallLast (map bitRecord l)
 bits-small l s m = let e = map-out bitRecord l m .2 in rw e (record { full = omega (arith, ints); high = omega (arith, ints) })
 
 bits-ordered : {l : List ℤ} → Ascending l → Ordered (map bitRecord l)

@@ -11,8 +11,9 @@ use Rattle.model.specs.Graph.{Graph, graphOf, node, firstBit}
 use Rattle.model.specs.Runs.{whole, pathsWithin, paths, runs, recordOf, normal, listOf}
 use Rattle.model.specs.Calls.{arrivals, leafBits}
 use Rattle.tables.proofs.Rows.{nodes-length, edges-length}
+use Rattle.sorting.specs.Rows.{rowWidth}
 use Rattle.sorting.specs.declared.Row.{Row}
-use Rattle.normalisation.specs.Merging.{ofDisplacement, recordsOf, AllSmall}
+use Rattle.normalisation.specs.Merging.{ofDisplacement, displacedOf, AllSmallLast}
 use Rattle.reach.specs.Counting.{pathCount, stopped, countsOf, countsOver}
 use Rattle.reach.specs.Links.{Linked, Linkable}
 use Rattle.reach.proofs.Values.{values-length}
@@ -25,13 +26,13 @@ use Rattle.listing.proofs.Small.{runs-small}
 
 -- rows behind none whose records are those of runs
 records-listed : (ns es : List ℤ) (r l : ℤ) {old new : List ℤ} {n : ℕ} → Appended (runRows maxChain (graphOf ns es) r l (whole (node (graphOf ns es) r))) old new 0 n
-    → recordsOf new n ≡ map (recordOf (node (graphOf ns es) l)) (runs (graphOf ns es) r l)
+    → displacedOf new n ≡ map (recordOf (node (graphOf ns es) l)) (runs (graphOf ns es) r l)
 unfolding runRows runs paths
 records-listed ns es r l a = ap (map ofDisplacement) (append-rows a) ∙ map-map ofDisplacement (runRow (node (graphOf ns es) l)) (runs (graphOf ns es) r l)
 
 -- or those of leaf bits
 arrivals-listed : (g : Graph) (r l x : ℤ) {old new : List ℤ} {n : ℕ} → Appended (arrivalRows maxChain g r l x) old new 0 n
-    → recordsOf new n ≡ map bitRecord (map (λ b. b -ℤ firstBit (node g l)) (arrivals maxChain g r l x))
+    → displacedOf new n ≡ map bitRecord (map (λ b. b -ℤ firstBit (node g l)) (arrivals maxChain g r l x))
 unfolding arrivalRows
 arrivals-listed g r l x a =
     let bit : ℤ → ℤ = λ b. b -ℤ firstBit (node g l) in
@@ -67,24 +68,24 @@ module _ {ns es : List ℤ} {root leaf : ℕ} {counts : List ℕ} {work : List �
   -- rows that are no more than paths
   module _ (rows : List Row) (few : length rows ≤ length (pathsWithin maxChain (graphOf ns es) (pos root) (pos leaf))) where
     -- there is room for them
-    rows-room : 3 * (0 + length rows) ≤ length work
+    rows-room : rowWidth * (0 + length rows) ≤ length work
     unfolding paths
     rows-room = omega (arith, few, p .few, p .room)
 
     -- also once they are written
-    rows-written : {new : List ℤ} {n : ℕ} → Appended rows work new 0 n → (3 * n ≤ length new) × (3 * n ≤ 3 * maxPaths)
+    rows-written : {new : List ℤ} {n : ℕ} → Appended rows work new 0 n → (rowWidth * n ≤ length new) × (rowWidth * n ≤ rowWidth * maxPaths)
     unfolding paths
     rows-written a = (omega (arith, rows-room, a .count, append-length rows-room a), omega (arith, few, p .few, a .count))
 
   -- there is room for the rows of the runs
-  pub runs-room : 3 * (0 + length (runRows maxChain (graphOf ns es) (pos root) (pos leaf) (whole (node (graphOf ns es) (pos root))))) ≤ length work
+  pub runs-room : rowWidth * (0 + length (runRows maxChain (graphOf ns es) (pos root) (pos leaf) (whole (node (graphOf ns es) (pos root))))) ≤ length work
   runs-room =
       let g = graphOf ns es in
       let all = whole (node g (pos root)) in
       rows-room (runRows maxChain g (pos root) (pos leaf) all) (runRows-within-paths maxChain g (pos root) (pos leaf) all)
 
   -- and for those of the arrivals
-  pub arrivals-room : (x : ℤ) → 3 * (0 + length (arrivalRows maxChain (graphOf ns es) (pos root) (pos leaf) x)) ≤ length work
+  pub arrivals-room : (x : ℤ) → rowWidth * (0 + length (arrivalRows maxChain (graphOf ns es) (pos root) (pos leaf) x)) ≤ length work
   arrivals-room x =
       let g = graphOf ns es in
       rows-room (arrivalRows maxChain g (pos root) (pos leaf) x) (arrivalRows-within-paths maxChain g (pos root) (pos leaf) x)
@@ -92,28 +93,28 @@ module _ {ns es : List ℤ} {root leaf : ℕ} {counts : List ℕ} {work : List �
   module _ {new : List ℤ} {n : ℕ} where
     module _ (a : Appended (runRows maxChain (graphOf ns es) (pos root) (pos leaf) (whole (node (graphOf ns es) (pos root)))) work new 0 n) where
       -- the rows of the runs can be normalised
-      pub runs-normalisable : (3 * n ≤ length new) × (3 * n ≤ 3 * maxPaths) × AllSmall (recordsOf new n)
+      pub runs-normalisable : (rowWidth * n ≤ length new) × (rowWidth * n ≤ rowWidth * maxPaths) × AllSmallLast (displacedOf new n)
       runs-normalisable =
           let g = graphOf ns es in
           let all = whole (node g (pos root)) in
           let room = rows-written (runRows maxChain g (pos root) (pos leaf) all) (runRows-within-paths maxChain g (pos root) (pos leaf) all) a in
-          (room .0, room .1, subst AllSmall (sym (records-listed ns es (pos root) (pos leaf) a)) (runs-small (pos leaf) (p .tables .graph) (p .row)))
+          (room .0, room .1, subst AllSmallLast (sym (records-listed ns es (pos root) (pos leaf) a)) (runs-small (pos leaf) (p .tables .graph) (p .row)))
 
       -- and give the bitmapping list
-      pub runs-normal : normal (recordsOf new n) ≡ listOf (graphOf ns es) (pos root) (pos leaf)
+      pub runs-normal : normal (displacedOf new n) ≡ listOf (graphOf ns es) (pos root) (pos leaf)
       unfolding listOf
       runs-normal = ap normal (records-listed ns es (pos root) (pos leaf) a)
 
     module _ (x : ℤ) (a : Appended (arrivalRows maxChain (graphOf ns es) (pos root) (pos leaf) x) work new 0 n) where
       -- so can those of the arrivals
-      pub arrivals-normalisable : (3 * n ≤ length new) × (3 * n ≤ 3 * maxPaths) × AllSmall (recordsOf new n)
+      pub arrivals-normalisable : (rowWidth * n ≤ length new) × (rowWidth * n ≤ rowWidth * maxPaths) × AllSmallLast (displacedOf new n)
       arrivals-normalisable =
           let g = graphOf ns es in
           let room = rows-written (arrivalRows maxChain g (pos root) (pos leaf) x) (arrivalRows-within-paths maxChain g (pos root) (pos leaf) x) a in
           (room .0, room .1, rw (arrivals-listed g (pos root) (pos leaf) x a) (bits-small (map (λ b. b -ℤ firstBit (node g (pos leaf))) (arrivals maxChain g (pos root) (pos leaf) x))))
 
       -- and give the leaf bits
-      pub arrivals-normal : normal (recordsOf new n) ≡ map bitRecord (leafBits (graphOf ns es) (pos root) (pos leaf) x)
+      pub arrivals-normal : normal (displacedOf new n) ≡ map bitRecord (leafBits (graphOf ns es) (pos root) (pos leaf) x)
       unfolding leafBits
       arrivals-normal =
           let g = graphOf ns es in

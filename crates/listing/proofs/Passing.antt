@@ -15,6 +15,8 @@ use Rattle.model.specs.Runs.{leaving}
 use Rattle.tables.specs.Tables.{edgeAt}
 use Rattle.tables.proofs.Rows.{nodes-length, edges-length, edges-at}
 use Rattle.steps.proofs.Rows.{to-row}
+use Rattle.model.specs.Limits.{edgeWidth}
+use Rattle.sorting.specs.Rows.{rowWidth}
 use Rattle.sorting.specs.declared.Row.{Row}
 use Rattle.reach.specs.Counting.{pathCount, countsOver}
 use Rattle.reach.specs.Links.{firstRow, matters, headsOf, nextsOf}
@@ -45,11 +47,11 @@ module _ {ns es : List ℤ} {leaf : ℕ} {head next : List ℕ} (k : LinkedTo ns
   head-there row = omega (arith, ints, row .high, heads-length, nodes-length ns)
 
   -- the node that an edge enters is a node row, as the code has it
-  pub entered-row : (e : ℕ) → e < length es / 3 → {to : ℕ} → pos to ≡ edgeAt es e .to → NodeRow (graphOf ns es) (pos to)
+  pub entered-row : (e : ℕ) → e < length es / edgeWidth → {to : ℕ} → pos to ≡ edgeAt es e .to → NodeRow (graphOf ns es) (pos to)
   entered-row e h p = subst (NodeRow (graphOf ns es)) (sym p) (to-row (k .tables) e (omega arith))
 
   -- a link for each edge
-  pub nexts-length : length es / 3 ≤ length next
+  pub nexts-length : length es / edgeWidth ≤ length next
   unfolding graphOf nextsOf
   nexts-length =
       let counts = countsOver (graphOf ns es) (pos leaf) (k .counts) in
@@ -95,7 +97,7 @@ module _ {ns es : List ℤ} {head next : List ℕ} {leaf v : ℕ} {f : Edge → 
     (s : Passing ns es head next leaf v f old n new m e)
   where
     -- behind the last turn the rows of all edges that leave v are written
-    pub passing-end : length es / 3 ≤ e → Appended (flatMap f (leaving (graphOf ns es) (pos v))) old new n m
+    pub passing-end : length es / edgeWidth ≤ e → Appended (flatMap f (leaving (graphOf ns es) (pos v))) old new n m
     unfolding flatMap
     passing-end h =
         let ok = live (s .links) v in
@@ -103,7 +105,7 @@ module _ {ns es : List ℤ} {head next : List ℕ} {leaf v : ℕ} {f : Edge → 
         let all : s .done ≡ flatMap f (leaving (graphOf ns es) (pos v)) = sym (append-nil (s .done)) ∙ ap (λ l. s .done ++ flatMap f l) (sym none) ∙ s .rest in
         rw (← all) (s .written)
 
-    module _ (h : e < length es / 3) where
+    module _ (h : e < length es / edgeWidth) where
       -- the rows so far, those of the edge, and those of the edges behind it
       turn-rest : (s .done ++ f (edgeAt es e)) ++ flatMap f (keep (live (s .links) v) (drop (suc e) (edgeRows es))) ≡ flatMap f (leaving (graphOf ns es) (pos v))
       unfolding flatMap
@@ -134,9 +136,9 @@ module _ {ns es : List ℤ} {head next : List ℕ} {leaf v : ℕ} {f : Edge → 
       pub turn-onward : e < getD next e 0
       turn-onward = omega (arith, link-next, firstRow-from (live (s .links) v) (suc e) (edgeRows es) (omega (arith, edges-length es)))
 
-      module _ (room : 3 * (n + length (flatMap f (leaving (graphOf ns es) (pos v)))) ≤ length old) where
+      module _ (room : rowWidth * (n + length (flatMap f (leaving (graphOf ns es) (pos v)))) ≤ length old) where
         -- there is room for the rows of the edge
-        pub turn-room : 3 * (m + length (f (edgeAt es e))) ≤ length new
+        pub turn-room : rowWidth * (m + length (f (edgeAt es e))) ≤ length new
         turn-room =
             let size = length-append (s .done) (f (edgeAt es e)) in
             let same = append-length (omega (arith, room, turn-size, size)) (s .written) in

@@ -19,7 +19,7 @@ use Rattle.model.specs.Taken.{Taken}
 use Rattle.model.proofs.Steps.{along-empty, empty-none}
 use Rattle.model.proofs.Paths.{paths-sound}
 use Rattle.model.proofs.Walks.{runs-out}
-use Rattle.normalisation.specs.Merging.{Small, AllSmall}
+use Rattle.normalisation.specs.Merging.{SmallLast, AllSmallLast}
 use Rattle.tables.proofs.Limits.{first-address}
 use Rattle.steps.specs.Steps.{SmallRun, SmallAddress}
 use Rattle.steps.proofs.Bounds.{across-small, whole-small}
@@ -76,7 +76,7 @@ module _ {r : Run} (s : SmallRun r) where
       }
 
   -- its record is small
-  record-small : (n : Node) → Small (recordOf n r)
+  record-small : (n : Node) → SmallLast (recordOf n r)
   unfolding recordOf
   record-small n =
       record { full = omega (arith, ints, s .full, diff (r .high) (r .low), sum (r .root) (r .high -ℤ r .low)); high = s .last }
@@ -100,10 +100,10 @@ along-small {g} {p = d ∷ p} {r} taken (over e m q y) s t =
     along-small taken y (across-small taken m s entered) t
 
 -- the records of all runs of a root of a taken graph are small
-pub runs-small : {g : Graph} {r : ℤ} (l : ℤ) → Taken g → NodeRow g r → AllSmall (map (recordOf (node g l)) (runs g r l))
+pub runs-small : {g : Graph} {r : ℤ} (l : ℤ) → Taken g → NodeRow g r → AllSmallLast (map (recordOf (node g l)) (runs g r l))
 runs-small {g} {r} l taken row s m =
     let u = map-out (recordOf (node g l)) (runs g r l) m in
     let p = runs-out g r l (u .1) in
     let some = subst (λ (x : Run). T (not (empty x))) (p .2) (p .3) in
     let small = along-small taken (paths-sound (p .1)) (whole-small (node g r) (taken .good r row)) some in
-    subst Small (sym (u .2)) (record-small (subst SmallRun (sym (p .2)) small) (node g l))
+    subst SmallLast (sym (u .2)) (record-small (subst SmallRun (sym (p .2)) small) (node g l))

@@ -16,7 +16,7 @@ use Rattle.model.specs.Runs.{Run, empty, along, pathsWithin, paths, recordOf}
 use Rattle.model.specs.Taken.{TakenTables}
 use Rattle.model.specs.Calls.{arrivals}
 use Rattle.sorting.specs.declared.Row.{Row}
-use Rattle.sorting.specs.Rows.{numbersOf}
+use Rattle.sorting.specs.Rows.{rowWidth, numbersOf}
 use Rattle.normalisation.specs.Merging.{byDisplacement}
 use Rattle.reach.specs.Counting.{countsOver}
 use Rattle.reach.specs.Links.{Linked}
@@ -43,14 +43,14 @@ pub record Ready (ns es : List ℤ) (root leaf : ℕ) (counts : List ℕ) (work 
   pub oldCounts : List ℕ
   pub counted : counts ≡ countsOver (graphOf ns es) (pos leaf) oldCounts
   pub few : length (paths (graphOf ns es) (pos root) (pos leaf)) ≤ maxPaths
-  pub room : 3 * maxPaths ≤ length work
+  pub room : rowWidth * maxPaths ≤ length work
 
 -- ---- rows
 
 -- rows written behind the first n rows of a flat list: r rows stand there then, and behind them what stood there before
 pub record Appended (rows : List Row) (old new : List ℤ) (n r : ℕ) : Type 0 where
   pub count : r ≡ n + length rows
-  pub numbers : new ≡ take (3 * n) old ++ (numbersOf rows ++ drop (3 * (n + length rows)) old)
+  pub numbers : new ≡ take (rowWidth * n) old ++ (numbersOf rows ++ drop (rowWidth * (n + length rows)) old)
 
 -- the row of a run at the leaf: its record, by displacement
 abbrev pub runRow : Node → Run → Row

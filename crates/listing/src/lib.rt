@@ -9,6 +9,7 @@ ghost use Rattle.model.specs.Graph.{graphOf, NodeRow, node};
 ghost use Rattle.model.specs.Runs.{listOf};
 ghost use Rattle.model.specs.Calls.{numbersOf, leafBits};
 ghost use Rattle.steps.specs.Steps.{runOf, SmallRun, SmallAddress, GoodRow};
+ghost use Rattle.sorting.specs.Rows.{rowWidth};
 ghost use Rattle.listing.specs.Listing.{LinkedTo, Ready, Appended, runRow, runRows, bitRecord, arrivalRow, arrivalRows};
 use model::Bits;
 use model::EDGE_WIDTH;
@@ -53,7 +54,7 @@ fn arrival_row(nodes: &[i64], leaf: usize, a: Bits) -> Row
 
 // Stores a row behind the first n rows of `out`. Returns how many rows stand there then.
 pub fn append_row(out: &mut [i64], n: usize, row: Row) -> usize
-    requires { ⌜ 3 * n + 3 ≤ length (now out) ⌝ }
+    requires { ⌜ rowWidth * n + rowWidth ≤ length (now out) ⌝ }
     ensures { λ r. ⌜ Appended (row ∷ []) (now (out .entry)) (now (out .exit)) n r ⌝ }
 {
     sorting::put_row(out, n, row);
@@ -87,7 +88,7 @@ fn list_from(
         LinkedTo (now nodes) (now edges) leaf (now head) (now next)
         × NodeRow (graphOf (now nodes) (now edges)) (pos v)
         × SmallRun (runOf run)
-        × (3 * (n + length (runRows left (graphOf (now nodes) (now edges)) (pos v) (pos leaf) (runOf run))) ≤ length (now out)) ⌝ }
+        × (rowWidth * (n + length (runRows left (graphOf (now nodes) (now edges)) (pos v) (pos leaf) (runOf run))) ≤ length (now out)) ⌝ }
     ensures { λ r. ⌜
         Appended (runRows left (graphOf (now (nodes .entry)) (now (edges .entry))) (pos v) (pos leaf) (runOf run))
         (now (out .entry)) (now (out .exit)) n r ⌝ }
@@ -139,7 +140,7 @@ fn walk_from(
     requires { ⌜
         LinkedTo (now nodes) (now edges) leaf (now head) (now next)
         × NodeRow (graphOf (now nodes) (now edges)) (pos v)
-        × (3 * (n + length (arrivalRows left (graphOf (now nodes) (now edges)) (pos v) (pos leaf) (a .0))) ≤ length (now out)) ⌝ }
+        × (rowWidth * (n + length (arrivalRows left (graphOf (now nodes) (now edges)) (pos v) (pos leaf) (a .0))) ≤ length (now out)) ⌝ }
     ensures { λ r. ⌜
         Appended (arrivalRows left (graphOf (now (nodes .entry)) (now (edges .entry))) (pos v) (pos leaf) (a .0))
         (now (out .entry)) (now (out .exit)) n r ⌝ }
@@ -176,7 +177,7 @@ pub fn list_pair(
 ) -> usize
     requires { ⌜ Ready (now nodes) (now edges) root leaf (now counts) (now work) ⌝ }
     ensures { λ r. ⌜ r ≡ length (listOf (graphOf (now (nodes .entry)) (now (edges .entry))) (pos root) (pos leaf)) ⌝ }
-    ensures { λ r. ⌜ take (3 * r) (now (work .exit)) ≡ numbersOf (listOf (graphOf (now (nodes .entry)) (now (edges .entry))) (pos root) (pos leaf)) ⌝ }
+    ensures { λ r. ⌜ take (rowWidth * r) (now (work .exit)) ≡ numbersOf (listOf (graphOf (now (nodes .entry)) (now (edges .entry))) (pos root) (pos leaf)) ⌝ }
 {
     let mut head = [0usize; MAX_NODES];
     let mut next = [0usize; MAX_EDGES];
@@ -202,7 +203,7 @@ pub fn walk_pair(
     requires { ⌜ Ready (now nodes) (now edges) root leaf (now counts) (now work) ⌝ }
     ensures { λ r. ⌜ r ≡ length (leafBits (graphOf (now (nodes .entry)) (now (edges .entry))) (pos root) (pos leaf) address) ⌝ }
     ensures { λ r. ⌜
-        take (3 * r) (now (work .exit))
+        take (rowWidth * r) (now (work .exit))
         ≡ numbersOf (map bitRecord (leafBits (graphOf (now (nodes .entry)) (now (edges .entry))) (pos root) (pos leaf) address)) ⌝ }
 {
     let mut head = [0usize; MAX_NODES];

@@ -20,21 +20,10 @@ use Rattle.model.specs.Checks.{when, _then_, checkShape, checkGraph, checkPairi
 use Rattle.model.specs.Calls.{full, answer}
 use Rattle.model.specs.Answers.{numbered}
 use Rattle.model.specs.TextCheck.{checkRead, textAnswer}
+use Rattle.model.proofs.Checks.{then-none, then-same}
 use Rattle.mapfile.specs.declared.Sizes.{Sizes}
 use Rattle.mapfile.specs.Tables.{nodeRoom, edgeRoom, pairRoom, cut, Stored}
 use Rattle.mapfile.specs.Given.{front, TablesRead}
-
--- ---- one check after the other
-
-then-same : (a : Option Refusal) {b c : Option Refusal} → (a ≡ none → b ≡ c) → (a then b) ≡ (a then c)
-unfolding _then_
-then-same none h = h refl
-then-same (some r) h = refl
-
-then-none : (a : Option Refusal) {b : Option Refusal} → (a then b) ≡ none → (a ≡ none) × (b ≡ none)
-unfolding _then_
-then-none none e = (refl, e)
-then-none (some r) e = absurd (none-some (sym e))
 
 -- ---- the shape of a table
 
@@ -78,8 +67,8 @@ module _ (t : ℕ) (ns es : List ℤ) where
   graph-whole : checkGraph t ns es ≡ none → (take nodeRoom ns ≡ ns) × (take edgeRoom es ≡ es)
   unfolding checkGraph
   graph-whole e =
-      let n = then-none (checkShape t nodeWidth maxNodes ns) e in
-      let m = then-none (checkShape (suc t) edgeWidth maxEdges es) (n .1) in
+      let n = then-none (checkShape t nodeWidth maxNodes ns) _ e in
+      let m = then-none (checkShape (suc t) edgeWidth maxEdges es) _ (n .1) in
       (shape-whole t nodeWidth maxNodes nodeRoom (omega arith) ns (n .0), shape-whole (suc t) edgeWidth maxEdges edgeRoom (omega arith) es (m .0))
 
 -- ---- all six tables
@@ -113,10 +102,10 @@ module _ (t : Tables) where
   pub cut-whole : checkTables t ≡ none → cut t ≡ t
   unfolding checkTables checkPairing cut
   cut-whole e =
-      let spec = then-none (checkGraph 0 (t .specNodes) (t .specEdges)) e in
-      let impl = then-none (checkGraph 2 (t .implNodes) (t .implEdges)) (spec .1) in
-      let roots = then-none (checkShape 4 pairWidth maxPairs (t .rootPairs)) (impl .1) in
-      let leaves = then-none (checkShape 5 pairWidth maxPairs (t .leafPairs)) (roots .1) in
+      let spec = then-none (checkGraph 0 (t .specNodes) (t .specEdges)) _ e in
+      let impl = then-none (checkGraph 2 (t .implNodes) (t .implEdges)) _ (spec .1) in
+      let roots = then-none (checkShape 4 pairWidth maxPairs (t .rootPairs)) _ (impl .1) in
+      let leaves = then-none (checkShape 5 pairWidth maxPairs (t .leafPairs)) _ (roots .1) in
       let s = graph-whole 0 (t .specNodes) (t .specEdges) (spec .0) in
       let i = graph-whole 2 (t .implNodes) (t .implEdges) (impl .0) in
       rw (

@@ -19,7 +19,7 @@ use Rattle.model.specs.Reader.{fieldsOf, columns, Reading, stopped, rows, stop,
 use Rattle.characters.proofs.Text.{checked}
 use Rattle.cursor.specs.declared.Cursor.{Cursor}
 use Rattle.cursor.specs.Parts.{firstLine, laterLines}
-use Rattle.cursor.specs.Given.{Placed, Stands}
+use Rattle.cursor.specs.Given.{InText, Stands}
 use Rattle.cursor.proofs.Parts.{lines-first}
 use Rattle.cursor.proofs.Lines.{later-behind}
 use Rattle.columns.specs.declared.Columns.{Columns}
@@ -71,7 +71,7 @@ module _ (last : Bool) (t : Table) (several : 2 ≤ length (t .names)) (n : ℕ)
       ap (readTable last t n) (lines-first c u)
       ∙ ap (λ (o : Option (List ℕ)). elim o [ none ↦ stop 13 n | some cs ↦ readValues last cs (suc n) (lines (laterLines (c ∷ u))) ]) e
 
-module _ {t : Table} {text : Bytes} {from : Cursor} {cs : Columns} (several : 2 ≤ length (t .names)) (placed : Placed text from)
+module _ {t : Table} {text : Bytes} {from : Cursor} {cs : Columns} (several : 2 ≤ length (t .names)) (inText : InText text from)
     (g : ColumnsGiven t (firstLine (drop (from .at) text)) cs) where
   -- the names line is wrong
   pub table-wrong : (last : Bool) → cs .found ≡ false → readTable last t (from .line) (lines (drop (from .at) text)) ≡ stopped (numbered 13 6 (from .line))
@@ -92,8 +92,8 @@ module _ {t : Table} {text : Bytes} {from : Cursor} {cs : Columns} (several : 2 
         go (c ∷ u) e q = omega (arith, e)
 
     -- the value lines follow
-    pub table-placed : Placed text next
-    table-placed = record { within = s .within; low = omega (arith, s .line, placed .low, later-behind text (from .at) table-there s) }
+    pub table-in-text : InText text next
+    table-in-text = record { within = s .within; low = omega (arith, s .line, inText .low, later-behind text (from .at) table-there s) }
 
     -- and make up the table
     pub table-values : (last : Bool) → readTable last t (from .line) (lines (drop (from .at) text))

@@ -5,7 +5,7 @@ ghost use lib.ListN.{length, drop};
 ghost use Rattle.model.specs.MapFile.{lines, nodeTable, edgeTable, pairTable};
 ghost use Rattle.model.specs.Reader.{fieldsOf, readTable};
 ghost use Rattle.cursor.specs.Parts.{firstLine};
-ghost use Rattle.cursor.specs.Given.{Placed};
+ghost use Rattle.cursor.specs.Given.{InText};
 ghost use Rattle.columns.specs.Given.{ColumnsGiven};
 ghost use Rattle.sides.specs.Given.{RowsGiven};
 ghost use Rattle.mapfile.specs.Given.{tableOf, roomOf, isLast, lent, Lent, ReadGiven};
@@ -121,7 +121,7 @@ fn read_table(
     first: &mut [i64],
     second: &mut [i64],
 ) -> Rows
-    requires { ⌜ Placed (now text) from × (roomOf table ≤ length (now first)) × (roomOf table ≤ length (now second)) ⌝ }
+    requires { ⌜ InText (now text) from × (roomOf table ≤ length (now first)) × (roomOf table ≤ length (now second)) ⌝ }
     ensures { λ r. ⌜ RowsGiven (readTable (isLast table) (tableOf table) (from .line) (lines (drop (from .at) (now (text .entry))))) (now (text .entry)) (roomOf table) (now (first .entry)) (now (first .exit)) (now (second .entry)) (now (second .exit)) r ⌝ }
 {
     let heading = columns::count_fields(text, from);

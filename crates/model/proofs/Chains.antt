@@ -189,10 +189,6 @@ deep? g =
       λ c. record { from = c .from; to = c .to; edges = c .edges; long = c .long; chain = c .chain },
     ) in decides-as same (longer? maxChain g)
 
--- where a chain has more than 64 edges, some way has 65
-pub deep-way : {g : Graph} → LongChain g → (v w : ℤ) × (p : List Edge) × Way g v p w × (length p ≡ suc maxChain)
-deep-way c = let r = way-take (c .chain) (suc maxChain) (c .long) in (c .from, r .0, take (suc maxChain) (c .edges), r .1, r .2)
-
 -- ---- more numbers than there are rows
 
 -- some element stands twice

@@ -2,7 +2,7 @@
 -- reached sets of the two graphs what they report. And a pair is partial exactly where its
 -- reached sets are: `partial-by-walks`.
 use mathlib.Core.Path.{_≡_, refl, sym, ap, _∙_, subst}
-use mathlib.Core.List.{List, [], _∷_, map, map-map, List·Memᴰ·head, List·Memᴰ·tail, List·Memᴰ·not-nil}
+use mathlib.Core.List.{List, [], _∷_, map, map-map, List·Memᴰ·head, List·Memᴰ·not-nil}
 use mathlib.Core.Logic.{_≢_, _⊎_, inl, inr, _↔_, Iff·trans, Iff·symm}
 use mathlib.Core.Option.{Option, none, some}
 use Prim.Native.Nat.{ℕ, _+_, _*_, _≤_}
@@ -14,14 +14,14 @@ use Rattle.integers.proofs.Linear.{ints}
 use Rattle.lists.specs.Lists.{_∈_}
 use Rattle.lists.proofs.Membership.{map-in, map-out}
 use Rattle.lists.proofs.Decisions.{test-stable}
+use Rattle.lists.proofs.Places.{map-same}
 use Rattle.model.specs.Rows.{Pair}
 use Rattle.model.specs.Bitmapping.{Record, IsBitmappingList}
 use Rattle.model.specs.Runs.{listOf}
 use Rattle.model.specs.Verdicts.{verdict, lowest}
 use Rattle.model.specs.Compare.{Tables, specGraph, implGraph, rootRows, leafRows, Visit, visits, Finding, findingOf, findings, verdictOf, count, largest, firstUnequal, placeOf, Result, resultOf}
-use Rattle.model.specs.Refusals.{Refusal, NoneHolds, compareConditions}
-use Rattle.model.specs.Checks.{checkTables}
-use Rattle.model.specs.Calls.{full, answer, compareAnswer}
+use Rattle.model.specs.Refusals.{NoneHolds, compareConditions}
+use Rattle.model.specs.Calls.{full, compareAnswer}
 use Rattle.model.specs.Demands.{Address, InSpec, InImpl, SameSets, SetsDiffer, VisitedBefore, inOrder, VerdictsOfPairs, FirstDifference, Demand3, PartialPair, PartialByWalks, MissingFrom}
 use Rattle.model.proofs.Paths.{Fit}
 use Rattle.model.proofs.Records.{has-at}
@@ -173,11 +173,6 @@ module _ (t : Tables) where
       range : (v : ℕ) → v ∈ verdicts t → v ≤ 2
       range v m = let w = map-out verdictOf (findings t) m in rw (w .2) (verdict-range (w .0 .spec) (w .0 .impl))
 
--- two functions that agree on a list have the same images of it
-map-same : {A B : Type 0} (f g : A → B) (l : List A) → ((x : A) → x ∈ l → f x ≡ g x) → map f l ≡ map g l
-map-same f g [] h = refl
-map-same f g (x ∷ l) h = cc (h x (List·Memᴰ·head refl), map-same f g l (λ y m. h y (List·Memᴰ·tail m)))
-
 module _ {t : Tables} (c : Comparable t) where
   -- verdicts that the comparing rules give for any lists that are the bitmapping lists of the pairs are those of the findings: there
   -- are no other such lists, and the rules give one verdict
@@ -263,16 +258,6 @@ module _ {t : Tables} (c : Comparable t) where
 -- where no condition holds, compare gives its full result
 pub compare-full : (t : Tables) → NoneHolds (compareConditions t) → compareAnswer t ≡ full (resultOf (findings t))
 compare-full t h = compare-exact t .gives .1 h
-
-answer-only : {A : Type 0} {a b : A} (c : Option Refusal) → answer c a ≡ full b → answer c a ≡ full a
-unfolding answer
-answer-only none e = refl
-answer-only (some r) e = cc
-
--- and only there
-pub compare-full-only : (t : Tables) {res : Result} → compareAnswer t ≡ full res → NoneHolds (compareConditions t)
-unfolding compareAnswer
-compare-full-only t e = compare-exact t .gives .0 (answer-only (checkTables t) e)
 
 -- demand 3 holds of the result
 result-demand : {t : Tables} → Comparable t → Demand3 t (resultOf (findings t))

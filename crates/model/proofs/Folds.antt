@@ -111,10 +111,6 @@ first-unequal (f ∷ fs) = go (eqb (verdictOf f) 0) (eq? (verdictOf f) 0) (first
     go true (passed e) o h = next e o h
     go false (failed n) o h = record { earlier = []; later = fs; split = refl; equal = λ e m. absurd (List·Memᴰ·not-nil m); unequal = n }
 
--- it gives a finding only where that is the first unequal one
-pub first-unequal-some : {f : Finding} (fs : List Finding) → firstUnequal fs ≡ some f → FirstUnequal fs f
-first-unequal-some fs e = subst (FirstFound fs) e (first-unequal fs)
-
 -- it gives none exactly where all verdicts are 0
 pub first-unequal-none : (fs : List Finding) → (firstUnequal fs ≡ none) ↔ ((f : Finding) → f ∈ fs → verdictOf f ≡ 0)
 first-unequal-none fs = (λ e. subst (FirstFound fs) e (first-unequal fs), λ h. go h (firstUnequal fs) (first-unequal fs))

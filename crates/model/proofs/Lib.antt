@@ -11,6 +11,7 @@ pub mod Lowest
 pub mod Containment
 pub mod ListLaw
 pub mod Chains
+pub mod Checks
 pub mod Settled
 pub mod GraphChecks
 pub mod Taken

@@ -312,9 +312,3 @@ pub normal-length : (l : List Record) → length (normal l) ≤ length l
 unfolding normal
 normal-length [] = omega arith
 normal-length (r ∷ l) = omega (arith, add-length r (normal l), normal-length l)
-
--- only the empty list is empty when normalised
-pub normal-nil-only : (l : List Record) → normal l ≡ [] → l ≡ []
-unfolding normal
-normal-nil-only [] e = refl
-normal-nil-only (r ∷ l) e = absurd (omega (arith, add-length r (normal l), ap length e))

@@ -12,6 +12,7 @@ use Rattle.lists.specs.Lists.{_∈_}
 use Rattle.model.specs.Refusals.{Refusal, Condition, NoneHolds, FirstHolds, refuse, _next_}
 use Rattle.model.specs.Checks.{when, _then_, firstOf}
 use Rattle.model.specs.Calls.{Answer, refused, full, answer}
+use Rattle.model.proofs.Checks.{answer-some, answer-none}
 
 -- the check settles the conditions: it gives the refusal of the first that holds, or none where none holds
 abbrev pub Settled : Option Refusal → List Condition → Type 0
@@ -146,23 +147,13 @@ module _ {A P : Type 0} (n t r : ℕ) where
 -- ---- what a call answers
 
 module _ {A : Type 0} (a : A) where
-  answer-some : (c : Option Refusal) {r : Refusal} → (answer c a ≡ refused r) ↔ (c ≡ some r)
-  unfolding answer
-  answer-some none = (λ e. cc, λ e. cc)
-  answer-some (some s) = (λ e. cc, λ e. cc)
-
-  answer-none : (c : Option Refusal) → (answer c a ≡ full a) ↔ (c ≡ none)
-  unfolding answer
-  answer-none none = (λ e. refl, λ e. refl)
-  answer-none (some s) = (λ e. cc, λ e. cc)
-
   -- a call whose check settles refuses exactly with the refusal of the first condition that holds
   pub answer-refused : (c : Option Refusal) {r : Refusal} (cs : List Condition) → Settled c cs → (answer c a ≡ refused r) ↔ FirstHolds r cs
-  answer-refused c cs h = Iff·trans (answer-some c) (settled-some c cs h)
+  answer-refused c cs h = Iff·trans (answer-some a c) (settled-some c cs h)
 
   -- a call whose check settles gives its full result exactly when no condition holds
   pub answer-full : (c : Option Refusal) (cs : List Condition) → Settled c cs → (answer c a ≡ full a) ↔ NoneHolds cs
-  answer-full c cs h = Iff·trans (answer-none c) (settled-none c cs h)
+  answer-full c cs h = Iff·trans (answer-none a c) (settled-none c cs h)
 
   -- a call whose check settles its conditions answers exactly
   pub answer-exact : (c : Option Refusal) (cs : List Condition) → Settled c cs → Exact (answer c a) a cs

@@ -1,35 +1,33 @@
 -- What a graph that meets no condition for a refusal has, and the range of its bit addresses and bit offsets.
 use mathlib.Core.Path.{_≡_, refl, sym, ap, subst}
 use mathlib.Core.Logic.{_≢_, inl, inr, ⊎-elim}
-use mathlib.Core.List.{List, [], _∷_, flatMap, List·Memᴰ·head, List·Memᴰ·tail}
-use Prim.Native.Nat.{ℕ, zero, suc, _+_, _*_, _%_, _≤_, _<_, _^_}
+use mathlib.Core.List.{List, flatMap}
+use mathlib.Core.Option.{none}
+use Prim.Native.Nat.{ℕ, suc, _+_, _*_, _%_, _≤_}
 use native.Mathlib.Nat.{mul-le-mul}
 use native.Mathlib.Omega.{arith}
 use lib.IntN.{ℤ, pos, negsuc, negℤ, _+ℤ_, _*ℤ_}
 use lib.Signed.{_≤ℤ_}
-use lib.ListN.{length, getD}
+use lib.ListN.{length}
 use Rattle.integers.proofs.Linear.{plus, minus, ints, sum, diff, neg}
 use Rattle.integers.proofs.Products.{times, times-bound}
 use Rattle.integers.proofs.Tests.{le?, eq?, leb?}
 use Rattle.lists.proofs.Decisions.{test-stable}
 use Rattle.lists.specs.Lists.{_∈_}
+use Rattle.lists.proofs.Places.{getD-in}
 use Rattle.model.specs.Limits.{nodeWidth, edgeWidth, maxNodes, maxEdges, maxUnits, maxBits, lastAddress}
 use Rattle.model.specs.Rows.{Node, Edge, nodeRows, edgeRows}
 use Rattle.model.specs.Graph.{Graph, graphOf, NodeRow, noNode, node, block, firstBit, lastBit, bitOffset}
 use Rattle.model.specs.Walk.{StandsOn}
 use Rattle.model.specs.Paths.{Leaf, Cycle, LongChain}
 use Rattle.model.specs.Refusals.{NoneHolds, refuse, _next_, Kind, AddressUnit, BadNode, unknownKind, unknownUnit, lowBase, lowRange, highEnd, LowOffset, HighOffset, lowOffset, highOffset, BadShape, broken, tooMany, shapeConditions, nodeConditions, edgeConditions, rowConditions, graphConditions}
+use Rattle.model.specs.Checks.{checkShape}
 use Rattle.model.specs.Taken.{Taken, GoodShape, TakenTables}
-use Rattle.model.proofs.Settled.{none-next, none-flatMap}
+use Rattle.model.proofs.Settled.{Settled, none-next, none-flatMap}
 use Rattle.model.proofs.Paths.{Fit, edges-distinct}
-use Rattle.model.proofs.GraphChecks.{isKind?, isUnit?, GoodOffset, offset?, edges-good, edges-end}
+use Rattle.model.proofs.GraphChecks.{shape-settled, isKind?, isUnit?, GoodOffset, offset?, edges-good, edges-end}
 
 -- ---- a graph that meets no condition is taken
-
-getD-in : {A : Type 0} (l : List A) (i : ℕ) (d : A) → i < length l → getD l i d ∈ l
-getD-in [] i d h = absurd (omega arith)
-getD-in (x ∷ l) zero d h = List·Memᴰ·head refl
-getD-in (x ∷ l) (suc i) d h = List·Memᴰ·tail (getD-in l i d (omega arith))
 
 -- a node row's node is one of the table
 pub node-in : (g : Graph) (v : ℤ) → NodeRow g v → node g v ∈ g .nodes
@@ -80,6 +78,13 @@ shape-good width most xs n =
       whole = test-stable (eq? (length xs % width) 0) (λ k. n (broken k));
       few = test-stable (leb? (length xs) (width * most)) (λ k. n (tooMany k));
     }
+
+-- a shape that is not refused is good
+pub shape-taken : (t width most : ℕ) (xs : List ℤ) → checkShape t width most xs ≡ none → GoodShape width most xs
+unfolding shapeConditions
+shape-taken t width most xs e =
+    let good : NoneHolds (shapeConditions t width most xs) = subst (λ c. Settled c (shapeConditions t width most xs)) e (shape-settled t width most xs) in
+    shape-good width most xs (good .0)
 
 -- the tables of a graph that meets no condition are taken
 pub tables-taken : (t : ℕ) (ns es : List ℤ) → NoneHolds (graphConditions t ns es) → TakenTables ns es

@@ -197,11 +197,6 @@ fullRuns g r ps = keep (λ s. not (empty s)) (map (λ p. along g p r) ps)
 unfoldable pub runsFrom : ℕ → Graph → ℤ → ℤ → Run → List Run
 runsFrom k g v l r = fullRuns g r (pathsWithin k g v l)
 
--- the runs of a root and a leaf start from all bits of the root
-pub runs-whole : (g : Graph) (r l : ℤ) → runs g r l ≡ runsFrom maxChain g r l (whole (node g r))
-unfolding runs runsFrom paths
-runs-whole g r l = refl
-
 -- from an empty run there is none
 pub runs-empty : (k : ℕ) (g : Graph) (v l : ℤ) (r : Run) → T (empty r) → runsFrom k g v l r ≡ []
 unfolding runsFrom

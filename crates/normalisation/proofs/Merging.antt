@@ -71,25 +71,25 @@ mergeInto-sound r (s ∷ t) {x} {y} h =
     apart (z, List·Memᴰ·tail m, j) rec = let (q, p, k) = rec (z, m, j) in (q, List·Memᴰ·tail p, k)
 
 -- the record lies within one of the list
-abbrev Covered : Record → List Record → Type 0
-Covered z l = (s : Record) × (s ∈ l) × Within z s
+abbrev WithinSome : Record → List Record → Type 0
+WithinSome z l = (s : Record) × (s ∈ l) × Within z s
 
 -- a record that was merged lies within a merged record
-mergeInto-covers : (r : Record) (l : List Record) (z : Record) → z ∈ (r ∷ l) → Covered z (mergeInto r l)
+mergeInto-within : (r : Record) (l : List Record) (z : Record) → z ∈ (r ∷ l) → WithinSome z (mergeInto r l)
 unfolding mergeInto
-mergeInto-covers r [] z m = (z, m, within-refl z)
-mergeInto-covers r (s ∷ t) z m =
-    mergeInto-cases (Covered z) r s t (λ k. joined k m (mergeInto-covers (hull r s) t)) (λ k. apart m (mergeInto-covers s t))
+mergeInto-within r [] z m = (z, m, within-refl z)
+mergeInto-within r (s ∷ t) z m =
+    mergeInto-cases (WithinSome z) r s t (λ k. joined k m (mergeInto-within (hull r s) t)) (λ k. apart m (mergeInto-within s t))
   where
-    wider : {z q : Record} → Within z q → Covered q (mergeInto (hull r s) t) → Covered z (mergeInto (hull r s) t)
+    wider : {z q : Record} → Within z q → WithinSome q (mergeInto (hull r s) t) → WithinSome z (mergeInto (hull r s) t)
     wider w (p, m, v) = (p, m, within-trans w v)
 
-    joined : Touch r s → z ∈ (r ∷ s ∷ t) → ((q : Record) → q ∈ (hull r s ∷ t) → Covered q (mergeInto (hull r s) t)) → Covered z (mergeInto (hull r s) t)
+    joined : Touch r s → z ∈ (r ∷ s ∷ t) → ((q : Record) → q ∈ (hull r s ∷ t) → WithinSome q (mergeInto (hull r s) t)) → WithinSome z (mergeInto (hull r s) t)
     joined k (List·Memᴰ·head e) rec = rw e (wider (hull-left r s) (rec (hull r s) (List·Memᴰ·head refl)))
     joined k (List·Memᴰ·tail (List·Memᴰ·head e)) rec = rw e (wider (hull-right k) (rec (hull r s) (List·Memᴰ·head refl)))
     joined k (List·Memᴰ·tail (List·Memᴰ·tail p)) rec = rec z (List·Memᴰ·tail p)
 
-    apart : z ∈ (r ∷ s ∷ t) → ((q : Record) → q ∈ (s ∷ t) → Covered q (mergeInto s t)) → Covered z (r ∷ mergeInto s t)
+    apart : z ∈ (r ∷ s ∷ t) → ((q : Record) → q ∈ (s ∷ t) → WithinSome q (mergeInto s t)) → WithinSome z (r ∷ mergeInto s t)
     apart (List·Memᴰ·head e) rec = (z, List·Memᴰ·head e, within-refl z)
     apart (List·Memᴰ·tail p) rec = let (q, j, w) = rec z p in (q, List·Memᴰ·tail j, w)
 
@@ -103,7 +103,7 @@ merged-sound (r ∷ l) h = mergeInto-sound r l h
 pub merged-complete : (l : List Record) {x y : ℤ} → Held l x y → Held (merged l) x y
 unfolding merged
 merged-complete [] h = h
-merged-complete (r ∷ l) (s, m, h) = let (z, p, w) = mergeInto-covers r l s m in (z, p, within-has w h)
+merged-complete (r ∷ l) (s, m, h) = let (z, p, w) = mergeInto-within r l s m in (z, p, within-has w h)
 
 -- ---- no two touch
 

@@ -8,7 +8,7 @@ use lib.IntN.{ℤ}
 use Rattle.lists.specs.Lists.{_∈_}
 use Rattle.lists.proofs.Membership.{map-in}
 use Rattle.sorting.specs.declared.Row.{Row}
-use Rattle.sorting.specs.Rows.{rowAt, rowsOf, rowsFrom}
+use Rattle.sorting.specs.Rows.{rowWidth, rowAt, rowsOf, rowsFrom}
 use Rattle.sorting.proofs.Tables.{rowsOf-length, rowsOf-add, rowsOf-take, rowsFrom-more, rowsFrom-none, rowsFrom-start}
 use Rattle.model.specs.Bitmapping.{Record, IsListOf}
 use Rattle.model.specs.Calls.{numbersOf}
@@ -23,9 +23,9 @@ recordsOf-numbersOf [] rest = refl
 recordsOf-numbersOf (r ∷ rs) rest = ap {B = List Record} (λ l. r ∷ l) (recordsOf-numbersOf rs rest)
 
 -- the same of a list that has the numbers of n records in front
-pub recordsOf-front : {rs : List Record} (t : List ℤ) (n : ℕ) → length rs ≡ n → take (3 * n) t ≡ numbersOf rs → recordsOf t n ≡ rs
+pub recordsOf-front : {rs : List Record} (t : List ℤ) (n : ℕ) → length rs ≡ n → take (rowWidth * n) t ≡ numbersOf rs → recordsOf t n ≡ rs
 recordsOf-front {rs} t n e h =
-    ap (map ofRow) (sym (rowsOf-take t (3 * n) n (omega arith))) ∙ ap (λ (l : List ℤ). recordsOf l n) (h ∙ sym (append-nil (numbersOf rs)))
+    ap (map ofRow) (sym (rowsOf-take t (rowWidth * n) n (omega arith))) ∙ ap (λ (l : List ℤ). recordsOf l n) (h ∙ sym (append-nil (numbersOf rs)))
     ∙ ap (recordsOf (numbersOf rs ++ [])) (sym e) ∙ recordsOf-numbersOf rs []
 
 -- n records are read
@@ -58,6 +58,6 @@ pub list-normal : {S : ℤ → ℤ → Type 0} {l : List Record} → IsListOf S 
 list-normal L = record { full = L .full; ordered = L .ordered; apart = λ r s p q t. list-touch L L p q (touch-is r s .0 t) }
 
 -- the list of a set whose numbers stand in the front of t is a normal list there
-pub stored-normal : {S : ℤ → ℤ → Type 0} {rs : List Record} (t : List ℤ) (n : ℕ) → 3 * n ≤ length t → length rs ≡ n → take (3 * n) t ≡ numbersOf rs
+pub stored-normal : {S : ℤ → ℤ → Type 0} {rs : List Record} (t : List ℤ) (n : ℕ) → rowWidth * n ≤ length t → length rs ≡ n → take (rowWidth * n) t ≡ numbersOf rs
     → IsListOf S rs → NormalList t n
 stored-normal t n h e f L = record { within = h; normal = rw (recordsOf-front t n e f) (list-normal L) }

@@ -15,19 +15,19 @@ use Rattle.integers.proofs.Tests.{max-is}
 use Rattle.lists.specs.Lists.{_∈_}
 use Rattle.lists.proofs.Membership.{map-in}
 use Rattle.sorting.specs.declared.Row.{Row}
-use Rattle.sorting.specs.Rows.{rowAt, rowsOf, rowsFrom, numbersOf}
+use Rattle.sorting.specs.Rows.{rowWidth, rowAt, rowsOf, rowsFrom, numbersOf}
 use Rattle.sorting.proofs.Tables.{rowsOf-length, rowsOf-add, numbersOf-rowsOf, rowAt-drop, rowsFrom-more, rowsFrom-none, rowsFrom-start, front-length, front-behind, front-more}
 use Rattle.model.specs.Bitmapping.{Record}
 use Rattle.model.specs.Runs.{touch, hull}
 use Rattle.model.specs.Calls as calls
 use Rattle.model.proofs.Records.{hull-left}
-use Rattle.normalisation.specs.Merging.{byDisplacement, ofDisplacement, ofFirst, asListed, recordsOf, Small, AllSmall, mergeInto, merged, Apart}
+use Rattle.normalisation.specs.Merging.{byDisplacement, ofDisplacement, ofFirst, asListed, displacedOf, SmallLast, AllSmallLast, mergeInto, merged, Apart}
 use Rattle.normalisation.proofs.Sorted.{rows-back}
 
 -- ---- merging
 
 -- the hull of two small records is small
-hull-small : {r s : Record} → Small r → Small s → Small (hull r s)
+hull-small : {r s : Record} → SmallLast r → SmallLast s → SmallLast (hull r s)
 unfolding hull
 hull-small {r} {s} p q =
     record { full = omega (arith, ints, p .full, hull-left r s .first, hull-left r s .last); high = go (max-is (r .last) (s .last) .2) }
@@ -48,14 +48,14 @@ rowsOf-split t n i h =
     ap (rowsOf t) e ∙ rowsOf-add t i (n - i) ∙ ap (λ (l : List Row). rowsOf t i ++ l) (rowsFrom-more t i n h)
 
 -- so that the record of row i is small where all are
-pub row-small : (t : List ℤ) (n i : ℕ) → i < n → AllSmall (recordsOf t n) → Small (ofDisplacement (rowAt t i))
+pub row-small : (t : List ℤ) (n i : ℕ) → i < n → AllSmallLast (displacedOf t n) → SmallLast (ofDisplacement (rowAt t i))
 row-small t n i h all =
     let m : rowAt t i ∈ rowsOf t n = rw (rowsOf-split t n i h) (Memᴰ·append-right (rowsOf t i) (List·Memᴰ·head refl)) in
     all (ofDisplacement (rowAt t i)) (map-in ofDisplacement m)
 
 -- the list with a row stored behind k rows
 abbrev stored : List ℤ → ℕ → Row → List ℤ
-stored out k r = take (3 * k) out ++ (numbersOf (r ∷ []) ++ drop (3 * k + 3) out)
+stored out k r = take (rowWidth * k) out ++ (numbersOf (r ∷ []) ++ drop (rowWidth * k + rowWidth) out)
 
 module _ (t : List ℤ) (n : ℕ) where
   -- what the rows from i on give, merged into the current record
@@ -87,17 +87,17 @@ module _ (f : Record → Row) (t : List ℤ) (n : ℕ) (old : List ℤ) where
     pub fewer : k < i
     pub written : List Record
     pub size : length written ≡ k
-    pub front : out ≡ numbersOf (map f written) ++ drop (3 * k) old
-    pub rest : merged (recordsOf t n) ≡ written ++ left t n (ofDisplacement current) i
-    pub small : Small (ofDisplacement current)
+    pub front : out ≡ numbersOf (map f written) ++ drop (rowWidth * k) old
+    pub rest : merged (displacedOf t n) ≡ written ++ left t n (ofDisplacement current) i
+    pub small : SmallLast (ofDisplacement current)
 
   -- no row gives no record
-  pub pass-none : n ≡ 0 → (0 ≡ length (merged (recordsOf t n))) × (old ≡ numbersOf (map f (merged (recordsOf t n))) ++ old)
+  pub pass-none : n ≡ 0 → (0 ≡ length (merged (displacedOf t n))) × (old ≡ numbersOf (map f (merged (displacedOf t n))) ++ old)
   unfolding rowsOf numbersOf merged
   pass-none e = rw e (refl, refl)
 
   -- the first record is the current one before the others are read
-  pub pass-start : 0 < n → AllSmall (recordsOf t n) → Pass old (rowAt t 0) 1 0
+  pub pass-start : 0 < n → AllSmallLast (displacedOf t n) → Pass old (rowAt t 0) 1 0
   unfolding numbersOf merged
   pass-start h all =
       record {
@@ -116,18 +116,18 @@ module _ {f : Record → Row} {t : List ℤ} {n : ℕ} {old out : List ℤ} {cur
   written-rows = length-map (m .written) f ∙ m .size
 
   -- the list keeps its length
-  pub pass-length : 3 * n ≤ length old → length out ≡ length old
+  pub pass-length : rowWidth * n ≤ length old → length out ≡ length old
   pass-length h = ap length (m .front) ∙ front-length (map f (m .written)) old k written-rows (omega (arith, m .read, m .fewer))
 
   -- the current record is written
   pass-stored : stored out k (f (ofDisplacement current))
-      ≡ numbersOf (map f (m .written ++ (ofDisplacement current ∷ []))) ++ drop (3 * (k + 1)) old
+      ≡ numbersOf (map f (m .written ++ (ofDisplacement current ∷ []))) ++ drop (rowWidth * (k + 1)) old
   pass-stored =
       rw (m .front, map-append f (m .written) (ofDisplacement current ∷ []))
       (front-more (map f (m .written)) old k (f (ofDisplacement current)) written-rows)
 
   -- the next record touches the current one and is joined with it
-  pub pass-joined : i < n → AllSmall (recordsOf t n) → touch (ofDisplacement current) (ofDisplacement (rowAt t i)) ≡ true
+  pub pass-joined : i < n → AllSmallLast (displacedOf t n) → touch (ofDisplacement current) (ofDisplacement (rowAt t i)) ≡ true
       → Pass f t n old out (byDisplacement (hull (ofDisplacement current) (ofDisplacement (rowAt t i)))) (i + 1) k
   pass-joined h all e =
       record {
@@ -141,7 +141,7 @@ module _ {f : Record → Row} {t : List ℤ} {n : ℕ} {old out : List ℤ} {cur
       }
 
   -- the next record does not touch the current one, which is written
-  pub pass-apart : i < n → AllSmall (recordsOf t n) → touch (ofDisplacement current) (ofDisplacement (rowAt t i)) ≡ false
+  pub pass-apart : i < n → AllSmallLast (displacedOf t n) → touch (ofDisplacement current) (ofDisplacement (rowAt t i)) ≡ false
       → Pass f t n old (stored out k (f (ofDisplacement current))) (rowAt t i) (i + 1) (k + 1)
   pass-apart h all e =
       record {
@@ -157,22 +157,22 @@ module _ {f : Record → Row} {t : List ℤ} {n : ℕ} {old out : List ℤ} {cur
       }
 
   -- no row is left: the current record is the last
-  pass-all : n ≤ i → merged (recordsOf t n) ≡ m .written ++ (ofDisplacement current ∷ [])
+  pass-all : n ≤ i → merged (displacedOf t n) ≡ m .written ++ (ofDisplacement current ∷ [])
   pass-all h = m .rest ∙ ap (λ (l : List Record). m .written ++ l) (left-last t n (ofDisplacement current) i h)
 
   -- it is counted
-  pub pass-count : n ≤ i → k + 1 ≡ length (merged (recordsOf t n))
+  pub pass-count : n ≤ i → k + 1 ≡ length (merged (displacedOf t n))
   pass-count h = rw (pass-all h) (sym (length-append (m .written) (ofDisplacement current ∷ []) ∙ omega (arith, m .size)))
 
   -- and once it is written, all are
-  pub pass-end : n ≤ i → stored out k (f (ofDisplacement current)) ≡ numbersOf (map f (merged (recordsOf t n))) ++ drop (3 * (k + 1)) old
+  pub pass-end : n ≤ i → stored out k (f (ofDisplacement current)) ≡ numbersOf (map f (merged (displacedOf t n))) ++ drop (rowWidth * (k + 1)) old
   pass-end h = rw (pass-all h) pass-stored
 
   -- the next row is as it was
   pub pass-next : rowAt out i ≡ rowAt old i
   pass-next =
       sym (rowAt-drop out i)
-      ∙ ap (λ (l : List ℤ). rowAt l 0) (ap (drop (3 * i)) (m .front) ∙ front-behind (map f (m .written)) old k i written-rows (omega (arith, m .fewer)))
+      ∙ ap (λ (l : List ℤ). rowAt l 0) (ap (drop (rowWidth * i)) (m .front) ∙ front-behind (map f (m .written)) old k i written-rows (omega (arith, m .fewer)))
       ∙ rowAt-drop old i
 
 -- ---- rows that do not touch the next
@@ -188,24 +188,24 @@ module _ {t : List ℤ} {n k : ℕ} (a : Apart t n k) where
   apart-more h e =
       let last = ofDisplacement (rowAt t k) in
       let rest = left t n (ofDisplacement (rowAt t (k + 1))) (k + 1 + 1) in
-      let more : recordsOf t (k + 1) ≡ recordsOf t k ++ (last ∷ []) =
+      let more : displacedOf t (k + 1) ≡ displacedOf t k ++ (last ∷ []) =
       ap (map ofDisplacement) (rowsOf-next t k) ∙ map-append ofDisplacement (rowsOf t k) (rowAt t k ∷ []) in
       record {
         inside = h;
         rest =
-            a .rest ∙ ap (λ (l : List Record). recordsOf t k ++ l) (left-apart t n last (k + 1) h e) ∙ sym (append-assoc (recordsOf t k) (last ∷ []) rest)
+            a .rest ∙ ap (λ (l : List Record). displacedOf t k ++ l) (left-apart t n last (k + 1) h e) ∙ sym (append-assoc (displacedOf t k) (last ∷ []) rest)
             ∙ ap (λ (l : List Record). l ++ rest) (sym more);
       }
 
   -- the rows in front of row k are written where they stand
-  pub apart-pass : 3 * n ≤ length t → AllSmall (recordsOf t n) → Pass byDisplacement t n t t (rowAt t k) (k + 1) k
+  pub apart-pass : rowWidth * n ≤ length t → AllSmallLast (displacedOf t n) → Pass byDisplacement t n t t (rowAt t k) (k + 1) k
   apart-pass fits all =
       record {
         read = omega (arith, a .inside);
         fewer = omega arith;
-        written = recordsOf t k;
+        written = displacedOf t k;
         size = length-map (rowsOf t k) ofDisplacement ∙ rowsOf-length t k;
-        front = sym (rw (rows-back (rowsOf t k), numbersOf-rowsOf t k (omega (arith, a .inside))) (take-append-drop (3 * k) t));
+        front = sym (rw (rows-back (rowsOf t k), numbersOf-rowsOf t k (omega (arith, a .inside))) (take-append-drop (rowWidth * k) t));
         rest = a .rest;
         small = row-small t n k (a .inside) all;
       }
@@ -219,7 +219,7 @@ listedRow r = asListed (ofFirst r)
 -- the first i of the rows of t are written
 pub record Listed (t : List ℤ) (n : ℕ) (old out : List ℤ) (i : ℕ) : Type 0 where
   pub read : i ≤ n
-  pub front : out ≡ numbersOf (map listedRow (rowsOf t i)) ++ drop (3 * i) old
+  pub front : out ≡ numbersOf (map listedRow (rowsOf t i)) ++ drop (rowWidth * i) old
 
 module _ (t : List ℤ) (n : ℕ) (old : List ℤ) where
   -- none is written
@@ -233,7 +233,7 @@ module _ {t : List ℤ} {n : ℕ} {old out : List ℤ} {i : ℕ} (m : Listed t n
   listed-rows = length-map (rowsOf t i) listedRow ∙ rowsOf-length t i
 
   -- the list keeps its length
-  pub listed-length : 3 * n ≤ length old → length out ≡ length old
+  pub listed-length : rowWidth * n ≤ length old → length out ≡ length old
   listed-length h = ap length (m .front) ∙ front-length (map listedRow (rowsOf t i)) old i listed-rows (omega (arith, m .read))
 
   -- one row more
@@ -254,5 +254,5 @@ listed-numbers (r ∷ l) = ap {B = List ℤ} (λ k. r .first ∷ r .third ∷ r 
 
 -- all rows are written
 pub listed-end : {t : List ℤ} {n : ℕ} {old out : List ℤ} {i : ℕ} → Listed t n old out i → n ≤ i
-    → out ≡ calls.numbersOf (map ofFirst (rowsOf t n)) ++ drop (3 * n) old
+    → out ≡ calls.numbersOf (map ofFirst (rowsOf t n)) ++ drop (rowWidth * n) old
 listed-end {t} {n} {i} m h = let e : i ≡ n = omega (arith, m .read) in m .front ∙ rw (e, listed-numbers (rowsOf t n)) refl

@@ -35,17 +35,17 @@ abbrev pub asListed : Record → Row
 asListed s = record { first = s .first; second = s .last; third = s .displacement }
 
 -- the records whose rows, ordered by displacement, the first n rows of the flat list t are
-abbrev pub recordsOf : List ℤ → ℕ → List Record
-recordsOf t n = map ofDisplacement (rowsOf t n)
+abbrev pub displacedOf : List ℤ → ℕ → List Record
+displacedOf t n = map ofDisplacement (rowsOf t n)
 
 -- a record that has a bit, and whose bits lie below 2^62: one more than its last bit is a number of 64 bits
-pub record Small (s : Record) : Type 0 where
+pub record SmallLast (s : Record) : Type 0 where
   pub full : s .first ≤ℤ s .last
   pub high : s .last <ℤ pos addressRoom
 
--- every record of the list is small
-abbrev pub AllSmall : List Record → Type 0
-AllSmall l = (s : Record) → s ∈ l → Small s
+-- every record of the list has a bit, and its bits lie below 2^62
+abbrev pub AllSmallLast : List Record → Type 0
+AllSmallLast l = (s : Record) → s ∈ l → SmallLast s
 
 -- ---- merging
 
@@ -65,7 +65,7 @@ merged (s ∷ t) = mergeInto s t
 -- merging the records of the first n rows of t leaves those of the first k as they are, and goes on from that of row k
 pub record Apart (t : List ℤ) (n k : ℕ) : Type 0 where
   pub inside : k < n
-  pub rest : merged (recordsOf t n) ≡ recordsOf t k ++ mergeInto (ofDisplacement (rowAt t k)) (map ofDisplacement (rowsFrom t (k + 1) n))
+  pub rest : merged (displacedOf t n) ≡ displacedOf t k ++ mergeInto (ofDisplacement (rowAt t k)) (map ofDisplacement (rowsFrom t (k + 1) n))
 
 -- ---- normalisation
 

@@ -8,7 +8,7 @@ use lib.IntN.{ℤ}
 use lib.Signed.{_≤ℤ_}
 use Rattle.lists.specs.Lists.{_∈_}
 use Rattle.sorting.specs.declared.Row.{Row}
-use Rattle.sorting.specs.Rows.{rowAt, rowsOf, rowsFrom}
+use Rattle.sorting.specs.Rows.{rowWidth, rowAt, rowsOf, rowsFrom}
 use Rattle.model.specs.Bitmapping.{Record, Ordered}
 use Rattle.model.specs.Runs.{touch}
 
@@ -40,5 +40,5 @@ pub record IsNormal (l : List Record) : Type 0 where
 
 -- n records stand in the front of the flat list t, and they are a normal list
 pub record NormalList (t : List ℤ) (n : ℕ) : Type 0 where
-  pub within : 3 * n ≤ length t
+  pub within : rowWidth * n ≤ length t
   pub normal : IsNormal (recordsOf t n)

@@ -2,35 +2,22 @@
 // or left in the order by displacement.
 ghost use mathlib.Core.Path.{_≡_};
 ghost use mathlib.Core.List.{_++_, map};
-ghost use Prim.Native.Nat.{_+_, _*_, _≤_, _<_, _^_};
+ghost use Prim.Native.Nat.{_+_, _*_, _≤_, _<_};
 ghost use lib.IntN.{pos, _+ℤ_};
 ghost use lib.Signed.{leZ, _<ℤ_};
 ghost use lib.ListN.{length, take, drop};
-ghost use Rattle.integers.specs.Integers.{minZ, maxZ};
-ghost use Rattle.sorting.specs.Rows.{rowsOf};
+ghost use Rattle.sorting.specs.Rows.{rowWidth, rowsOf};
 ghost use Rattle.sorting.specs.Rows as rows;
+ghost use Rattle.model.specs.Limits.{addressRoom};
 ghost use Rattle.model.specs.Runs.{touch, hull, normal};
 ghost use Rattle.model.specs.Calls.{numbersOf};
-ghost use Rattle.normalisation.specs.Merging.{byDisplacement, ofDisplacement, byFirst, ofFirst, asListed, recordsOf, Small, AllSmall, merged, sortedByDisplacement, Apart};
+ghost use Rattle.normalisation.specs.Merging.{byDisplacement, ofDisplacement, byFirst, ofFirst, asListed, displacedOf, SmallLast, AllSmallLast, merged, sortedByDisplacement, Apart};
+use model::Bits;
 use sorting::Row;
-
-// The lower of two.
-fn lower(a: i64, b: i64) -> i64
-    ensures { λ r. ⌜ r ≡ minZ a b ⌝ }
-{
-    if a <= b { a } else { b }
-}
-
-// The higher of two.
-fn higher(a: i64, b: i64) -> i64
-    ensures { λ r. ⌜ r ≡ maxZ a b ⌝ }
-{
-    if a <= b { b } else { a }
-}
 
 // Whether no bit lies between a last bit and a first bit: the first bit lies at most one above.
 fn meets(last: i64, first: i64) -> bool
-    requires { ⌜ last <ℤ pos (2 ^ 62) ⌝ }
+    requires { ⌜ last <ℤ pos addressRoom ⌝ }
     ensures { λ b. ⌜ b ≡ leZ first (last +ℤ pos 1) ⌝ }
 {
     first <= last + 1
@@ -38,7 +25,7 @@ fn meets(last: i64, first: i64) -> bool
 
 // Whether two records touch or overlap. Each is a row by displacement.
 fn touches(r: Row, s: Row) -> bool
-    requires { ⌜ Small (ofDisplacement r) × Small (ofDisplacement s) ⌝ }
+    requires { ⌜ SmallLast (ofDisplacement r) × SmallLast (ofDisplacement s) ⌝ }
     ensures { λ t. ⌜ t ≡ touch (ofDisplacement r) (ofDisplacement s) ⌝ }
 {
     if r.first != s.first {
@@ -54,10 +41,12 @@ fn touches(r: Row, s: Row) -> bool
 fn hull_of(r: Row, s: Row) -> Row
     ensures { λ h. ⌜ h ≡ byDisplacement (hull (ofDisplacement r) (ofDisplacement s)) ⌝ }
 {
+    let low = Bits::of(r.second).lower(Bits::of(s.second));
+    let high = Bits::of(r.third).higher(Bits::of(s.third));
     Row {
         first: r.first,
-        second: lower(r.second, s.second),
-        third: higher(r.third, s.third),
+        second: low.0,
+        third: high.0,
     }
 }
 
@@ -86,9 +75,9 @@ fn listed(r: Row) -> Row
 // Merges n records, rows by displacement: each is joined with those that follow it while they touch. Writes them to the front of out as
 // rows by first, and returns how many they are.
 fn merge_touching(t: &[i64], n: usize, out: &mut [i64]) -> usize
-    requires { ⌜ (3 * n ≤ length (now t)) × (3 * n ≤ length (now out)) × AllSmall (recordsOf (now t) n) ⌝ }
-    ensures { λ r. ⌜ r ≡ length (merged (recordsOf (now (t .entry)) n)) ⌝ }
-    ensures { λ r. ⌜ now (out .exit) ≡ rows.numbersOf (map byFirst (merged (recordsOf (now (t .entry)) n))) ++ drop (3 * r) (now (out .entry)) ⌝ }
+    requires { ⌜ (rowWidth * n ≤ length (now t)) × (rowWidth * n ≤ length (now out)) × AllSmallLast (displacedOf (now t) n) ⌝ }
+    ensures { λ r. ⌜ r ≡ length (merged (displacedOf (now (t .entry)) n)) ⌝ }
+    ensures { λ r. ⌜ now (out .exit) ≡ rows.numbersOf (map byFirst (merged (displacedOf (now (t .entry)) n))) ++ drop (rowWidth * r) (now (out .entry)) ⌝ }
 {
     if n == 0 {
         return 0;
@@ -113,8 +102,8 @@ fn merge_touching(t: &[i64], n: usize, out: &mut [i64]) -> usize
 
 // Writes n records, rows by first, to the front of out: first, last and displacement of each.
 fn write_records(t: &[i64], n: usize, out: &mut [i64])
-    requires { ⌜ (3 * n ≤ length (now t)) × (3 * n ≤ length (now out)) ⌝ }
-    ensures { λ _. ⌜ now (out .exit) ≡ numbersOf (map ofFirst (rowsOf (now (t .entry)) n)) ++ drop (3 * n) (now (out .entry)) ⌝ }
+    requires { ⌜ (rowWidth * n ≤ length (now t)) × (rowWidth * n ≤ length (now out)) ⌝ }
+    ensures { λ _. ⌜ now (out .exit) ≡ numbersOf (map ofFirst (rowsOf (now (t .entry)) n)) ++ drop (rowWidth * n) (now (out .entry)) ⌝ }
 {
     let mut i: usize = 0;
     while i < n {
@@ -126,9 +115,9 @@ fn write_records(t: &[i64], n: usize, out: &mut [i64])
 // Normalises n records, rows by displacement in the front of work, in n log n steps. Writes the records of their list there, first, last and
 // displacement of each, and returns how many they are. What else stands in work and in spare afterwards is space that was worked in.
 pub fn normalise(work: &mut [i64], n: usize, spare: &mut [i64]) -> usize
-    requires { ⌜ (3 * n ≤ length (now work)) × (3 * n ≤ length (now spare)) × AllSmall (recordsOf (now work) n) ⌝ }
-    ensures { λ r. ⌜ r ≡ length (normal (recordsOf (now (work .entry)) n)) ⌝ }
-    ensures { λ r. ⌜ take (3 * r) (now (work .exit)) ≡ numbersOf (normal (recordsOf (now (work .entry)) n)) ⌝ }
+    requires { ⌜ (rowWidth * n ≤ length (now work)) × (rowWidth * n ≤ length (now spare)) × AllSmallLast (displacedOf (now work) n) ⌝ }
+    ensures { λ r. ⌜ r ≡ length (normal (displacedOf (now (work .entry)) n)) ⌝ }
+    ensures { λ r. ⌜ take (rowWidth * r) (now (work .exit)) ≡ numbersOf (normal (displacedOf (now (work .entry)) n)) ⌝ }
     ensures { λ _. ⌜ (length (now (work .exit)) ≡ length (now (work .entry))) × (length (now (spare .exit)) ≡ length (now (spare .entry))) ⌝ }
 {
     sorting::sort_rows(work, n, spare);
@@ -140,7 +129,7 @@ pub fn normalise(work: &mut [i64], n: usize, spare: &mut [i64]) -> usize
 
 // How many of the n records, rows by displacement, stand in front of the first that touches the next, in one pass: n - 1 where none does.
 fn rows_apart(t: &[i64], n: usize) -> usize
-    requires { ⌜ (0 < n) × (3 * n ≤ length (now t)) × AllSmall (recordsOf (now t) n) ⌝ }
+    requires { ⌜ (0 < n) × (rowWidth * n ≤ length (now t)) × AllSmallLast (displacedOf (now t) n) ⌝ }
     ensures { λ k. ⌜ Apart (now (t .entry)) n k ⌝ }
 {
     let mut current = sorting::row_at(t, 0);
@@ -159,9 +148,9 @@ fn rows_apart(t: &[i64], n: usize) -> usize
 // Merges n records, rows by displacement, where they stand: from row `from` on each is joined with those that follow it while they touch. Returns how
 // many rows they are then, the first of t.
 fn join_touching(t: &mut [i64], n: usize, from: usize) -> usize
-    requires { ⌜ (3 * n ≤ length (now t)) × Apart (now t) n from × AllSmall (recordsOf (now t) n) ⌝ }
-    ensures { λ r. ⌜ r ≡ length (merged (recordsOf (now (t .entry)) n)) ⌝ }
-    ensures { λ r. ⌜ now (t .exit) ≡ rows.numbersOf (map byDisplacement (merged (recordsOf (now (t .entry)) n))) ++ drop (3 * r) (now (t .entry)) ⌝ }
+    requires { ⌜ (rowWidth * n ≤ length (now t)) × Apart (now t) n from × AllSmallLast (displacedOf (now t) n) ⌝ }
+    ensures { λ r. ⌜ r ≡ length (merged (displacedOf (now (t .entry)) n)) ⌝ }
+    ensures { λ r. ⌜ now (t .exit) ≡ rows.numbersOf (map byDisplacement (merged (displacedOf (now (t .entry)) n))) ++ drop (rowWidth * r) (now (t .entry)) ⌝ }
 {
     let mut current = sorting::row_at(t, from);
     let mut i = from + 1;
@@ -184,10 +173,10 @@ fn join_touching(t: &mut [i64], n: usize, from: usize) -> usize
 // Normalises n records, rows by displacement in the front of list, in n log n steps, in one pass for the order and one for the joining where they are in
 // order: the rows of their list, sorted by displacement, stand there afterwards. Returns how many they are. What else stands in list behind them and in
 // spare afterwards is space that was worked in.
-pub fn merge_rows(list: &mut [i64], n: usize, spare: &mut [i64]) -> usize
-    requires { ⌜ (3 * n ≤ length (now list)) × (3 * n ≤ length (now spare)) × AllSmall (recordsOf (now list) n) ⌝ }
-    ensures { λ r. ⌜ r ≡ length (normal (recordsOf (now (list .entry)) n)) ⌝ }
-    ensures { λ r. ⌜ recordsOf (now (list .exit)) r ≡ sortedByDisplacement (normal (recordsOf (now (list .entry)) n)) ⌝ }
+pub fn normalise_rows(list: &mut [i64], n: usize, spare: &mut [i64]) -> usize
+    requires { ⌜ (rowWidth * n ≤ length (now list)) × (rowWidth * n ≤ length (now spare)) × AllSmallLast (displacedOf (now list) n) ⌝ }
+    ensures { λ r. ⌜ r ≡ length (normal (displacedOf (now (list .entry)) n)) ⌝ }
+    ensures { λ r. ⌜ displacedOf (now (list .exit)) r ≡ sortedByDisplacement (normal (displacedOf (now (list .entry)) n)) ⌝ }
     ensures { λ _. ⌜ (length (now (list .exit)) ≡ length (now (list .entry))) × (length (now (spare .exit)) ≡ length (now (spare .entry))) ⌝ }
 {
     if n == 0 {

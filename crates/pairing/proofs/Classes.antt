@@ -16,6 +16,7 @@ use Rattle.integers.specs.Integers.{eqZ}
 use Rattle.integers.proofs.Linear.{ints}
 use Rattle.integers.proofs.Tests.{Test, passed, failed, eq?, ltb?, eqZ→eq, T-true, and-out}
 use Rattle.lists.specs.Lists.{_∈_, any}
+use Rattle.lists.proofs.Places.{map-at}
 use Rattle.model.specs.Limits.{nodeWidth, edgeWidth, maxNodes}
 use Rattle.model.specs.Rows.{Edge, edgesFrom, nodeRows, edgeRows}
 use Rattle.model.specs.Graph.{Graph, graphOf, NodeRow, noNode, node, space, segment, block}
@@ -29,12 +30,6 @@ use Rattle.tables.proofs.Rows.{nodes-length, nodes-at, edges-rest, edges-end, e
 use Rattle.pairing.specs.Classes.{other, root, leaf, classOf, classesOf, classesOver, Classifiable, kindClass, kindsOver, enteredClass, enteredAt, enteredBy, EntersWithin, hasClass}
 
 -- ---- lists
-
--- what stands at a place of the images of a list, whatever stands for what is not there
-map-at : {A B : Type 0} (f : A → B) (l : List A) (i : ℕ) (b : B) (a : A) → i < length l → getD (map f l) i b ≡ f (getD l i a)
-map-at f [] i b a h = absurd (omega arith)
-map-at f (x ∷ l) zero b a h = refl
-map-at f (x ∷ l) (suc i) b a h = map-at f l i b a (omega arith)
 
 -- the images of the first rows in front of a list, and the image of the next row stored behind them
 front-more : {A : Type 0} (f : A → ℕ) (rows : List A) (old : List ℕ) (d : A) (v : ℕ) → v < length rows → v < length old

@@ -27,9 +27,11 @@ use Rattle.model.proofs.Pairing.{pairedBefore?}
 use Rattle.tables.proofs.Limits.{decides-same}
 use Rattle.tables.proofs.Checks.{checked, Left, left-none, left-on, left-stops}
 use Rattle.pairing.specs.Classes.{hasClass}
-use Rattle.pairing.specs.Pairs.{pairAt, checkPairs, isMarked, Unmarked}
+use Rattle.tables.specs.Tables.{pairAt}
+use Rattle.pairing.specs.Pairs.{checkPairs, isMarked, Unmarked}
 use Rattle.pairing.proofs.Classes.{class-index}
-use Rattle.pairing.proofs.Pairs.{pairs-rest, pairs-end, pair-member, pair-own, pair-refused, pair-before, pair-taken}
+use Rattle.tables.proofs.Rows.{pairs-rest, pairs-end, pair-member, pair-own}
+use Rattle.pairing.proofs.Pairs.{pair-refused, pair-before, pair-taken}
 
 -- ---- marks of one side: nodeOf q is the node of row q
 
@@ -105,7 +107,7 @@ module _ (ps : List ℤ) where
 
       marks : PairedBefore (pairRows ps) (pairAt ps k) → Among specAt k (pos s) ⊎ Among implAt k (pos i)
       marks b =
-          let own = sym (pair-own ps (b .row)) in
+          let own = sym (pair-own ps (b .row) .1) in
           ⊎-elim (λ e. inl (b .earlier .row, b .before, ap (λ p. p .spec) own ∙ e ∙ sym q))
           (λ e. inr (b .earlier .row, b .before, ap (λ p. p .impl) own ∙ e ∙ sym r))
           (b .same)

@@ -1,9 +1,8 @@
 -- The check of a pairing: by the classes of all nodes, and before the paths of each visit.
-use mathlib.Core.Path.{_≡_, refl}
-use mathlib.Core.Option.{Option, none, some}
+use mathlib.Core.Path.{_≡_}
 use Rattle.model.specs.Compare.{Tables, specGraph, implGraph, rootRows, leafRows, visits}
-use Rattle.model.specs.Refusals.{Refusal}
 use Rattle.model.specs.Checks.{_then_, firstOf, checkVisit, checkPairing}
+use Rattle.model.proofs.Checks.{then-assoc}
 use Rattle.pairing.specs.Classes.{classesOf}
 use Rattle.pairing.specs.Pairs.{checkSizes, checkClassified, checkPairingRows}
 use Rattle.pairing.proofs.Classes.{class-root, class-leaf}
@@ -21,11 +20,6 @@ check-pairing-classified t =
       class-leaf (t .specNodes) (t .specEdges),
       class-leaf (t .implNodes) (t .implEdges),
     )
-
-then-assoc : (a b c : Option Refusal) → (a then b) then c ≡ a then (b then c)
-unfolding _then_
-then-assoc none b c = refl
-then-assoc (some r) b c = refl
 
 -- the check of a pairing: its tables row by row, then the paths of each visit
 pub check-pairing-rows : (t : Tables)

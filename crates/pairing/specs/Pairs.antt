@@ -1,6 +1,6 @@
 -- The rows of a pairing, as the code reads them, and their checks. Assumes nothing.
 use mathlib.Core.Path.{_≡_}
-use mathlib.Core.Bool.{Bool, not}
+use mathlib.Core.Bool.{Bool, not, cond}
 use mathlib.Core.List.{List}
 use mathlib.Core.Option.{Option}
 use Prim.Native.Nat.{ℕ, _+_, _*_, _≤_, _<_}
@@ -15,9 +15,13 @@ use Rattle.model.specs.Refusals.{Refusal}
 use Rattle.model.specs.Checks.{when, _then_, firstOf, checkShape, isRoot, isLeaf, checkPair}
 use Rattle.pairing.specs.Classes.{root, leaf, hasClass}
 
--- row k of a pair table
-abbrev pub pairAt : List ℤ → ℕ → Pair
-pairAt ps k = record { row = k; spec = getD ps (pairWidth * k) (pos 0); impl = getD ps (pairWidth * k + 1) (pos 0) }
+-- the columns of a pair row that name a node: 0 that of the specification, 1 that of the implementation
+abbrev pub nodeColumns : ℕ
+nodeColumns = 2
+
+-- the node in a column of a pair row
+abbrev pub nodeIn : ℕ → Pair → ℤ
+nodeIn column p = cond (eqb column 0) (p .spec) (p .impl)
 
 -- refusals 7 and 8 of a pair table, whose nodes are to pass these tests
 abbrev pub checkPairs : ℕ → (ℤ → Bool) → (ℤ → Bool) → List ℤ → Option Refusal

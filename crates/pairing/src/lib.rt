@@ -12,7 +12,8 @@ ghost use Rattle.model.specs.Taken.{TakenTables};
 ghost use Rattle.model.specs.Calls.{answer};
 ghost use Rattle.model.specs.Answers.{checkedAnswer};
 ghost use Rattle.pairing.specs.Classes.{Classifiable, classesOver, kindClass, kindsOver, enteredClass, enteredBy, EntersWithin, hasClass};
-ghost use Rattle.pairing.specs.Pairs.{pairAt, checkPairs, checkSome, checkSizes, checkClassified, checkPairingRows, isMarked, Unmarked, tablesOf};
+ghost use Rattle.tables.specs.Tables.{pairAt};
+ghost use Rattle.pairing.specs.Pairs.{nodeColumns, nodeIn, checkPairs, checkSome, checkSizes, checkClassified, checkPairingRows, isMarked, Unmarked, tablesOf};
 use model::BLOCK;
 use model::Checked;
 use model::EDGE_WIDTH;
@@ -25,6 +26,11 @@ use model::ROOT_PAIRS;
 use model::Reason;
 use tables::check_shape;
 use tables::edge_to;
+
+// Columns of a pair table.
+pub const SPEC_COLUMN: usize = 0;
+
+pub const IMPL_COLUMN: usize = 1;
 
 // Classes of nodes.
 const OTHER: usize = 0;
@@ -106,12 +112,20 @@ fn has_class(v: i64, class: &[usize], wanted: usize) -> bool
     class[i] == wanted
 }
 
+// The node in a column of a pair row, as an index.
+pub fn pair_node(pairs: &[i64], column: usize, row: usize) -> usize
+    requires { ⌜ (column < nodeColumns) × (pairWidth * row + pairWidth ≤ length (now pairs)) × (pos 0 ≤ℤ nodeIn column (pairAt (now pairs) row)) ⌝ }
+    ensures { λ r. ⌜ pos r ≡ nodeIn column (pairAt (now (pairs .entry)) row) ⌝ }
+{
+    pairs[PAIR_WIDTH * row + column] as usize
+}
+
 // The specification node of a pair row, as an index.
 pub fn spec_node(pairs: &[i64], row: usize) -> usize
     requires { ⌜ (pairWidth * row + pairWidth ≤ length (now pairs)) × (pos 0 ≤ℤ pairAt (now pairs) row .spec) ⌝ }
     ensures { λ r. ⌜ pos r ≡ pairAt (now (pairs .entry)) row .spec ⌝ }
 {
-    pairs[PAIR_WIDTH * row] as usize
+    pair_node(pairs, SPEC_COLUMN, row)
 }
 
 // The implementation node of a pair row, as an index.
@@ -119,7 +133,7 @@ pub fn impl_node(pairs: &[i64], row: usize) -> usize
     requires { ⌜ (pairWidth * row + pairWidth ≤ length (now pairs)) × (pos 0 ≤ℤ pairAt (now pairs) row .impl) ⌝ }
     ensures { λ r. ⌜ pos r ≡ pairAt (now (pairs .entry)) row .impl ⌝ }
 {
-    pairs[PAIR_WIDTH * row + 1] as usize
+    pair_node(pairs, IMPL_COLUMN, row)
 }
 
 // Whether both nodes of pair row k have the wanted class.
@@ -139,7 +153,7 @@ fn both_have_class(
     if !has_class(pairs[PAIR_WIDTH * k], spec_class, wanted) {
         return false;
     }
-    has_class(pairs[PAIR_WIDTH * k + 1], impl_class, wanted)
+    has_class(pairs[PAIR_WIDTH * k + IMPL_COLUMN], impl_class, wanted)
 }
 
 // Whether one of two marks is set.

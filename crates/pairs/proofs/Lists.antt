@@ -23,7 +23,7 @@ use Rattle.normalisation.specs.Merging.{sortedByDisplacement}
 use Rattle.normalisation.specs.Records.{IsNormal}
 use Rattle.normalisation.proofs.Records.{list-normal}
 use Rattle.normalisation.proofs.Sorted.{by-displacement-members}
-use Rattle.verdicts.specs.Records.{SmallRecords}
+use Rattle.verdicts.specs.Records.{AllSmallRootBits}
 
 -- a list has at most as many records as there are paths
 pub list-few : (g : Graph) (r l : ℤ) → length (listOf g r l) ≤ length (paths g r l)
@@ -41,7 +41,7 @@ list-few g r l =
 
 module _ {g : Graph} {r l : ℤ} (k : Taken g) (root : NodeRow g r) (leaf : Leaf g l) where
   -- the records of the bitmapping list are small: the root bits that they have are addresses of the root
-  pub list-small : SmallRecords (listOf g r l)
+  pub list-small : AllSmallRootBits (listOf g r l)
   list-small s m =
       let list = list-of-reached (taken-fit k leaf) in
       let full = list .full s m in
@@ -50,7 +50,7 @@ module _ {g : Graph} {r l : ℤ} (k : Taken g) (root : NodeRow g r) (leaf : Leaf
       record { low = bit (s .first) (omega (arith, ints)) full .0; full = full; high = omega (arith, ints, bit (s .last) full (omega (arith, ints)) .1) }
 
   -- sorted by displacement they are so too
-  pub sorted-small : SmallRecords (sortedByDisplacement (listOf g r l))
+  pub sorted-small : AllSmallRootBits (sortedByDisplacement (listOf g r l))
   sorted-small s m = list-small s (by-displacement-members (listOf g r l) .0 m)
 
 -- the bitmapping list of a leaf is normal

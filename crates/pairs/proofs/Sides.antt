@@ -18,13 +18,13 @@ use Rattle.model.specs.Taken.{TakenTables}
 use Rattle.model.specs.Compare.{Tables, rootRows, leafRows}
 use Rattle.model.proofs.Visits.{visits-in}
 use Rattle.reach.specs.Counting.{pathCount}
+use Rattle.sorting.specs.Rows.{rowWidth}
 use Rattle.sorting.proofs.Halves.{part-lent, part-length}
-use Rattle.normalisation.specs.Merging.{recordsOf, sortedByDisplacement}
+use Rattle.normalisation.specs.Merging.{displacedOf, sortedByDisplacement}
 use Rattle.normalisation.specs.Records.{IsNormal}
 use Rattle.forward.specs.Forward.{plannedOf, LeadingTo}
 use Rattle.pathlimit.specs.Inputs.{FewPaths, Ready}
-use Rattle.arrivals.specs.declared.Placed.{Placed}
-use Rattle.arrivals.specs.State.{rowWidth}
+use Rattle.arrivals.specs.declared.ListRows.{ListRows}
 use Rattle.entering.specs.Entering.{Covered}
 use Rattle.arrivals.specs.Sweep.{Swept, Askable, Answered}
 use Rattle.judging.specs.Judging.{SmallRows}
@@ -99,13 +99,13 @@ module _ {ns es : List ℤ} {plan : List ℕ} {r l : ℤ} (k : Side ns es plan r
           spareRoom = omega (arith, room);
         }
 
-    module _ {p : Placed} (a : Answered ns es plan (natAbs r) v s p) where
+    module _ {p : ListRows} (a : Answered ns es plan (natAbs r) v s p) where
       -- how many records it has
       pub side-count : p .count ≡ length (listOf (graphOf ns es) r l)
       side-count = rw (is, root-number) at (a .count)
 
       -- and they are its rows
-      pub side-rows : recordsOf (fromRow (p .row) s) (p .count) ≡ sortedByDisplacement (listOf (graphOf ns es) r l)
+      pub side-rows : displacedOf (fromRow (p .row) s) (p .count) ≡ sortedByDisplacement (listOf (graphOf ns es) r l)
       side-rows = rw (part-lent (rowWidth * p .row) s) (rw (is, root-number) at (a .rows))
 
       -- at most 1,024

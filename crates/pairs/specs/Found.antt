@@ -7,9 +7,10 @@ use lib.IntN.{ℤ, natAbs}
 use lib.ListN.{length}
 use Rattle.model.specs.Limits.{pairWidth, maxPaths}
 use Rattle.model.specs.Compare.{Tables, Visit, Finding, findingOf}
-use Rattle.pairing.specs.Pairs.{pairAt}
+use Rattle.tables.specs.Tables.{pairAt}
 use Rattle.pathlimit.specs.Inputs.{Ready}
-use Rattle.arrivals.specs.State.{rowWidth, stateRoom}
+use Rattle.sorting.specs.Rows.{rowWidth}
+use Rattle.arrivals.specs.State.{stateRoom}
 use Rattle.arrivals.specs.Sweep.{Swept}
 use Rattle.totals.specs.declared.Found.{Found}
 use Rattle.totals.specs.Kept.{IsFinding}

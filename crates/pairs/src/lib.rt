@@ -8,10 +8,8 @@ use arrivals::list_at;
 use judging::judge;
 use pairing::impl_node;
 use pairing::spec_node;
+use sorting::ROW_WIDTH;
 use totals::Found;
-
-// Numbers of a row.
-const ROW_WIDTH: usize = 3;
 
 // What is found of one pair, once both graphs are swept from its roots: the list of each leaf is asked, and the two are judged; where `asked` and the lists
 // are not equal the lowest address at which they differ is looked for, else it is -1. The states have their roots: `root_pairs` and `root_row` only say

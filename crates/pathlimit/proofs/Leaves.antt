@@ -20,8 +20,8 @@ use Rattle.reach.specs.Counting.{pathCount, stopped}
 use Rattle.reach.specs.Links.{countAt}
 use Rattle.depth.specs.Passes.{Within}
 use Rattle.forward.specs.Forward.{plannedOf, LeadingTo}
-use Rattle.pairing.specs.Pairs.{pairAt}
-use Rattle.pairing.proofs.Pairs.{pair-member}
+use Rattle.tables.specs.Tables.{pairAt}
+use Rattle.tables.proofs.Rows.{pair-member}
 use Rattle.entering.specs.Entering.{Covered}
 use Rattle.pathlimit.specs.Counting.{Counted}
 use Rattle.pathlimit.specs.Checks.{checkCounts, checkLeaf, LeavesCounted}

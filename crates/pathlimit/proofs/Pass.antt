@@ -10,6 +10,7 @@ use lib.IntN.{ℤ, pos}
 use lib.ListN.{length, getD, set, take, drop, length-set, length-map, length-take}
 use lib.Seq.{getD-take}
 use Rattle.integers.proofs.Linear.{ints}
+use Rattle.lists.proofs.Places.{map-at}
 use Rattle.model.specs.Limits.{nodeWidth, maxPaths}
 use Rattle.model.specs.Rows.{Edge, edgeRows}
 use Rattle.model.specs.Graph.{graphOf}
@@ -22,7 +23,6 @@ use Rattle.reach.proofs.Ends.{Ends, edge-ends, from-below, to-below, row-below}
 use Rattle.reach.proofs.Pass.{begun}
 use Rattle.reach.proofs.Sweep.{CutBy, cut-start, cut-on, Counts, Swept, swept-start, swept-stopped, swept-whole, swept-next, sum-over}
 use Rattle.reach.proofs.Turns.{drop-head}
-use Rattle.reach.proofs.Values.{map-at}
 use Rattle.entering.specs.Entering.{enters, entering}
 use Rattle.entering.proofs.Counts.{count-entering}
 use Rattle.forward.specs.Forward.{Forward, plannedCount, plannedOf}

@@ -14,15 +14,15 @@ use Rattle.model.specs.Paths.{Root}
 use Rattle.model.specs.Taken.{TakenTables}
 use Rattle.model.specs.Compare.{Tables, specGraph, implGraph, rootRows, leafRows, visits}
 use Rattle.model.specs.Checks.{firstOf, checkVisit}
+use Rattle.model.proofs.Checks.{first-agree, first-flatMap}
 use Rattle.tables.proofs.Rows.{nodes-length, graph-nodes-length}
 use Rattle.depth.specs.Passes.{Within}
 use Rattle.forward.specs.Forward.{Planned}
-use Rattle.pairing.specs.Pairs.{pairAt}
+use Rattle.tables.specs.Tables.{pairAt}
 use Rattle.pathlimit.specs.Inputs.{Plans}
 use Rattle.pathlimit.specs.Counting.{Countable, Counted}
 use Rattle.pathlimit.specs.Checks.{checkPaths, checkRow, checkCounts, checkLeaf, LeavesCounted}
 use Rattle.pathlimit.proofs.Inputs.{row-roots, root-row-below}
-use Rattle.pathlimit.proofs.First.{first-agree, first-flatMap}
 use Rattle.pathlimit.proofs.Leaves.{leaf-many}
 
 -- ---- all root rows

@@ -17,6 +17,7 @@ use Rattle.model.specs.Runs.{paths}
 use Rattle.model.specs.Taken.{TakenTables}
 use Rattle.model.specs.Compare.{Tables, specGraph, implGraph, rootRows, leafRows, visits}
 use Rattle.model.specs.Checks.{when, _then_, manyPaths, checkVisit}
+use Rattle.model.proofs.Checks.{first-none}
 use Rattle.model.proofs.Visits.{visits-in}
 use Rattle.tables.specs.Tables.{edgeAt}
 use Rattle.reach.specs.Counting.{pathCount}
@@ -27,7 +28,6 @@ use Rattle.entering.proofs.Counts.{count-entering}
 use Rattle.forward.specs.Forward.{plannedCount, plannedOf}
 use Rattle.pathlimit.specs.Inputs.{Plans}
 use Rattle.pathlimit.specs.Checks.{checkPaths}
-use Rattle.pathlimit.proofs.First.{first-none}
 use Rattle.pathlimit.proofs.Leaves.{leaf-entering}
 
 -- a root is no leaf

@@ -14,11 +14,12 @@ use Rattle.model.specs.Taken.{TakenTables}
 use Rattle.model.specs.Compare.{Tables, specGraph, implGraph, leafRows}
 use Rattle.model.specs.Refusals.{Refusal}
 use Rattle.model.specs.Checks.{_then_, checkGraph, checkTables}
-use Rattle.model.specs.Calls.{refused, full, answer}
+use Rattle.model.specs.Calls.{full, answer}
 use Rattle.model.specs.Answers.{refusalOf, checkedAnswer}
 use Rattle.model.specs.declared.Reason.{Reason}
 use Rattle.model.specs.declared.Checked.{Checked}
 use Rattle.model.specs.declared.Checked.the-variants.{Taken, Refused}
+use Rattle.model.proofs.Checks.{then-none, answer-some, answer-none}
 use Rattle.tables.proofs.Checks.{checked, then-on, then-stops}
 use Rattle.depth.specs.Order.{edgeOrder}
 use Rattle.depth.specs.Passes.{orderOf}
@@ -31,15 +32,13 @@ use Rattle.pairing.proofs.Pairing.{check-pairing-rows}
 use Rattle.pathlimit.specs.Checks.{checkPaths}
 use Rattle.pathlimit.specs.Inputs.{Inputs, AllFew, Plans}
 use Rattle.prepare.specs.Prepared.{Prepared}
-use Rattle.prepare.proofs.Inputs.{then-none, pairing-inputs, paths-few}
+use Rattle.prepare.proofs.Inputs.{pairing-inputs, paths-few}
 
 -- ---- one check after the other
 
 -- an answer that takes is that of no refusal
 pub taken-none : {given : Checked} (a : Option Refusal) → given ≡ Taken → checkedAnswer given ≡ checked a → a ≡ none
-unfolding answer
-taken-none none g e = refl
-taken-none (some r) g e = let q = ap checkedAnswer (sym g) ∙ e in let z : _≡_ {A = ℕ} 0 1 = cc in absurd (omega arith)
+taken-none a g e = answer-none tt a .0 (sym e ∙ ap checkedAnswer g)
 
 -- what the checks say of the tables
 module _ {t : Tables} {given : Checked} {sp mp : List ℕ} (p : Prepared t given sp mp) where
@@ -47,12 +46,7 @@ module _ {t : Tables} {given : Checked} {sp mp : List ℕ} (p : Prepared t given
   prepared-none g = taken-none (checkTables t) g (p .answers)
 
   pub prepared-some : {reason : Reason} → given ≡ Refused reason → checkTables t ≡ some (refusalOf reason)
-  unfolding answer
-  prepared-some {reason} g = go (checkTables t) (ap checkedAnswer (sym g) ∙ p .answers)
-    where
-      go : (a : Option Refusal) → refused (refusalOf reason) ≡ checked a → a ≡ some (refusalOf reason)
-      go none e = let z : _≡_ {A = ℕ} 0 1 = cc in absurd (omega arith)
-      go (some r) e = cc
+  prepared-some g = answer-some tt (checkTables t) .0 (sym (p .answers) ∙ ap checkedAnswer g)
 
 module _ (t : Tables) where
   -- the checks that are left give the answer

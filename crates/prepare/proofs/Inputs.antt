@@ -1,47 +1,33 @@
 -- Tables that the checks take: shapes, pairs and paths.
-use mathlib.Core.Path.{_≡_, refl, ap, subst, _∙_}
+use mathlib.Core.Path.{_≡_, subst}
 use mathlib.Core.Bool.{Bool, true, false}
-use mathlib.Core.List.{List, [], _∷_, flatMap, List·Memᴰ·head, List·Memᴰ·tail, List·Memᴰ·not-nil}
-use mathlib.Core.Option.{Option, none, some}
-use Prim.Native.Nat.{ℕ, _*_, _%_, _≤_, _<_}
+use mathlib.Core.List.{List, flatMap}
+use mathlib.Core.Option.{none}
+use Prim.Native.Nat.{ℕ, _≤_, _<_}
 use native.Mathlib.Omega.{arith}
 use lib.Dec.{ltb}
 use lib.IntN.{ℤ}
 use lib.ListN.{length}
-use Rattle.integers.proofs.Tests.{Test, failed, eq?, leb?, ltb?}
+use Rattle.integers.proofs.Tests.{Test, failed, ltb?}
 use Rattle.lists.specs.Lists.{_∈_}
-use Rattle.lists.proofs.Decisions.{Decides, test-stable}
+use Rattle.lists.proofs.Decisions.{Decides}
 use Rattle.model.specs.Limits.{pairWidth, maxPaths, maxPairs}
 use Rattle.model.specs.Rows.{Pair, pairRows}
 use Rattle.model.specs.Runs.{paths}
-use Rattle.model.specs.Taken.{GoodShape, TakenTables}
+use Rattle.model.specs.Taken.{TakenTables}
 use Rattle.model.specs.Compare.{Tables, specGraph, implGraph, rootRows, leafRows, visits}
-use Rattle.model.specs.Refusals.{Refusal, NoneHolds, broken, tooMany, shapeConditions, pairConditions}
-use Rattle.model.specs.Checks.{when, _then_, firstOf, checkShape, isRoot, manyPaths, checkVisit}
+use Rattle.model.specs.Refusals.{pairConditions}
+use Rattle.model.specs.Checks.{when, _then_, checkShape, isRoot, manyPaths, checkVisit}
+use Rattle.model.proofs.Checks.{then-none, first-each}
 use Rattle.model.proofs.Settled.{Settled}
-use Rattle.model.proofs.GraphChecks.{shape-settled, isRoot?, isLeaf?}
+use Rattle.model.proofs.GraphChecks.{isRoot?, isLeaf?}
 use Rattle.model.proofs.Pairing.{pairs-settled, pairs-paired}
+use Rattle.model.proofs.Taken.{shape-taken}
 use Rattle.pairing.specs.Pairs.{checkPairs, checkSizes, checkPairingRows}
 use Rattle.pathlimit.specs.Checks.{checkPaths}
 use Rattle.pathlimit.specs.Inputs.{Inputs, AllFew}
 
--- no refusal of two checks is none of either
-pub then-none : (a b : Option Refusal) → (a then b) ≡ none → (a ≡ none) × (b ≡ none)
-unfolding _then_
-then-none none b e = (refl, e)
-then-none (some r) b e = let z : _≡_ {A = ℕ} 0 1 = cc in absurd (omega arith)
-
 -- ---- the pairing
-
--- a shape that is not refused is good
-shape-good : (t width most : ℕ) (xs : List ℤ) → checkShape t width most xs ≡ none → GoodShape width most xs
-unfolding shapeConditions
-shape-good t width most xs e =
-    let good : NoneHolds (shapeConditions t width most xs) = subst (λ c. Settled c (shapeConditions t width most xs)) e (shape-settled t width most xs) in
-    record {
-      whole = test-stable (eq? (length xs % width) 0) (λ k. good .0 (broken k));
-      few = test-stable (leb? (length xs) (width * most)) (λ k. good .0 (tooMany k));
-    }
 
 -- rows of pairs that are not refused pair nodes as wanted
 pairs-good : {Spec Impl : ℤ → Type 0} {spec impl : ℤ → Bool} (spec? : (v : ℤ) → Decides (Spec v) (spec v)) (impl? : (v : ℤ) → Decides (Impl v) (impl v))
@@ -60,20 +46,13 @@ pairing-inputs t k j e =
     record {
       spec = k;
       impl = j;
-      rootShape = shape-good 4 pairWidth maxPairs (t .rootPairs) (sizes .0);
-      leafShape = shape-good 5 pairWidth maxPairs (t .leafPairs) (then-none (checkShape 5 pairWidth maxPairs (t .leafPairs)) _ (sizes .1) .0);
+      rootShape = shape-taken 4 pairWidth maxPairs (t .rootPairs) (sizes .0);
+      leafShape = shape-taken 5 pairWidth maxPairs (t .leafPairs) (then-none (checkShape 5 pairWidth maxPairs (t .leafPairs)) _ (sizes .1) .0);
       roots = pairs-good (isRoot? (specGraph t)) (isRoot? (implGraph t)) 4 (t .rootPairs) (rows .0);
       leaves = pairs-good (isLeaf? (specGraph t)) (isLeaf? (implGraph t)) 5 (t .leafPairs) (rows .1);
     }
 
 -- ---- the paths of each pair
-
--- where no element is refused, each is not
-first-none : {A : Type 0} (check : A → Option Refusal) (l : List A) → firstOf check l ≡ none → (x : A) → x ∈ l → check x ≡ none
-unfolding firstOf
-first-none check [] e x m = absurd (List·Memᴰ·not-nil m)
-first-none check (y ∷ l) e x (List·Memᴰ·head q) = ap check q ∙ then-none (check y) (firstOf check l) e .0
-first-none check (y ∷ l) e x (List·Memᴰ·tail m) = first-none check l (then-none (check y) (firstOf check l) e .1) x m
 
 -- a count that is not refused is within the limit
 when-few : (count n t r : ℕ) → when (ltb maxPaths count) n t r ≡ none → count ≤ maxPaths
@@ -88,7 +67,7 @@ when-few count n t r = go (ltb maxPaths count) (ltb? maxPaths count)
 pub paths-few : (t : Tables) → checkPaths t ≡ none → AllFew t
 unfolding checkVisit manyPaths
 paths-few t e v m =
-    let q = first-none (checkVisit (specGraph t) (implGraph t)) (visits (rootRows t) (leafRows t)) e v m in
+    let q = first-each (checkVisit (specGraph t) (implGraph t)) (visits (rootRows t) (leafRows t)) e v m in
     let p = then-none (when (manyPaths (specGraph t) (v .root .spec) (v .leaf .spec)) 10 1 _) _ q in
     let spec = length (paths (specGraph t) (v .root .spec) (v .leaf .spec)) in
     let impl = length (paths (implGraph t) (v .root .impl) (v .leaf .impl)) in

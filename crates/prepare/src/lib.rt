@@ -10,13 +10,10 @@ use model::Checked;
 use model::IMPL_NODES;
 use model::MAX_EDGES;
 use model::SPEC_NODES;
+use pairing::IMPL_COLUMN;
+use pairing::SPEC_COLUMN;
 use pairing::check_pairing;
 use pathlimit::check_paths;
-
-// Columns of a pair table.
-const SPEC_COLUMN: usize = 0;
-
-const IMPL_COLUMN: usize = 1;
 
 // Checks the tables of a comparison, and makes for each graph the plan of the edges that lead to its paired leaves. The work space of the first graph, and that of
 // the second, has its edges in order, then the counts of its paths; a plan is work space before it is made. Where the tables are refused, what stands in

@@ -12,6 +12,7 @@ use lib.Seq.{getD-set-same, getD-set-other, drop-set-lt, drop-at}
 use Rattle.integers.specs.Integers.{eqZ}
 use Rattle.integers.proofs.Linear.{ints}
 use Rattle.integers.proofs.Tests.{Test, passed, failed, eqZ?, eq?, ltb?, is-true, is-false, of-test, test-of, and-in, and-out}
+use Rattle.lists.proofs.Places.{map-at}
 use Rattle.model.specs.Limits.{nodeWidth, edgeWidth}
 use Rattle.model.specs.Rows.{Edge, edgeRows}
 use Rattle.model.specs.Graph.{graphOf}
@@ -19,7 +20,7 @@ use Rattle.model.specs.Taken.{TakenTables}
 use Rattle.tables.specs.Tables.{edgeAt}
 use Rattle.tables.proofs.Rows.{nodes-length, edges-length, edges-at}
 use Rattle.reach.specs.Links.{firstRow, countAt, matters, headsOf, nextsOf, Linked, Linkable}
-use Rattle.reach.proofs.Values.{front-same, values-front, map-at}
+use Rattle.reach.proofs.Values.{front-same, values-front}
 use Rattle.reach.proofs.FirstRow.{firstRow-step, firstRow-end}
 use Rattle.reach.proofs.Ends.{Ends, edge-ends, from-below}
 

@@ -12,6 +12,7 @@ use Rattle.integers.specs.Integers.{eqZ}
 use Rattle.integers.proofs.Linear.{ints}
 use Rattle.integers.proofs.Tests.{Test, passed, failed, test?, eqZ?, ltb?, of-test, test-of, and-in, and-out}
 use Rattle.lists.specs.Lists.{_∈_, keep}
+use Rattle.lists.proofs.Places.{map-at}
 use Rattle.model.specs.Rows.{Edge, edgeRows}
 use Rattle.model.specs.Graph.{Graph, graphOf, NodeRow}
 use Rattle.model.specs.Taken.{Taken}
@@ -22,7 +23,7 @@ use Rattle.tables.proofs.Rows.{edges-length, edges-at}
 use Rattle.reach.specs.Counting.{pathCount, stopped, countsOf, countsOver}
 use Rattle.reach.specs.Links.{firstRow, countAt, matters, headsOf, nextsOf, Linked}
 use Rattle.reach.proofs.Counting.{empty-list, count-some, stopped-some}
-use Rattle.reach.proofs.Values.{values-before, map-at}
+use Rattle.reach.proofs.Values.{values-before}
 use Rattle.reach.proofs.FirstRow.{firstRow-passes}
 use Rattle.reach.proofs.Links.{matters-from}
 

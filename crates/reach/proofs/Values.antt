@@ -8,6 +8,7 @@ use lib.Dec.{ltb}
 use lib.ListN.{length, getD, take, drop, length-append, take-append-drop, List·getD-append}
 use lib.Seq.{getD-at, ext-getD, length-take-le, getD-take}
 use Rattle.integers.proofs.Tests.{Test, passed, failed, ltb?}
+use Rattle.lists.proofs.Places as places
 use Rattle.reach.specs.Counting.{valuesOf}
 
 module _ {A : Type 0} where
@@ -46,8 +47,6 @@ module _ {A : Type 0} where
   pub values-front : (f : ℕ → A) (d : A) (n : ℕ) (l : List A) → n ≤ length l → ((i : ℕ) → i < n → getD l i d ≡ f i) → l ≡ valuesOf f n ++ drop n l
   values-front f d n l h e = front-same d l (valuesOf f n) n (values-length f n) h (λ i k. e i k ∙ sym (values-at f d n i k))
 
--- what stands at a place of the images of a list, whatever stands for what is not there
+-- what stands at a place of the images of a list: crate lists has the law
 pub map-at : {A B : Type 0} (f : A → B) (l : List A) (i : ℕ) (b : B) (a : A) → i < length l → getD (map f l) i b ≡ f (getD l i a)
-map-at f [] i b a h = absurd (omega arith)
-map-at f (x ∷ l) zero b a h = refl
-map-at f (x ∷ l) (suc i) b a h = map-at f l i b a (omega arith)
+map-at = places.map-at

@@ -4,7 +4,7 @@ use mir.Syntax.{Ty, w64, tyInt}
 use denote.RattleType.{RattleType}
 use denote.Signature.{Slot, plain}
 use denote.Builtin.{i64, Array, ArrayOf}
-use Rattle.model.specs.Limits.{maxPaths}
+use Rattle.model.specs.Limits.{recordWidth, maxPaths}
 
 -- a number in memory
 abbrev pub word : Ty
@@ -12,8 +12,8 @@ word = tyInt w64
 
 -- an array with the numbers of the longest list
 abbrev pub Numbers : RattleType
-Numbers = Array i64 tt (3 * maxPaths)
+Numbers = Array i64 tt (recordWidth * maxPaths)
 
 -- the same in a signature
 abbrev pub numbersSlot : {n : ℕ} → Slot n
-numbersSlot = ArrayOf (plain (λ _. i64)) (λ _. tt) (3 * maxPaths)
+numbersSlot = ArrayOf (plain (λ _. i64)) (λ _. tt) (recordWidth * maxPaths)

@@ -10,7 +10,7 @@ use lib.IntN.{ℤ}
 use lib.ListN.{length, take, drop, length-map}
 use lib.Seq.{length-take-le}
 use Rattle.integers.proofs.Tests.{Test, passed, failed, ltb?}
-use Rattle.model.specs.Limits.{maxPaths}
+use Rattle.model.specs.Limits.{recordWidth, maxPaths}
 use Rattle.model.specs.Graph.{graphOf, node}
 use Rattle.model.specs.Bitmapping.{Record}
 use Rattle.model.specs.Runs.{listOf, runs}
@@ -37,28 +37,28 @@ use Rattle.records.proofs.Putting.{recordsIn-numbers, storedRecords-dro
 -- ---- the numbers that are lent
 
 -- for few records, three numbers each
-pub lent-few : {room : ℕ} → room < maxPaths → lentNumbers room ≡ 3 * room
+pub lent-few : {room : ℕ} → room < maxPaths → lentNumbers room ≡ recordWidth * room
 unfolding lentNumbers
 lent-few {room} h = go (ltb room maxPaths) (ltb? room maxPaths)
   where
-    go : (t : Bool) → Test (room < maxPaths) (maxPaths ≤ room) t → 3 * cond t room maxPaths ≡ 3 * room
+    go : (t : Bool) → Test (room < maxPaths) (maxPaths ≤ room) t → recordWidth * cond t room maxPaths ≡ recordWidth * room
     go true (passed k) = refl
     go false (failed k) = absurd (omega arith)
 
 -- for many, those of the longest list
-pub lent-many : {room : ℕ} → maxPaths ≤ room → lentNumbers room ≡ 3 * maxPaths
+pub lent-many : {room : ℕ} → maxPaths ≤ room → lentNumbers room ≡ recordWidth * maxPaths
 unfolding lentNumbers
 lent-many {room} h = go (ltb room maxPaths) (ltb? room maxPaths)
   where
-    go : (t : Bool) → Test (room < maxPaths) (maxPaths ≤ room) t → 3 * cond t room maxPaths ≡ 3 * maxPaths
+    go : (t : Bool) → Test (room < maxPaths) (maxPaths ≤ room) t → recordWidth * cond t room maxPaths ≡ recordWidth * maxPaths
     go true (passed k) = absurd (omega arith)
     go false (failed k) = refl
 
 -- what is lent is no more than the longest list needs, and no more than three numbers a record
-pub lent-within : (room : ℕ) → (lentNumbers room ≤ 3 * maxPaths) × (lentNumbers room ≤ 3 * room)
+pub lent-within : (room : ℕ) → (lentNumbers room ≤ recordWidth * maxPaths) × (lentNumbers room ≤ recordWidth * room)
 lent-within room = go (ltb room maxPaths) (ltb? room maxPaths)
   where
-    go : (t : Bool) → Test (room < maxPaths) (maxPaths ≤ room) t → (lentNumbers room ≤ 3 * maxPaths) × (lentNumbers room ≤ 3 * room)
+    go : (t : Bool) → Test (room < maxPaths) (maxPaths ≤ room) t → (lentNumbers room ≤ recordWidth * maxPaths) × (lentNumbers room ≤ recordWidth * room)
     go true (passed k) = (omega (arith, lent-few k), omega (arith, lent-few k))
     go false (failed k) = (omega (arith, lent-many k), omega (arith, lent-many k))
 
@@ -74,7 +74,7 @@ module _ (ns es : List ℤ) (r l : ℤ) where
       omega (arith, asked-few ns es r l taken, runs-within-paths g r l, length-map (runs g r l) records, normal-length (map records (runs g r l)))
 
   -- where list gives records, they are no more than a list can have, and their numbers fit
-  pub given-fit : (room : ℕ) (records : List Record) → listAnswer ns es r l room ≡ full records → (length records ≤ maxPaths) × (3 * length records ≤ room)
+  pub given-fit : (room : ℕ) (records : List Record) → listAnswer ns es r l room ≡ full records → (length records ≤ maxPaths) × (recordWidth * length records ≤ room)
   unfolding listAnswer
   given-fit room records e = (omega (arith, ap length (given .1), list-few (given .0)), fit (ltb room size) (ltb? room size))
     where
@@ -87,14 +87,14 @@ module _ (ns es : List ℤ) (r l : ℤ) where
       given : (full tt ≡ checked (checkAsked ns es r l)) × (all ≡ records)
       given = single-given all ns es r l size room e
 
-      fit : (t : Bool) → Test (room < size) (size ≤ room) t → 3 * length records ≤ room
+      fit : (t : Bool) → Test (room < size) (size ≤ room) t → recordWidth * length records ≤ room
       fit true (passed k) =
           let long = single-long all ns es r l size room (given .0) k in
           let z : _≡_ {A = ℕ} 0 1 = cc in absurd (omega arith)
       fit false (failed k) = omega (arith, ap length (given .1), numbers-length all)
 
   -- more room than the longest list needs changes nothing
-  pub answer-lent : (room : ℕ) → listAnswer ns es r l (3 * room) ≡ listAnswer ns es r l (lentNumbers room)
+  pub answer-lent : (room : ℕ) → listAnswer ns es r l (recordWidth * room) ≡ listAnswer ns es r l (lentNumbers room)
   unfolding listAnswer answer
   answer-lent room = go (ltb room maxPaths) (ltb? room maxPaths)
     where
@@ -104,14 +104,14 @@ module _ (ns es : List ℤ) (r l : ℤ) where
       size : ℕ
       size = length (numbersOf all)
 
-      many : maxPaths ≤ room → (c : Option Refusal) → checked c ≡ checked (checkAsked ns es r l) → listAnswer ns es r l (3 * room) ≡ listAnswer ns es r l (3 * maxPaths)
+      many : maxPaths ≤ room → (c : Option Refusal) → checked c ≡ checked (checkAsked ns es r l) → listAnswer ns es r l (recordWidth * room) ≡ listAnswer ns es r l (recordWidth * maxPaths)
       many k none e =
           let few = list-few e in
-          single-full all ns es r l size (3 * room) e (omega (arith, numbers-length all))
-          ∙ sym (single-full all ns es r l size (3 * maxPaths) e (omega (arith, numbers-length all)))
-      many k (some x) e = single-refused all ns es r l size (3 * room) e ∙ sym (single-refused all ns es r l size (3 * maxPaths) e)
+          single-full all ns es r l size (recordWidth * room) e (omega (arith, numbers-length all))
+          ∙ sym (single-full all ns es r l size (recordWidth * maxPaths) e (omega (arith, numbers-length all)))
+      many k (some x) e = single-refused all ns es r l size (recordWidth * room) e ∙ sym (single-refused all ns es r l size (recordWidth * maxPaths) e)
 
-      go : (t : Bool) → Test (room < maxPaths) (maxPaths ≤ room) t → listAnswer ns es r l (3 * room) ≡ listAnswer ns es r l (lentNumbers room)
+      go : (t : Bool) → Test (room < maxPaths) (maxPaths ≤ room) t → listAnswer ns es r l (recordWidth * room) ≡ listAnswer ns es r l (lentNumbers room)
       go true (passed k) = ap (listAnswer ns es r l) (sym (lent-few k))
       go false (failed k) = many k (checkAsked ns es r l) refl ∙ ap (listAnswer ns es r l) (sym (lent-many k))
 
@@ -129,19 +129,19 @@ count-full (written.Refused reason) e = let z : _≡_ {A = ℕ} 0 1 = cc in absu
 
 module _ (ns es : List ℤ) (r l : ℤ) (room : ℕ) where
   -- no more than a list can have, and than there is room for
-  count-fit : (given : Written) → writtenAnswer given ≡ lengthOf (listAnswer ns es r l (3 * room)) → (countOf given ≤ maxPaths) × (countOf given ≤ room)
+  count-fit : (given : Written) → writtenAnswer given ≡ lengthOf (listAnswer ns es r l (recordWidth * room)) → (countOf given ≤ maxPaths) × (countOf given ≤ room)
   unfolding lengthOf
-  count-fit given e = go (listAnswer ns es r l (3 * room)) refl
+  count-fit given e = go (listAnswer ns es r l (recordWidth * room)) refl
     where
-      go : (x : Answer (List Record)) → listAnswer ns es r l (3 * room) ≡ x → (countOf given ≤ maxPaths) × (countOf given ≤ room)
+      go : (x : Answer (List Record)) → listAnswer ns es r l (recordWidth * room) ≡ x → (countOf given ≤ maxPaths) × (countOf given ≤ room)
       go (refused q) h = let none = count-refused given (e ∙ ap lengthOf h) in (omega arith, omega arith)
       go (full records) h =
           let some = count-full given (e ∙ ap lengthOf h) in
-          let fit = given-fit ns es r l (3 * room) records h in
+          let fit = given-fit ns es r l (recordWidth * room) records h in
           (omega (arith, fit .0), omega (arith, fit .1))
 
   -- list was lent the front of the work buffer
-  pub front-listed : (work worked : List ℤ) (given : Written) → length work ≡ 3 * maxPaths
+  pub front-listed : (work worked : List ℤ) (given : Written) → length work ≡ recordWidth * maxPaths
       → writtenAnswer given ≡ listGives ns es r l (take (lentNumbers room) work)
       → worked ≡ listAfter ns es r l (take (lentNumbers room) work) ++ drop (lentNumbers room) work → Listed ns es r l room work given worked
   unfolding workAfter listGives
@@ -158,7 +158,7 @@ module _ (ns es : List ℤ) (r l : ℤ) (old : List Stored) (work : List ℤ) {g
   where
     -- the answer of list, as the promise has it
     abbrev listed : Answer (List Record)
-    listed = listAnswer ns es r l (3 * length old)
+    listed = listAnswer ns es r l (recordWidth * length old)
 
     -- the slice with the records that the answer tells of
     abbrev pub put : List Stored
@@ -194,9 +194,9 @@ module _ (ns es : List ℤ) (r l : ℤ) (old : List Stored) (work : List ℤ) {g
         ∙ ap (λ t. records ++ t) (storedRecords-drop n old)
 
     -- the room of a slice of structs is that of its records
-    slice-listed : listAnswer ns es r l (3 * length (storedRecords old)) ≡ listed
+    slice-listed : listAnswer ns es r l (recordWidth * length (storedRecords old)) ≡ listed
     unfolding storedRecords
-    slice-listed = ap (λ n. listAnswer ns es r l (3 * n)) (length-map old storedRecord)
+    slice-listed = ap (λ n. listAnswer ns es r l (recordWidth * n)) (length-map old storedRecord)
 
     pub records-promise : RecordsPromise ns es r l old work given put worked
     unfolding recordsGives recordsAfter lengthOf bufferAfter
@@ -220,5 +220,5 @@ module _ (ns es : List ℤ) (r l : ℤ) (old : List Stored) (work : List ℤ) {g
               records = records;
               count = count;
               stands = slice-written records e ∙ ap (λ m. records ++ drop m (storedRecords old)) count;
-              reached = list-given ns es r l (3 * length old) records e;
+              reached = list-given ns es r l (recordWidth * length old) records e;
             }

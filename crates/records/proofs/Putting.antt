@@ -9,10 +9,10 @@ use lib.ListN.{length, set, drop, length-append, length-drop, length-map}
 use lib.Seq.{drop-cons, set-at}
 use Rattle.model.specs.Bitmapping.{Record}
 use Rattle.model.specs.Calls as calls
-use Rattle.sorting.specs.Rows.{rowsOf}
+use Rattle.sorting.specs.Rows.{rowWidth, rowsOf}
 use Rattle.sorting.proofs.Tables.{rowsOf-length, rowsOf-add, rowAt-drop}
 use Rattle.records.specs.declared.Record.{Record as Stored}
-use Rattle.records.specs.Promises.{storedRecord, storedRecords}
+use Rattle.records.specs.Promises.{storedRecords}
 use Rattle.records.specs.Putting.{rowStored, recordAt, recordsIn}
 
 -- n records are read
@@ -24,7 +24,7 @@ pub recordsIn-more : (numbers : List ℤ) (n : ℕ) → recordsIn numbers (suc n
 unfolding rowsOf
 recordsIn-more numbers n =
     ap (recordsIn numbers) (sym (add-one n)) ∙ ap (map rowStored) (rowsOf-add numbers n 1)
-    ∙ map-append rowStored (rowsOf numbers n) (rowsOf (drop (3 * n) numbers) 1)
+    ∙ map-append rowStored (rowsOf numbers n) (rowsOf (drop (rowWidth * n) numbers) 1)
     ∙ ap (λ row. recordsIn numbers n ++ (rowStored row ∷ [])) (rowAt-drop numbers n)
 
 -- before any record is stored, the slice is as it was
@@ -58,16 +58,3 @@ unfolding storedRecords
 storedRecords-drop zero old = refl
 storedRecords-drop (suc n) [] = refl
 storedRecords-drop (suc n) (s ∷ old) = storedRecords-drop n old
-
--- what a slice stores fixes its structs
-pub storedRecords-injective : (old new : List Stored) → storedRecords old ≡ storedRecords new → old ≡ new
-unfolding storedRecords
-storedRecords-injective [] [] e = refl
-storedRecords-injective [] (s ∷ new) e = let z : _≡_ {A = ℕ} 0 1 = cc in absurd (omega arith)
-storedRecords-injective (r ∷ old) [] e = let z : _≡_ {A = ℕ} 0 1 = cc in absurd (omega arith)
-storedRecords-injective (r ∷ old) (s ∷ new) e =
-    let same : storedRecord r ≡ storedRecord s = cc in
-    let rest : storedRecords old ≡ storedRecords new = cc in
-    let structs : r ≡ s = λ at. record { first = same at .first; last = same at .last; displacement = same at .displacement } in
-    let tail = storedRecords-injective old new rest in
-    λ at. structs at ∷ tail at

@@ -6,7 +6,7 @@ use Prim.Native.Nat.{ℕ, _*_}
 use lib.Dec.{ltb}
 use lib.IntN.{ℤ}
 use lib.ListN.{length, take, drop}
-use Rattle.model.specs.Limits.{maxPaths}
+use Rattle.model.specs.Limits.{recordWidth, maxPaths}
 use Rattle.model.specs.Graph.{Graph, graphOf}
 use Rattle.model.specs.Bitmapping.{Record, IsBitmappingList}
 use Rattle.model.specs.Calls.{full, listAfter, recordsGives, recordsAfter}
@@ -24,7 +24,7 @@ storedRecords = map storedRecord
 
 -- how many numbers of the work buffer are lent for a slice of so many records: three a record, for at most as many records as a list can have
 unfoldable pub lentNumbers : ℕ → ℕ
-lentNumbers room = 3 * cond (ltb room maxPaths) room maxPaths
+lentNumbers room = recordWidth * cond (ltb room maxPaths) room maxPaths
 
 -- what the work buffer holds afterwards: in front what list leaves in the numbers that it is lent, and past them what it held
 unfoldable pub workAfter : List ℤ → List ℤ → ℤ → ℤ → ℕ → List ℤ → List ℤ

@@ -13,7 +13,7 @@ use Rattle.integers.proofs.Tests.{min-is, max-is}
 use Rattle.lists.specs.Lists.{_∈_}
 use Rattle.model.specs.Bitmapping.{Record}
 use Rattle.sorting.specs.declared.Row.{Row}
-use Rattle.sorting.specs.Rows.{rowAt, rowsOf, rowsFrom, leRow, Ascending, more}
+use Rattle.sorting.specs.Rows.{rowWidth, rowAt, rowsOf, rowsFrom, leRow, Ascending, more}
 use Rattle.sorting.proofs.Order.{leRow-says, leRow-refl}
 use Rattle.sorting.proofs.Sorting.{first-of}
 use Rattle.sorting.proofs.Tables.{rowsOf-add, rowsFrom-more}
@@ -40,30 +40,30 @@ ascending-at t n i j a le lt =
     let all : i + (n - i) ≡ n = omega arith in
     let split : rowsOf t n ≡ rowsOf t i ++ rowsFrom t i n = ap (rowsOf t) (sym all) ∙ rowsOf-add t i (n - i) in
     let at : i + (j - i) ≡ j = omega arith in
-    let row : rowAt (drop (3 * i) t) (j - i) ≡ rowAt t j = row-behind t i (j - i) ∙ ap (rowAt t) at in
-    let here : rowAt t j ∈ rowsFrom t i n = subst (λ (r : Row). r ∈ rowsFrom t i n) row (row-in (drop (3 * i) t) (j - i) (n - i) (omega arith)) in
+    let row : rowAt (drop (rowWidth * i) t) (j - i) ≡ rowAt t j = row-behind t i (j - i) ∙ ap (rowAt t) at in
+    let here : rowAt t j ∈ rowsFrom t i n = subst (λ (r : Row). r ∈ rowsFrom t i n) row (row-in (drop (rowWidth * i) t) (j - i) (n - i) (omega arith)) in
     let more = rowsFrom-more t i n (omega arith) in
     let tail = ascending-behind (rowsOf t i) (subst Ascending split a) in
     leRow-says (rowAt t i) (rowAt t j) (ascending-head (subst Ascending more tail) (rowAt t j) (subst (λ (l : List Row). rowAt t j ∈ l) more here)) .first
 
 -- ---- the search
 
-module _ (t : List ℤ) (place count : ℕ) (a : Ascending (map byDisplacement (recordsAt t place count))) where
+module _ (t : List ℤ) (row count : ℕ) (a : Ascending (map byDisplacement (recordsAt t row count))) where
   -- the displacements do not fall
-  rising : (i j : ℕ) → i ≤ j → j < count → rowAt t (place + i) .first ≤ℤ rowAt t (place + j) .first
+  rising : (i j : ℕ) → i ≤ j → j < count → rowAt t (row + i) .first ≤ℤ rowAt t (row + j) .first
   rising i j le lt =
-      let l = drop (3 * place) t in
+      let l = drop (rowWidth * row) t in
       omega (
         arith,
         ints,
-        ap (λ (r : Row). r .first) (row-behind t place i),
-        ap (λ (r : Row). r .first) (row-behind t place j),
+        ap (λ (r : Row). r .first) (row-behind t row i),
+        ap (λ (r : Row). r .first) (row-behind t row j),
         ascending-at l count i j (subst Ascending (rows-back (rowsOf l count)) a) le lt,
       )
 
-  module _ {d : ℤ} {low high middle : ℕ} (p : Parted t place count d low high) (from : low ≤ middle) (to : middle < high) where
+  module _ {d : ℤ} {low high middle : ℕ} (p : Parted t row count d low high) (from : low ≤ middle) (to : middle < high) where
     -- a row whose displacement is below d, and those in front of it
-    pub parted-below : rowAt t (place + middle) .first <ℤ d → Parted t place count d (middle + 1) high
+    pub parted-below : rowAt t (row + middle) .first <ℤ d → Parted t row count d (middle + 1) high
     parted-below h =
         record {
           order = omega arith;
@@ -73,7 +73,7 @@ module _ (t : List ℤ) (place count : ℕ) (a : Ascending (map byDisplacement (
         }
 
     -- a row whose displacement is not, and those behind it
-    pub parted-above : d ≤ℤ rowAt t (place + middle) .first → Parted t place count d low middle
+    pub parted-above : d ≤ℤ rowAt t (row + middle) .first → Parted t row count d low middle
     parted-above h =
         record {
           order = from;
@@ -83,8 +83,8 @@ module _ (t : List ℤ) (place count : ℕ) (a : Ascending (map byDisplacement (
         }
 
 -- at first nothing is known
-pub parted-start : (t : List ℤ) (place count : ℕ) (d : ℤ) → Parted t place count d 0 count
-parted-start t place count d =
+pub parted-start : (t : List ℤ) (row count : ℕ) (d : ℤ) → Parted t row count d 0 count
+parted-start t row count d =
     record { order = omega arith; within = omega arith; below = λ i h. absurd (omega (arith, h)); above = λ i h k. absurd (omega (arith, h, k)) }
 
 -- ---- displacements that do not reach
@@ -108,23 +108,23 @@ module _ (f : Reference) (q : Record) {first last : ℤ} (inside : (first ≤ℤ
 
 -- ---- a list gathered
 
-module _ {f : Reference} {first last : ℤ} {old : List ℤ} {place count n : ℕ} (c : Cuttable f first last old place count n) where
-  root-bits : (j : ℕ) → j < count → (first ≤ℤ recordAt old place j .first) × (recordAt old place j .last ≤ℤ last)
-  root-bits j h = c .inside (recordAt old place j) (recordAt-in old place j count h)
+module _ {f : Reference} {first last : ℤ} {old : List ℤ} {row count n : ℕ} (c : Cuttable f first last old row count n) where
+  root-bits : (j : ℕ) → j < count → (first ≤ℤ recordAt old row j .first) × (recordAt old row j .last ≤ℤ last)
+  root-bits j h = c .inside (recordAt old row j) (recordAt-in old row j count h)
 
   -- the rows in front of the first whose displacement reaches are passed over
-  pub gathering-from : {i : ℕ} → Parted old place count (leastOf f first) i i → Gathering f old place count n old n i
+  pub gathering-from : {i : ℕ} → Parted old row count (leastOf f first) i i → Gathering f old row count n old n i
   gathering-from {i} p =
-      subst (Gathering f old place count n old n) (zero-add i)
-      (gathering-skip c (gathering-start f old place count n) i (omega (arith, p .within)) (λ j k l.
-      cut-before f (recordAt old place j) (root-bits j (omega (arith, l, p .within))) (p .below j (omega (arith, l)))))
+      subst (Gathering f old row count n old n) (zero-add i)
+      (gathering-skip c (gathering-start f old row count n) i (omega (arith, p .within)) (λ j k l.
+      cut-before f (recordAt old row j) (root-bits j (omega (arith, l, p .within))) (p .below j (omega (arith, l)))))
 
   -- and so are those behind the last
-  pub gathering-upto : {new : List ℤ} {m i end : ℕ} → Gathering f old place count n new m i → Parted old place count (pastOf f last) end end → end ≤ i
-      → Appended (cutRows f (recordsAt old place count)) old new n m
+  pub gathering-upto : {new : List ℤ} {m i end : ℕ} → Gathering f old row count n new m i → Parted old row count (pastOf f last) end end → end ≤ i
+      → Appended (cutRows f (recordsAt old row count)) old new n m
   gathering-upto {i = i} s p h =
       gathering-end c
       (gathering-skip c s (count - i) (omega (arith, s .upto)) (λ j k l.
       let low : j < count = omega (arith, l, s .upto) in
-      cut-past f (recordAt old place j) (root-bits j low) (p .above j (omega (arith, h, k)) low)))
+      cut-past f (recordAt old row j) (root-bits j low) (p .above j (omega (arith, h, k)) low)))
       (omega arith)

@@ -13,8 +13,8 @@ use Rattle.model.specs.Graph.{Graph, NodeRow, node, firstBit, lastBit}
 use Rattle.model.specs.Walk.{Walk}
 use Rattle.model.specs.Bitmapping.{Record}
 use Rattle.sorting.specs.declared.Row.{Row}
-use Rattle.sorting.specs.Rows.{rowAt, Ascending}
-use Rattle.normalisation.specs.Merging.{byDisplacement, recordsOf}
+use Rattle.sorting.specs.Rows.{rowWidth, rowAt, Ascending}
+use Rattle.normalisation.specs.Merging.{byDisplacement, displacedOf}
 use Rattle.steps.specs.Steps.{SmallAddress}
 use Rattle.references.specs.declared.Reference.{Reference as Held}
 use Rattle.references.specs.declared.Brought.{Brought}
@@ -118,14 +118,14 @@ pub record SmallRecord (s : Record) : Type 0 where
 
 -- n records from row p of a flat list on, rows by displacement
 abbrev pub recordsAt : List ℤ → ℕ → ℕ → List Record
-recordsAt t p n = recordsOf (drop (3 * p) t) n
+recordsAt t p n = displacedOf (drop (rowWidth * p) t) n
 
--- of `count` rows from row `place` on: those in front of `low` have displacements below d, those from `high` on have not
-pub record Parted (t : List ℤ) (place count : ℕ) (d : ℤ) (low high : ℕ) : Type 0 where
+-- of `count` rows from row `row` on: those in front of `low` have displacements below d, those from `high` on have not
+pub record Parted (t : List ℤ) (row count : ℕ) (d : ℤ) (low high : ℕ) : Type 0 where
   pub order : low ≤ high
   pub within : high ≤ count
-  pub below : (i : ℕ) → i < low → rowAt t (place + i) .first <ℤ d
-  pub above : (i : ℕ) → high ≤ i → i < count → d ≤ℤ rowAt t (place + i) .first
+  pub below : (i : ℕ) → i < low → rowAt t (row + i) .first <ℤ d
+  pub above : (i : ℕ) → high ≤ i → i < count → d ≤ℤ rowAt t (row + i) .first
 
 -- root bits from `first` on walk to no bit address of the reference at the owner by a displacement below this one
 abbrev pub leastOf : Reference → ℤ → ℤ
@@ -135,13 +135,13 @@ leastOf f first = first -ℤ (f .high +ℤ f .delta)
 abbrev pub pastOf : Reference → ℤ → ℤ
 pastOf f last = last -ℤ ((f .low +ℤ f .delta) -ℤ pos 1)
 
--- what gathering by a list starts from: rows from `place` on that stand before row n, sorted by displacement, each with root bits from first to last and bit
+-- what gathering by a list starts from: rows from `row` on that stand before row n, sorted by displacement, each with root bits from first to last and bit
 -- addresses below 2^62, and room for as many rows behind n
-pub record Cuttable (f : Reference) (first last : ℤ) (t : List ℤ) (place count n : ℕ) : Type 0 where
+pub record Cuttable (f : Reference) (first last : ℤ) (t : List ℤ) (row count n : ℕ) : Type 0 where
   pub small : SmallReference f
   pub root : SmallAddress first × SmallAddress last
-  pub before : place + count ≤ n
-  pub room : 3 * (n + count) ≤ length t
-  pub ascending : Ascending (map byDisplacement (recordsAt t place count))
-  pub inside : (q : Record) → q ∈ recordsAt t place count → (first ≤ℤ q .first) × (q .last ≤ℤ last)
-  pub within : (q : Record) → q ∈ recordsAt t place count → SmallRecord q
+  pub before : row + count ≤ n
+  pub room : rowWidth * (n + count) ≤ length t
+  pub ascending : Ascending (map byDisplacement (recordsAt t row count))
+  pub inside : (q : Record) → q ∈ recordsAt t row count → (first ≤ℤ q .first) × (q .last ≤ℤ last)
+  pub within : (q : Record) → q ∈ recordsAt t row count → SmallRecord q

@@ -7,7 +7,7 @@ ghost use lib.ListN.{length};
 ghost use Rattle.model.specs.Graph.{graphOf};
 ghost use Rattle.model.specs.Quantities.{Movable, Addable};
 ghost use Rattle.normalisation.specs.Merging.{byDisplacement, ofDisplacement};
-ghost use Rattle.sorting.specs.Rows.{rowAt, Ascending};
+ghost use Rattle.sorting.specs.Rows.{rowWidth, rowAt, Ascending};
 ghost use Rattle.steps.specs.Steps.{GoodRow, SmallOffset, SmallAddress};
 ghost use Rattle.listing.specs.Listing.{Appended};
 ghost use Rattle.references.specs.References.{referenceOf, own, shifted, through, unlessNone, broughtOf, SmallReference, sameReference, cutRow, cutRows, SmallRecord, recordsAt, Parted, leastOf, pastOf, Cuttable};
@@ -121,7 +121,7 @@ pub fn own_reference(nodes: &[i64], v: usize) -> Reference
 // bit addresses of the owner, before the displacement is added: the sum might not fit.
 fn append_cut(state: &mut [i64], p: usize, f: Reference, n: usize) -> usize
     requires { ⌜
-        (p < n) × (3 * n + 3 ≤ length (now state)) × SmallReference (referenceOf f) × SmallRecord (ofDisplacement (rowAt (now state) p)) ⌝ }
+        (p < n) × (rowWidth * n + rowWidth ≤ length (now state)) × SmallReference (referenceOf f) × SmallRecord (ofDisplacement (rowAt (now state) p)) ⌝ }
     ensures { λ r. ⌜ Appended (cutRow (referenceOf f) (ofDisplacement (rowAt (now (state .entry)) p))) (now (state .entry)) (now (state .exit)) n r ⌝ }
 {
     let row = row_at(state, p);
@@ -150,17 +150,17 @@ fn append_cut(state: &mut [i64], p: usize, f: Reference, n: usize) -> usize
     )
 }
 
-// Of `count` rows from row `place` on, by displacement and sorted: how many have displacements below d.
-fn rows_below(state: &[i64], place: usize, count: usize, d: Bits) -> usize
-    requires { ⌜ (3 * (place + count) ≤ length (now state)) × Ascending (map byDisplacement (recordsAt (now state) place count)) ⌝ }
-    ensures { λ r. ⌜ Parted (now (state .entry)) place count (d .0) r r ⌝ }
+// Of `count` rows from row `row` on, by displacement and sorted: how many have displacements below d.
+fn rows_below(state: &[i64], row: usize, count: usize, d: Bits) -> usize
+    requires { ⌜ (rowWidth * (row + count) ≤ length (now state)) × Ascending (map byDisplacement (recordsAt (now state) row count)) ⌝ }
+    ensures { λ r. ⌜ Parted (now (state .entry)) row count (d .0) r r ⌝ }
 {
     let mut low: usize = 0;
     let mut high = count;
     while low < high {
         let middle = (low + high) / 2;
-        let row = row_at(state, place + middle);
-        if row.first < d.0 {
+        let looked = row_at(state, row + middle);
+        if looked.first < d.0 {
             low = middle + 1;
         } else {
             high = middle;
@@ -188,22 +188,22 @@ fn reaching(f: Reference, first: Bits, last: Bits) -> Displacements
 // displacement, and only a part of the displacements can lead to the bit addresses of the reference. Returns how many rows stand there then.
 pub fn gather_list(
     state: &mut [i64],
-    place: usize,
+    row: usize,
     count: usize,
     f: Reference,
     first: Bits,
     last: Bits,
     n: usize,
 ) -> usize
-    requires { ⌜ Cuttable (referenceOf f) (first .0) (last .0) (now state) place count n ⌝ }
-    ensures { λ r. ⌜ Appended (cutRows (referenceOf f) (recordsAt (now (state .entry)) place count)) (now (state .entry)) (now (state .exit)) n r ⌝ }
+    requires { ⌜ Cuttable (referenceOf f) (first .0) (last .0) (now state) row count n ⌝ }
+    ensures { λ r. ⌜ Appended (cutRows (referenceOf f) (recordsAt (now (state .entry)) row count)) (now (state .entry)) (now (state .exit)) n r ⌝ }
 {
     let span = reaching(f, first, last);
-    let end = rows_below(state, place, count, span.past);
+    let end = rows_below(state, row, count, span.past);
     let mut m = n;
-    let mut i = rows_below(state, place, count, span.least);
+    let mut i = rows_below(state, row, count, span.least);
     while i < end {
-        m = append_cut(state, place + i, f, m);
+        m = append_cut(state, row + i, f, m);
         i += 1;
     }
     m

@@ -1,23 +1,23 @@
 -- The refusals of tables are small: a row is looked at only once the shape of its table is good.
 use mathlib.Core.Path.{_≡_, refl, ap}
 use mathlib.Core.Bool.{Bool, true, false, not, _||_}
-use mathlib.Core.List.{List, [], _∷_, List·Memᴰ·head, List·Memᴰ·tail, List·Memᴰ·not-nil, List·Memᴰ·cases-cons}
-use mathlib.Core.Logic.{⊎-elim}
+use mathlib.Core.List.{List, [], _∷_, List·Memᴰ·head, List·Memᴰ·tail}
 use mathlib.Core.Option.{Option, none, some}
 use Prim.Native.Nat.{ℕ, suc, _+_, _*_, _%_, _≤_, _<_}
 use native.Mathlib.Omega.{arith}
 use lib.Dec.{eqb, ltb}
 use lib.IntN.{ℤ}
 use lib.ListN.{length}
-use Rattle.integers.proofs.Tests.{Test, failed, ltb?}
 use Rattle.lists.specs.Lists.{_∈_, isNil}
 use Rattle.model.specs.Limits.{nodeWidth, edgeWidth, pairWidth, maxNodes, maxEdges, maxPairs, rootStride}
-use Rattle.model.specs.Rows.{Node, Edge, Pair, nodesFrom, edgesFrom, pairsFrom, nodeRows, edgeRows, pairRows}
+use Rattle.model.specs.Rows.{nodeRows, edgeRows, pairRows}
 use Rattle.model.specs.Graph.{Graph, graphOf}
 use Rattle.model.specs.Compare.{Tables, specGraph, implGraph, rootRows, leafRows, visits}
 use Rattle.model.specs.Refusals.{Refusal}
 use Rattle.model.specs.Checks.{when, _then_, firstOf, checkShape, checkNode, checkEdge, cyclic, deep, checkGraph, isRoot, isLeaf, checkPair, checkVisit, checkPairing, checkTables}
 use Rattle.model.proofs.Visits.{visits-in}
+use Rattle.model.proofs.Taken.{shape-taken}
+use Rattle.tables.proofs.Rows.{node-own, edge-own, pair-own}
 use Rattle.refusals.specs.Small.{SmallCheck}
 
 -- ---- one check after the other
@@ -40,44 +40,9 @@ first-small check (x ∷ l) f =
 
 -- ---- rows
 
--- a table whose shape is not refused has no more rows than its limit
-shape-few : (t width most : ℕ) (xs : List ℤ) → checkShape t width most xs ≡ none → length xs ≤ width * most
-unfolding checkShape when
-shape-few t width most xs e = go (not (eqb (length xs % width) 0)) (ltb (width * most) (length xs)) (ltb? (width * most) (length xs)) e
-  where
-    go : (a b : Bool) → Test (width * most < length xs) (length xs ≤ width * most) b → when (a || b) 1 t 0 ≡ none → length xs ≤ width * most
-    go true true h e = let z : _≡_ {A = ℕ} 0 1 = cc in absurd (omega arith)
-    go false true h e = let z : _≡_ {A = ℕ} 0 1 = cc in absurd (omega arith)
-    go a false (failed h) e = h
-
 shape-small : (t width most : ℕ) (xs : List ℤ) → t < 8 → SmallCheck (checkShape t width most xs)
 unfolding checkShape
 shape-small t width most xs h = when-small (not (eqb (length xs % width) 0) || ltb (width * most) (length xs)) (omega arith) h (omega arith)
-
--- a row lies below the numbers of its table
-node-below : (i : ℕ) (ns : List ℤ) {n : Node} → n ∈ nodesFrom i ns → n .row ≤ i + length ns
-unfolding nodesFrom
-node-below i [] m = absurd (List·Memᴰ·not-nil m)
-node-below i (k ∷ []) m = absurd (List·Memᴰ·not-nil m)
-node-below i (k ∷ b ∷ []) m = absurd (List·Memᴰ·not-nil m)
-node-below i (k ∷ b ∷ r ∷ []) m = absurd (List·Memᴰ·not-nil m)
-node-below i (k ∷ b ∷ r ∷ u ∷ ns) {n} m =
-    ⊎-elim (λ e. let q : n .row ≡ i = ap (λ (d : Node). d .row) e in omega arith) (λ j. omega (arith, node-below (suc i) ns j)) (List·Memᴰ·cases-cons m)
-
-edge-below : (i : ℕ) (es : List ℤ) {n : Edge} → n ∈ edgesFrom i es → n .row ≤ i + length es
-unfolding edgesFrom
-edge-below i [] m = absurd (List·Memᴰ·not-nil m)
-edge-below i (f ∷ []) m = absurd (List·Memᴰ·not-nil m)
-edge-below i (f ∷ t ∷ []) m = absurd (List·Memᴰ·not-nil m)
-edge-below i (f ∷ t ∷ o ∷ es) {n} m =
-    ⊎-elim (λ e. let q : n .row ≡ i = ap (λ (d : Edge). d .row) e in omega arith) (λ j. omega (arith, edge-below (suc i) es j)) (List·Memᴰ·cases-cons m)
-
-pair-below : (i : ℕ) (ps : List ℤ) {n : Pair} → n ∈ pairsFrom i ps → n .row ≤ i + length ps
-unfolding pairsFrom
-pair-below i [] m = absurd (List·Memᴰ·not-nil m)
-pair-below i (s ∷ []) m = absurd (List·Memᴰ·not-nil m)
-pair-below i (s ∷ k ∷ ps) {n} m =
-    ⊎-elim (λ e. let q : n .row ≡ i = ap (λ (d : Pair). d .row) e in omega arith) (λ j. omega (arith, pair-below (suc i) ps j)) (List·Memᴰ·cases-cons m)
 
 -- ---- one graph
 
@@ -89,10 +54,10 @@ graph-small t ns es h =
     then-small (checkShape (suc t) edgeWidth maxEdges es) _ (shape-small (suc t) edgeWidth maxEdges es (omega arith)) (λ e.
     then-small (firstOf (checkNode t) (nodeRows ns)) _
     (first-small (checkNode t) (nodeRows ns) (λ n m.
-    when-small _ (omega arith) (omega arith) (omega (arith, node-below 0 ns m, shape-few t nodeWidth maxNodes ns d))))
+    when-small _ (omega arith) (omega arith) (omega (arith, node-own ns m .0, shape-taken t nodeWidth maxNodes ns d .few))))
     (λ _. then-small (firstOf (checkEdge (suc t) (graphOf ns es)) (edgeRows es)) _
     (first-small (checkEdge (suc t) (graphOf ns es)) (edgeRows es) (λ n m.
-    let row : n .row < 10000000 = omega (arith, edge-below 0 es m, shape-few (suc t) edgeWidth maxEdges es e) in
+    let row : n .row < 10000000 = omega (arith, edge-own es m .0, shape-taken (suc t) edgeWidth maxEdges es e .few) in
     then-small (when _ 3 (suc t) (n .row)) _ (when-small _ (omega arith) (omega arith) row) (λ _. when-small _ (omega arith) (omega arith) row)))
     (λ _. then-small (when (cyclic (graphOf ns es)) 5 t 0) _ (when-small (cyclic (graphOf ns es)) (omega arith) (omega arith) (omega arith))
     (λ _. when-small (deep (graphOf ns es)) (omega arith) (omega arith) (omega arith))))))
@@ -105,7 +70,7 @@ pairs-small : (t : ℕ) (spec impl : ℤ → Bool) (ps : List ℤ) → t < 8 →
 unfolding checkPair
 pairs-small t spec impl ps h few =
     first-small (checkPair t spec impl (pairRows ps)) (pairRows ps) (λ p m.
-    let row : p .row < 10000000 = omega (arith, pair-below 0 ps m) in
+    let row : p .row < 10000000 = omega (arith, pair-own ps m .0) in
     then-small (when _ 7 t (p .row)) _ (when-small _ (omega arith) (omega arith) row) (λ _. when-small _ (omega arith) (omega arith) row))
 
 -- so are those of visits
@@ -115,7 +80,7 @@ unfolding checkVisit
 visits-refused s i ps qs h j =
     first-small (checkVisit s i) (visits (pairRows ps) (pairRows qs)) (λ v m.
     let w = visits-in (pairRows ps) (pairRows qs) .0 m in
-    let place : v .root .row * rootStride + v .leaf .row < 10000000 = omega (arith, pair-below 0 ps (w .0), pair-below 0 qs (w .1)) in
+    let place : v .root .row * rootStride + v .leaf .row < 10000000 = omega (arith, pair-own ps (w .0) .0, pair-own qs (w .1) .0) in
     then-small (when _ 10 1 _) _ (when-small _ (omega arith) (omega arith) place) (λ _. when-small _ (omega arith) (omega arith) place))
 
 pairing-small : (t : Tables) → SmallCheck (checkPairing t)
@@ -123,8 +88,8 @@ unfolding checkPairing
 pairing-small t =
     then-small (checkShape 4 pairWidth maxPairs (t .rootPairs)) _ (shape-small 4 pairWidth maxPairs (t .rootPairs) (omega arith)) (λ d.
     then-small (checkShape 5 pairWidth maxPairs (t .leafPairs)) _ (shape-small 5 pairWidth maxPairs (t .leafPairs) (omega arith)) (λ e.
-    let roots = shape-few 4 pairWidth maxPairs (t .rootPairs) d in
-    let leaves = shape-few 5 pairWidth maxPairs (t .leafPairs) e in
+    let roots = shape-taken 4 pairWidth maxPairs (t .rootPairs) d .few in
+    let leaves = shape-taken 5 pairWidth maxPairs (t .leafPairs) e .few in
     then-small (when (isNil (rootRows t)) 9 4 0) _ (when-small (isNil (rootRows t)) (omega arith) (omega arith) (omega arith)) (λ _.
     then-small (when (isNil (leafRows t)) 9 5 0) _ (when-small (isNil (leafRows t)) (omega arith) (omega arith) (omega arith)) (λ _.
     then-small (firstOf (checkPair 4 (isRoot (specGraph t)) (isRoot (implGraph t)) (rootRows t)) (rootRows t)) _

@@ -20,6 +20,7 @@ use Rattle.model.specs.Calls.{Answer, refused, full, answer, lengthOf}
 use Rattle.model.specs.Report.{report}
 use Rattle.model.specs.Reader.{allowed, checkBytes, brokenOff, checkText, columns, rowOf, Reading, stopped, rows, withRow, stop, readValues, readTable, readThird, readSecond, readFirst, readMap}
 use Rattle.model.specs.TextCheck.{Reported, reportedOf, checkRead, textAnswer, reportOf, textGives}
+use Rattle.model.proofs.Checks.{then-none}
 use Rattle.refusals.specs.Small.{SmallRefusal, SmallCheck, SmallAnswer}
 use Rattle.refusals.proofs.Checks.{when-small, then-small, tables-small}
 
@@ -58,14 +59,9 @@ text-small text =
     then-small (checkBytes 1 text) _ (bytes-small 1 text (omega (arith, text-short text e))) (λ _.
     when-small (brokenOff text) (omega arith) (omega arith) (omega (arith, feeds-short text, text-short text e))))
 
-then-first : (a b : Option Refusal) → (a then b) ≡ none → a ≡ none
-unfolding _then_
-then-first none b e = refl
-then-first (some r) b e = let z : _≡_ {A = ℕ} 0 1 = cc in absurd (omega arith)
-
 checked-short : (text : Bytes) → checkText text ≡ none → length text ≤ maxText
 unfolding checkText
-checked-short text e = text-short text (then-first (when (ltb maxText (length text)) 12 6 0) _ e)
+checked-short text e = text-short text (then-none (when (ltb maxText (length text)) 12 6 0) _ e .0)
 
 -- ---- lines
 

@@ -4,7 +4,7 @@ use mathlib.Core.Bool.{Bool, true, false, cond}
 use mathlib.Core.Logic.{_≢_}
 use mathlib.Core.List.{List, [], _∷_, map}
 use mathlib.Core.Option.{Option, none, some}
-use Prim.Native.Nat.{ℕ, zero, suc, _+_, _-_, _≤_, _<_}
+use Prim.Native.Nat.{ℕ, suc, _+_, _-_, _≤_, _<_}
 use native.Mathlib.Numerals.{add-one}
 use native.Mathlib.Omega.{arith}
 use borrow.Author.Tests.{eq-eqb, le-leb, lt-leb}
@@ -14,6 +14,7 @@ use lib.ListN.{length, take, drop, set, getD, length-map, length-drop}
 use lib.Seq.{drop-cons, getD-take, getD-drop, length-take-le, take-length, paste, paste-suc}
 use Rattle.integers.specs.Integers.{eqZ}
 use Rattle.integers.proofs.Tests.{is-false, eqZ→eq}
+use Rattle.lists.proofs.Places.{map-at}
 use Rattle.model.specs.Bytes.{Bytes}
 use Rattle.model.specs.Reader.{fieldsOf, valuesOf, keyed, arranged, rowOf}
 use Rattle.cursor.specs.Parts.{firstLine, exactly, lineValues}
@@ -22,11 +23,6 @@ use Rattle.columns.specs.Given.{maxNames, columnList, GoodColumns}
 use Rattle.sides.specs.Given.{numbersAt, rowNumbers, Appended}
 
 -- ---- the values at the columns
-
-getD-map : {A B : Type 0} (f : A → B) (l : List A) (i : ℕ) (d : A) (e : B) → i < length l → getD (map f l) i e ≡ f (getD l i d)
-getD-map f [] i d e h = absurd (omega arith)
-getD-map f (x ∷ l) zero d e h = refl
-getD-map f (x ∷ l) (suc i) d e h = getD-map f l i d e (omega arith)
 
 -- columns below n do not look behind n values
 numbers-take : (n : ℕ) (cs : List ℕ) (row : List ℤ) → ((j : ℕ) → j < length cs → getD cs j 0 < n) → numbersAt cs (take n row) ≡ numbersAt cs row
@@ -110,7 +106,7 @@ module _ {cs : Columns} (g : GoodColumns cs) (row : List ℤ) where
   number-at j h =
       let here : getD (drop 1 (columnList cs)) j 0 ≡ getD (cs .at) (j + 1) 0 =
       getD-drop 1 (columnList cs) j 0 ∙ getD-take (cs .count) (cs .at) (1 + j) 0 (omega arith) ∙ ap (λ (k : ℕ). getD (cs .at) k 0) (omega arith) in
-      getD-map (λ c. getD row c (pos 0)) (drop 1 (columnList cs)) j 0 (pos 0) (omega (arith, length-drop 1 (columnList cs), g .whole))
+      map-at (λ c. getD row c (pos 0)) (drop 1 (columnList cs)) j (pos 0) 0 (omega (arith, length-drop 1 (columnList cs), g .whole))
       ∙ ap (λ (c : ℕ). getD row c (pos 0)) here
 
 module _ (room n : ℕ) (numbers table : List ℤ) where

@@ -19,7 +19,7 @@ use Rattle.model.specs.Answers.{numbered}
 use Rattle.model.specs.Reader.{rowOf, Reading, stopped, rows, withRow, stop, readValues, rowsWith}
 use Rattle.cursor.specs.declared.Cursor.{Cursor}
 use Rattle.cursor.specs.Parts.{firstLine, laterLines}
-use Rattle.cursor.specs.Given.{Placed, Stands}
+use Rattle.cursor.specs.Given.{InText, Stands}
 use Rattle.cursor.proofs.Lines.{lines-none, lines-more, later-behind, later-empty}
 use Rattle.columns.specs.declared.Columns.{Columns}
 use Rattle.columns.specs.Given.{columnList}
@@ -146,19 +146,19 @@ pub record RowsLeft (text : Bytes) (cs : Columns) (last : Bool) (room : ℕ) (fi
   pub done : List (List ℤ)
   pub same : readValues last (columnList cs) (c₀ .line) (lines (drop (c₀ .at) text))
       ≡ withRows done (readValues last (columnList cs) (c .line) (lines (drop (c .at) text)))
-  pub placed : Placed text c
+  pub inText : InText text c
   pub inFirst : Held room (cs .count - 1) (rowsWith (pos 0) done) first₀ first n
   pub inSecond : Held room (cs .count - 1) (rowsWith (pos 1) done) second₀ second m
 
 -- none is read
 pub rows-start : {text : Bytes} {c : Cursor} (cs : Columns) (last : Bool) {room : ℕ} (most : ℕ) (first second : List ℤ)
-    → Placed text c → room ≡ (cs .count - 1) * most → RowsLeft text cs last room first second c first second c 0 0
+    → InText text c → room ≡ (cs .count - 1) * most → RowsLeft text cs last room first second c first second c 0 0
 unfolding rowsWith
 rows-start {text} {c} cs last {room} most first second p e =
     record {
       done = [];
       same = sym (with-none (readValues last (columnList cs) (c .line) (lines (drop (c .at) text))));
-      placed = p;
+      inText = p;
       inFirst = held-none room (cs .count - 1) most first e;
       inSecond = held-none room (cs .count - 1) most second e;
     }
@@ -183,7 +183,7 @@ module _ {text : Bytes} {cs : Columns} {last : Bool} {room : ℕ} {first₀ seco
         record {
           done = l .done;
           read = l .same ∙ rw (lines-none text (c .at) end, e, append-nil (l .done)) refl;
-          placed = l .placed;
+          inText = l .inText;
           first = held-stored (l .inFirst);
           second = held-stored (l .inSecond);
         }
@@ -204,7 +204,7 @@ module _ {text : Bytes} {cs : Columns} {last : Bool} {room : ℕ} {first₀ seco
                 append-nil (l .done),
                 add-one (c .line),
               );
-          placed = record { within = omega arith; low = omega (arith, l .placed .low) };
+          inText = record { within = omega arith; low = omega (arith, l .inText .low) };
           first = held-stored (l .inFirst);
           second = held-stored (l .inSecond);
         }
@@ -235,8 +235,8 @@ module _ {text : Bytes} {cs : Columns} {last : Bool} {room : ℕ} {first₀ seco
             → readFrom ≡ withRows (l .done ++ (r ∷ [])) (readValues last (columnList cs) (d .line) (lines (drop (d .at) text)))
         left-more {r} e = l .same ∙ rw (left-row e, s .line, s .before) (with-more (l .done) r _)
 
-        left-placed : Placed text d
-        left-placed = record { within = s .within; low = omega (arith, l .placed .low, s .line, rows-onward) }
+        left-in-text : InText text d
+        left-in-text = record { within = s .within; low = omega (arith, l .inText .low, s .line, rows-onward) }
 
         -- a row of side or role 0
         pub rows-first : {r next : List ℤ} {k : ℕ} → rowOf (columnList cs) (firstLine (drop (c .at) text)) ≡ some (pos 0 ∷ r)
@@ -246,7 +246,7 @@ module _ {text : Bytes} {cs : Columns} {last : Bool} {room : ℕ} {first₀ seco
             record {
               done = l .done ++ ((pos 0 ∷ r) ∷ []);
               same = left-more e;
-              placed = left-placed;
+              inText = left-in-text;
               inFirst = rw (rowsWith-same (pos 0) (pos 0) r (l .done) refl) (held-more (l .inFirst) space long (omega arith) a);
               inSecond = rw (rowsWith-other (pos 1) (pos 0) r (l .done) refl) (l .inSecond);
             }
@@ -259,7 +259,7 @@ module _ {text : Bytes} {cs : Columns} {last : Bool} {room : ℕ} {first₀ seco
             record {
               done = l .done ++ ((pos 1 ∷ r) ∷ []);
               same = left-more e;
-              placed = left-placed;
+              inText = left-in-text;
               inFirst = rw (rowsWith-other (pos 0) (pos 1) r (l .done) refl) (l .inFirst);
               inSecond = rw (rowsWith-same (pos 1) (pos 1) r (l .done) refl) (held-more (l .inSecond) space long (omega arith) a);
             }

@@ -13,7 +13,7 @@ use Rattle.model.specs.Answers.{refusalOf}
 use Rattle.model.specs.Reader.{rowOf, Reading, stopped, rows, rowsWith}
 use Rattle.cursor.specs.declared.Cursor.{Cursor}
 use Rattle.cursor.specs.Parts.{firstLine, laterLines}
-use Rattle.cursor.specs.Given.{Placed, Stands}
+use Rattle.cursor.specs.Given.{InText, Stands}
 use Rattle.columns.specs.declared.Columns.{Columns}
 use Rattle.columns.specs.Given.{columnList}
 use Rattle.sides.specs.declared.Row.{Row}
@@ -57,7 +57,7 @@ pub record Stored (numbers before after : List ℤ) (n : ℕ) : Type 0 where
 pub record RowsRead (reading : Reading) (text : Bytes) (room : ℕ) (before₀ after₀ before₁ after₁ : List ℤ) (c : Cursor) (n m : ℕ) : Type 0 where
   pub done : List (List ℤ)
   pub read : reading ≡ rows done (lines (drop (c .at) text)) (c .line)
-  pub placed : Placed text c
+  pub inText : InText text c
   pub first : Stored (take room (rowsWith (pos 0) done)) before₀ after₀ n
   pub second : Stored (take room (rowsWith (pos 1) done)) before₁ after₁ m
 

@@ -7,7 +7,7 @@ ghost use Rattle.lists.specs.Lists.{isNil};
 ghost use Rattle.model.specs.MapFile.{lines};
 ghost use Rattle.model.specs.Reader.{readValues};
 ghost use Rattle.cursor.specs.Parts.{firstLine};
-ghost use Rattle.cursor.specs.Given.{Placed};
+ghost use Rattle.cursor.specs.Given.{InText};
 ghost use Rattle.columns.specs.Given.{maxNames, columnList, GoodColumns};
 ghost use Rattle.sides.specs.Given.{Roomy, rowNumbers, RowGiven, Appended, RowsGiven};
 use columns::Columns;
@@ -25,7 +25,7 @@ enum Row {
 
 // Reads a value line, of which `row` holds the values afterwards, and tells its side or role.
 fn read_row(text: &[u8], from: Cursor, cs: Columns, row: &mut [i64]) -> Row
-    requires { ⌜ Placed (now text) from × GoodColumns cs × (maxNames ≤ length (now row)) ⌝ }
+    requires { ⌜ InText (now text) from × GoodColumns cs × (maxNames ≤ length (now row)) ⌝ }
     ensures { λ r. ⌜ RowGiven (now (text .entry)) from cs (now (row .exit)) r ⌝ }
 {
     let line = cursor::read_line(text, from, cs.count, row);
@@ -95,7 +95,7 @@ pub fn read_rows(
     first: &mut [i64],
     second: &mut [i64],
 ) -> Rows
-    requires { ⌜ Placed (now text) from × GoodColumns cs × Roomy cs room × (room ≤ length (now first)) × (room ≤ length (now second)) ⌝ }
+    requires { ⌜ InText (now text) from × GoodColumns cs × Roomy cs room × (room ≤ length (now first)) × (room ≤ length (now second)) ⌝ }
     ensures { λ r. ⌜ RowsGiven (readValues last (columnList cs) (from .line) (lines (drop (from .at) (now (text .entry))))) (now (text .entry)) room (now (first .entry)) (now (first .exit)) (now (second .entry)) (now (second .exit)) r ⌝ }
 {
     let mut row = [0i64; MAX_NAMES];

@@ -13,8 +13,8 @@ use Rattle.model.specs.Rows.{Pair, pairsFrom}
 use Rattle.model.specs.Compare.{Tables, rootRows, leafRows, Visit, visits, Finding, findingOf, findings}
 use Rattle.model.specs.Report.{findingLine}
 use Rattle.model.proofs.Visits.{visits-length}
-use Rattle.pairing.specs.Pairs.{pairAt}
-use Rattle.pairing.proofs.Pairs.{pairs-rest, pairs-end}
+use Rattle.tables.specs.Tables.{pairAt}
+use Rattle.tables.proofs.Rows.{pairs-rest, pairs-end, pairs-length}
 use Rattle.pathlimit.specs.Inputs.{Inputs}
 use Rattle.pathlimit.proofs.Inputs.{root-row-below, leaf-row-below}
 use Rattle.pairs.specs.Found.{findingAt}
@@ -68,24 +68,18 @@ findings-none t i h = rw (rows-none (t .rootPairs) i h) refl
 
 -- ---- how many there are
 
-rows-from-count : (i : ℕ) (ps : List ℤ) → length (pairsFrom i ps) ≡ length ps / pairWidth
-unfolding pairsFrom
-rows-from-count i [] = refl
-rows-from-count i (s ∷ []) = refl
-rows-from-count i (s ∷ m ∷ ps) = omega (arith, rows-from-count (suc i) ps)
-
 -- as many findings of a root row as leaf rows
 pub row-count : (t : Tables) (i : ℕ) → length (rowFindings t i) ≡ length (t .leafPairs) / pairWidth
 row-count t i =
     let visited : Pair → Visit = λ l. record { root = pairAt (t .rootPairs) i; leaf = l } in
-    length-map (map visited (leafRows t)) (findingOf t) ∙ length-map (leafRows t) visited ∙ rows-from-count 0 (t .leafPairs)
+    length-map (map visited (leafRows t)) (findingOf t) ∙ length-map (leafRows t) visited ∙ pairs-length (t .leafPairs)
 
 -- at most 1,000,000 in all
 pub findings-few : {t : Tables} → Inputs t → length (findings t) ≤ maxVisits
 unfolding findings
 findings-few {t} k =
-    let roots : length (rootRows t) ≤ maxPairs = omega (arith, rows-from-count 0 (t .rootPairs), k .rootShape .few) in
-    let leaves : length (leafRows t) ≤ maxPairs = omega (arith, rows-from-count 0 (t .leafPairs), k .leafShape .few) in
+    let roots : length (rootRows t) ≤ maxPairs = omega (arith, pairs-length (t .rootPairs), k .rootShape .few) in
+    let leaves : length (leafRows t) ≤ maxPairs = omega (arith, pairs-length (t .leafPairs), k .leafShape .few) in
     omega (
       arith,
       length-map (visits (rootRows t) (leafRows t)) (findingOf t),

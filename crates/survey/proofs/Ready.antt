@@ -13,14 +13,15 @@ use Rattle.model.specs.Graph.{graphOf}
 use Rattle.model.specs.Paths.{Root}
 use Rattle.model.specs.Taken.{TakenTables}
 use Rattle.model.specs.Compare.{Tables, leafRows}
-use Rattle.pairing.specs.Pairs.{pairAt}
-use Rattle.pairing.proofs.Pairs.{pair-member}
+use Rattle.tables.specs.Tables.{pairAt}
+use Rattle.tables.proofs.Rows.{pair-member}
 use Rattle.reach.specs.Counting.{pathCount}
 use Rattle.entering.proofs.Counts.{count-way}
 use Rattle.forward.specs.Forward.{Planned, LeadingTo}
 use Rattle.pathlimit.specs.Inputs.{FewPaths, Ready}
 use Rattle.pathlimit.proofs.Inputs.{row-roots}
-use Rattle.arrivals.specs.State.{rowWidth, stateRoom}
+use Rattle.sorting.specs.Rows.{rowWidth}
+use Rattle.arrivals.specs.State.{stateRoom}
 use Rattle.arrivals.specs.Sweep.{Sweepable, Swept}
 use Rattle.pairs.specs.Found.{Rooms, PairReady}
 use Rattle.pairs.proofs.Sides.{spec-side, impl-side}

@@ -14,8 +14,8 @@ use Rattle.model.specs.Runs.{listOf}
 use Rattle.model.specs.Compare.{Tables, leafRows, Visit, Finding, findingOf}
 use Rattle.judging.proofs.Judging.{no-records}
 use Rattle.forward.specs.Forward.{plannedCount}
-use Rattle.pairing.specs.Pairs.{pairAt}
-use Rattle.pairing.proofs.Pairs.{pair-member}
+use Rattle.tables.specs.Tables.{pairAt}
+use Rattle.tables.proofs.Rows.{pair-member}
 use Rattle.pathlimit.specs.Inputs.{Ready}
 use Rattle.pathlimit.proofs.Unplanned.{unplanned-paths}
 use Rattle.pairs.proofs.Lists.{list-few}

@@ -5,7 +5,7 @@ use lib.ListN.{length}
 use Rattle.model.specs.Limits.{pairWidth}
 use Rattle.model.specs.Compare.{Tables, leafRows, Finding, findingOf, findings}
 use Rattle.model.specs.Report.{findingLine}
-use Rattle.pairing.specs.Pairs.{pairAt}
+use Rattle.tables.specs.Tables.{pairAt}
 use Rattle.reporting.specs.Lines.{maxVisits}
 use Rattle.totals.specs.declared.Kept.{Kept}
 use Rattle.totals.specs.Kept.{KeptOf}

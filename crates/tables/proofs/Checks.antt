@@ -13,6 +13,7 @@ use Rattle.model.specs.Refusals.{Refusal}
 use Rattle.model.specs.Checks.{when, _then_, firstOf, goodNode, checkNode, goodEdge, checkEdge, cyclic, deep, checkGraph}
 use Rattle.model.specs.Calls.{Answer, refused, full, answer}
 use Rattle.model.specs.Answers.{numbered}
+use Rattle.model.proofs.Checks.{then-assoc}
 use Rattle.tables.specs.Tables.{checkRows}
 
 -- the answer of a check
@@ -85,11 +86,6 @@ module _ (t : ℕ) (g : Graph) (e : Edge) where
   edge-taken p q = rw (p, q)
 
 -- ---- one graph
-
-then-assoc : (a b c : Option Refusal) → (a then b) then c ≡ a then (b then c)
-unfolding _then_
-then-assoc none b c = refl
-then-assoc (some r) b c = refl
 
 -- the check of a graph: its tables row by row, then cycles and long chains
 pub check-graph-rows : (t : ℕ) (ns es : List ℤ)

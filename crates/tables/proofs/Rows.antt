@@ -8,10 +8,10 @@ use lib.IntN.{ℤ, pos}
 use lib.ListN.{length, getD, drop, length-drop}
 use lib.Seq.{drop-cons}
 use Rattle.lists.specs.Lists.{_∈_}
-use Rattle.model.specs.Limits.{nodeWidth, edgeWidth}
-use Rattle.model.specs.Rows.{Node, Edge, nodesFrom, edgesFrom, nodeRows, edgeRows}
+use Rattle.model.specs.Limits.{nodeWidth, edgeWidth, pairWidth}
+use Rattle.model.specs.Rows.{Node, Edge, Pair, nodesFrom, edgesFrom, pairsFrom, nodeRows, edgeRows, pairRows}
 use Rattle.model.specs.Graph.{graphOf, node, noNode}
-use Rattle.tables.specs.Tables.{nodeAt, edgeAt}
+use Rattle.tables.specs.Tables.{nodeAt, edgeAt, pairAt}
 
 -- ---- lists
 
@@ -180,3 +180,41 @@ edge-own es {e} m =
     let w = row-out edgesFrom edgeAt edgeWidth edges-rest edges-end es (length es / edgeWidth) (omega arith) (omega arith) m in
     let p : e .row ≡ w .0 = ap (λ x. x .row) (w .2) in
     (omega (arith, w .1), w .2 ∙ ap (edgeAt es) (sym p))
+
+-- ---- pair rows
+
+-- the pair rows from row i on, where it is there
+pub pairs-rest : (ps : List ℤ) (i : ℕ) → pairWidth * i + pairWidth ≤ length ps
+    → pairsFrom i (drop (pairWidth * i) ps) ≡ pairAt ps i ∷ pairsFrom (suc i) (drop (pairWidth * suc i) ps)
+unfolding pairsFrom
+pairs-rest ps i h =
+    rw (
+      drop-next ps (pairWidth * i) (pairWidth * i + 1) (omega arith) (omega arith),
+      drop-next ps (pairWidth * i + 1) (pairWidth * suc i) (omega arith) (omega arith),
+    )
+
+-- fewer than two numbers are no row
+pairs-short : (i : ℕ) (l : List ℤ) → length l < pairWidth → pairsFrom i l ≡ []
+unfolding pairsFrom
+pairs-short i [] h = refl
+pairs-short i (s ∷ []) h = refl
+pairs-short i (s ∷ m ∷ l) h = absurd (omega arith)
+
+-- the pair rows from row i on, where it is not there
+pub pairs-end : (ps : List ℤ) (i : ℕ) → length ps < pairWidth * i + pairWidth → pairsFrom i (drop (pairWidth * i) ps) ≡ []
+pairs-end ps i h = pairs-short i (drop (pairWidth * i) ps) (omega (arith, length-drop (pairWidth * i) ps))
+
+-- the number of pair rows
+pub pairs-length : (ps : List ℤ) → length (pairRows ps) ≡ length ps / pairWidth
+pairs-length ps = row-count pairsFrom pairAt pairWidth pairs-rest pairs-end ps (length ps / pairWidth) (omega arith) (omega arith)
+
+-- each pair row is a member
+pub pair-member : (ps : List ℤ) (k : ℕ) → k < length ps / pairWidth → pairAt ps k ∈ pairRows ps
+pair-member ps k h = row-in pairsFrom pairAt pairWidth pairs-rest pairs-end ps (length ps / pairWidth) (omega arith) (omega arith) k h
+
+-- each member is the pair row at its own place
+pub pair-own : (ps : List ℤ) {p : Pair} → p ∈ pairRows ps → (p .row < length ps / pairWidth) × (p ≡ pairAt ps (p .row))
+pair-own ps {p} m =
+    let w = row-out pairsFrom pairAt pairWidth pairs-rest pairs-end ps (length ps / pairWidth) (omega arith) (omega arith) m in
+    let e : p .row ≡ w .0 = ap (λ x. x .row) (w .2) in
+    (omega (arith, w .1), w .2 ∙ ap (pairAt ps) (sym e))

@@ -4,8 +4,8 @@ use mathlib.Core.Option.{Option}
 use Prim.Native.Nat.{ℕ, suc, _+_, _*_}
 use lib.IntN.{ℤ, pos}
 use lib.ListN.{getD}
-use Rattle.model.specs.Limits.{nodeWidth, edgeWidth, maxNodes, maxEdges}
-use Rattle.model.specs.Rows.{Node, Edge, nodeRows, edgeRows}
+use Rattle.model.specs.Limits.{nodeWidth, edgeWidth, pairWidth, maxNodes, maxEdges}
+use Rattle.model.specs.Rows.{Node, Edge, Pair, nodeRows, edgeRows}
 use Rattle.model.specs.Graph.{graphOf}
 use Rattle.model.specs.Refusals.{Refusal}
 use Rattle.model.specs.Checks.{_then_, firstOf, checkShape, checkNode, checkEdge}
@@ -21,6 +21,10 @@ nodeAt ns v =
 abbrev pub edgeAt : List ℤ → ℕ → Edge
 edgeAt es e =
     record { row = e; from = getD es (edgeWidth * e) (pos 0); to = getD es (edgeWidth * e + 1) (pos 0); offset = getD es (edgeWidth * e + 2) (pos 0) }
+
+-- row k of a pair table
+abbrev pub pairAt : List ℤ → ℕ → Pair
+pairAt ps k = record { row = k; spec = getD ps (pairWidth * k) (pos 0); impl = getD ps (pairWidth * k + 1) (pos 0) }
 
 -- what was read of a node row, as row v
 abbrev pub nodeOf : ℕ → NodeRow → Node

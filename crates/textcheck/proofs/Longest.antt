@@ -2,10 +2,10 @@
 -- seven and an address seventeen.
 use mathlib.Core.Path.{_≡_, refl, ap, subst, _∙_}
 use mathlib.Core.Bool.{Bool, true, false, cond, _&&_}
-use mathlib.Core.Logic.{_≢_, ⊎-elim}
+use mathlib.Core.Logic.{_≢_}
 use mathlib.Core.Option.{none}
-use mathlib.Core.List.{List, [], _∷_, _++_, map, flatMap, List·Memᴰ·head, List·Memᴰ·tail, List·Memᴰ·not-nil, List·Memᴰ·cases-cons}
-use Prim.Native.Nat.{ℕ, zero, suc, _+_, _*_, _≤_, _<_, _^_}
+use mathlib.Core.List.{List, [], _∷_, _++_, map, flatMap, List·Memᴰ·head, List·Memᴰ·tail}
+use Prim.Native.Nat.{ℕ, suc, _+_, _*_, _≤_, _<_, _^_}
 use native.Mathlib.Nat.{le-trans, lt-irrefl, lt-of-lt-of-le}
 use native.Mathlib.Omega.{arith}
 use lib.Dec.{eqb}
@@ -15,8 +15,8 @@ use Rattle.integers.proofs.Tests.{Test, passed, failed, eq?}
 use Rattle.integers.proofs.Linear.{le-in}
 use Rattle.lists.specs.Lists.{_∈_, isNil}
 use Rattle.model.specs.Bytes.{Bytes, lineFeed, blank, shown, spaced}
-use Rattle.model.specs.Rows.{Pair, pairsFrom}
-use Rattle.model.specs.Limits.{pairWidth, maxPairs}
+use Rattle.model.specs.Rows.{Pair}
+use Rattle.model.specs.Limits.{maxPairs}
 use Rattle.model.specs.Compare.{Tables, specGraph, implGraph, visits, Finding, findingOf, verdictOf, Place, nowhere, Result, rootRows, leafRows, findings, resultOf}
 use Rattle.model.specs.Checks.{checkTables}
 use Rattle.model.specs.Refusals.{NoneHolds, compareConditions, outputConditions}
@@ -29,6 +29,7 @@ use Rattle.model.proofs.Folds.{verdict-low, whole-low}
 use Rattle.model.proofs.Visits.{visits-in, visits-length}
 use Rattle.lists.proofs.Membership.{map-out}
 use Rattle.model.proofs.Demand.{compare-full, demand3}
+use Rattle.tables.proofs.Rows.{pair-own}
 use Rattle.report.proofs.Digits.{digits-one, digits-within}
 use Rattle.reporting.specs.Lines.{SmallFinding, SmallResult}
 use Rattle.reporting.proofs.Parts.{report-length, result-length, report-from, result-small}
@@ -123,16 +124,6 @@ pub record ShortPlace (p : Place) : Type 0 where
 nowhere-short : ShortPlace nowhere
 nowhere-short = record { root = omega (arith, shown-below); leaf = omega (arith, shown-below); address = omega (arith, shown-below) }
 
--- the rows of a table of at most so many pairs lie below that number
-row-low : (i most : ℕ) (ps : List ℤ) {p : Pair} → length ps ≤ pairWidth * most → p ∈ pairsFrom i ps → p .row < i + most
-unfolding pairsFrom
-row-low i most [] h m = absurd (List·Memᴰ·not-nil m)
-row-low i most (s ∷ []) h m = absurd (List·Memᴰ·not-nil m)
-row-low i zero (s ∷ k ∷ ps) h m = absurd (omega arith)
-row-low i (suc most) (s ∷ k ∷ ps) {p} h m =
-    ⊎-elim (λ e. let q : p .row ≡ i = ap (λ (d : Pair). d .row) e in omega arith) (λ n. omega (arith, row-low (suc i) most ps (omega arith) n))
-    (List·Memᴰ·cases-cons m)
-
 module _ (t : Tables) (taken : checkTables t ≡ none) where
   -- the tables are inputs, and each pair has few paths
   inputs : Inputs t × AllFew t
@@ -141,7 +132,7 @@ module _ (t : Tables) (taken : checkTables t ≡ none) where
   -- rows of pairs have at most three digits
   rows-low : {r l : Pair} → r ∈ rootRows t → l ∈ leafRows t → (r .row < maxPairs) × (l .row < maxPairs)
   rows-low p q =
-      (row-low 0 maxPairs (t .rootPairs) (inputs .0 .rootShape .few) p, row-low 0 maxPairs (t .leafPairs) (inputs .0 .leafShape .few) q)
+      (omega (arith, pair-own (t .rootPairs) p .0, inputs .0 .rootShape .few), omega (arith, pair-own (t .leafPairs) q .0, inputs .0 .leafShape .few))
 
   -- and lists at most four
   findings-small : (f : Finding) → f ∈ findings t → SmallFinding f

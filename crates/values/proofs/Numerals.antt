@@ -10,12 +10,13 @@ use native.Mathlib.Numerals.{add-one}
 use native.Mathlib.Omega.{arith}
 use borrow.Author.Tests.{le-leb, lt-leb, leb-true, eq-eqb, ne-eqb}
 use lib.Dec.{leb, eqb, lit<}
-use lib.IntN.{ℤ, pos, negℤ, _-ℤ_, +ℤ-idl}
+use lib.IntN.{pos, negℤ, _-ℤ_}
 use lib.ListN.{length, drop, getD, drop-of-length-le}
 use lib.Seq.{drop-cons}
 use mir.Syntax.{w64}
 use mir.Val.{SFits, toZ, ofZ}
-use mir.Facts.{toZ-pos, toZ-ofZ}
+use mir.Facts.{toZ-pos}
+use Rattle.integers.proofs.Negation.{negated-fits, negated}
 use Rattle.lists.specs.Lists.{all, isNil}
 use Rattle.filerules.proofs.Options.{none-some}
 use Rattle.model.specs.Limits.{maxDigits}
@@ -158,22 +159,9 @@ module _ (f : Bytes) {n : ℕ} (m : magnitude f ≡ some n) where
   pub positive-value : some (toZ w64 n) ≡ Option·map pos (magnitude f)
   positive-value = rw (m, toZ-pos w64 low)
 
-  -- 0 less a magnitude
-  minus : ℤ
-  minus = pos 0 -ℤ toZ w64 n
-
-  minus-is : minus ≡ negℤ (pos n)
-  unfolding minus
-  minus-is = rw (toZ-pos w64 low, +ℤ-idl) refl
-
-  -- it fits
+  -- 0 less a magnitude fits
   pub negative-fits : SFits w64 (pos 0 -ℤ toZ w64 n)
-  unfolding minus
-  negative-fits = rw minus-is (go n low)
-    where
-      go : (n : ℕ) → n < 2 ^ 63 → SFits w64 (negℤ (pos n))
-      go zero h = record { sfits = lit< tt }
-      go (suc n) h = record { sfits = omega arith }
+  negative-fits = negated-fits low
 
   -- behind a minus nothing writes 0
   pub negative-zero : n < 1 → none ≡ negative (magnitude f)
@@ -182,8 +170,8 @@ module _ (f : Bytes) {n : ℕ} (m : magnitude f ≡ some n) where
 
   -- any other magnitude is turned
   pub negative-value : 1 ≤ n → some (toZ w64 (ofZ w64 (pos 0 -ℤ toZ w64 n))) ≡ negative (magnitude f)
-  unfolding minus negative
-  negative-value h = rw (toZ-ofZ negative-fits, minus-is, m) (go n h)
+  unfolding negative
+  negative-value h = rw (negated low, m) (go n h)
     where
       go : (n : ℕ) → 1 ≤ n → some (negℤ (pos n)) ≡ negative (some n)
       go zero h = absurd (omega arith)

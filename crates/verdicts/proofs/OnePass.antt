@@ -20,7 +20,7 @@ use Rattle.model.specs.Verdicts.{differsAt, lowest}
 use Rattle.model.proofs.Records.{displacement-of, has-at, Touch, touch-is, Aligned, before?, before-irrefl, before-trans}
 use Rattle.model.proofs.Lowest.{HasSome, DifferOn, DifferAt, differs-at, agree-at, lowest-differs, lowest-least, lowest-nowhere}
 use Rattle.normalisation.specs.Records.{IsNormal}
-use Rattle.verdicts.specs.Records.{SmallRecord, SmallRecords}
+use Rattle.verdicts.specs.Records.{SmallRootBits, AllSmallRootBits}
 use Rattle.verdicts.specs.OnePass.{aligned, ends, candidates, lower, lowestFrom, lowestCandidate}
 
 -- ---- normal lists
@@ -288,7 +288,7 @@ candidate-differs {l = r ∷ l} {m = s ∷ m} {c} L M k b = go (aligned r s) (al
 -- ---- the lowest candidate
 
 -- the candidates of lists of small records are addresses
-candidates-small : {l m : List Record} → SmallRecords l → SmallRecords m → AtMost (pos 0) (candidates l m)
+candidates-small : {l m : List Record} → AllSmallRootBits l → AllSmallRootBits m → AtMost (pos 0) (candidates l m)
 unfolding candidates
 candidates-small {l = []} {m = []} L M c k = absurd (List·Memᴰ·not-nil k)
 candidates-small {l = []} {m = s ∷ m} L M c k = rw (List·Memᴰ·eq-of-singleton k) (M s (List·Memᴰ·head refl) .low)
@@ -296,10 +296,10 @@ candidates-small {l = r ∷ l} {m = []} L M c k = rw (List·Memᴰ·eq-of-single
 candidates-small {l = r ∷ l} {m = s ∷ m} L M c k =
     go (aligned r s) (candidates-small (λ z i. L z (List·Memᴰ·tail i)) (λ z i. M z (List·Memᴰ·tail i)) c) k
   where
-    P : SmallRecord r
+    P : SmallRootBits r
     P = L r (List·Memᴰ·head refl)
 
-    Q : SmallRecord s
+    Q : SmallRootBits s
     Q = M s (List·Memᴰ·head refl)
 
     past : Ending r s c → pos 0 ≤ℤ c
@@ -377,7 +377,7 @@ candidate-lowest {l} {m} {c} L M k b = go (leZ c (lowest l m)) (le? c (lowest l 
 -- shorter's list has it, for none touches the shorter. Where c is the first bit of a record that begins like none, no record at its place or
 -- behind it in the other list has the bit, and one before it would be longer than its like, whose end would make a lower candidate.
 -- Where there is no candidate, the lists differ nowhere and both answers are −1.
-pub lowest-one-pass : {l m : List Record} → IsNormal l → IsNormal m → SmallRecords l → SmallRecords m → lowestCandidate l m ≡ lowest l m
+pub lowest-one-pass : {l m : List Record} → IsNormal l → IsNormal m → AllSmallRootBits l → AllSmallRootBits m → lowestCandidate l m ≡ lowest l m
 unfolding lowestFrom lower
 lowest-one-pass {l} {m} L M P Q = go (candidates l m) refl
   where

@@ -4,7 +4,7 @@ use mathlib.Core.List.{List}
 use lib.IntN.{ℤ}
 use Rattle.normalisation.specs.Records.{recordAt}
 use Rattle.normalisation.proofs.Records.{recordAt-in}
-use Rattle.verdicts.specs.Records.{SmallRecord, SmallList}
+use Rattle.verdicts.specs.Records.{SmallRootBits, SmallList}
 
-pub small-at : {t : List ℤ} {n : ℕ} → SmallList t n → (i : ℕ) → i < n → SmallRecord (recordAt t i)
+pub small-at : {t : List ℤ} {n : ℕ} → SmallList t n → (i : ℕ) → i < n → SmallRootBits (recordAt t i)
 small-at {t} {n} h i k = h .small (recordAt t i) (recordAt-in t i n k)

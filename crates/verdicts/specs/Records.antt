@@ -13,17 +13,17 @@ use Rattle.verdicts.specs.declared.Record as code
 abbrev pub asRecord : code.Record → Record
 asRecord r = record { first = r .first; last = r .last; displacement = r .displacement }
 
--- the record has a bit, and its bits lie in 0 .. 2^62 − 1: one more than its last bit is a number of 64 bits
-pub record SmallRecord (r : Record) : Type 0 where
+-- the record has a bit, and its root bits lie in 0 .. 2^62 − 1: one more than its last bit is a number of 64 bits
+pub record SmallRootBits (r : Record) : Type 0 where
   pub low : pos 0 ≤ℤ r .first
   pub full : r .first ≤ℤ r .last
   pub high : r .last <ℤ pos addressRoom
 
--- every record of the list is small
-abbrev pub SmallRecords : List Record → Type 0
-SmallRecords l = (r : Record) → r ∈ l → SmallRecord r
+-- every record of the list has a bit, and its root bits lie in 0 .. 2^62 − 1
+abbrev pub AllSmallRootBits : List Record → Type 0
+AllSmallRootBits l = (r : Record) → r ∈ l → SmallRootBits r
 
--- n small records stand in the front of the flat list t, and they are a normal list
+-- n records with small root bits stand in the front of the flat list t, and they are a normal list
 pub record SmallList (t : List ℤ) (n : ℕ) : Type 0 where
   pub list : NormalList t n
-  pub small : SmallRecords (recordsOf t n)
+  pub small : AllSmallRootBits (recordsOf t n)

@@ -4,8 +4,9 @@ ghost use mathlib.Core.Path.{_≡_};
 ghost use Prim.Native.Nat.{_+_, _*_, _≤_};
 ghost use lib.ListN.{length};
 ghost use Rattle.model.specs.Verdicts.{sameRecord, sameList, lowest};
+ghost use Rattle.sorting.specs.Rows.{rowWidth};
 ghost use Rattle.normalisation.specs.Records.{recordAt, recordsOf, recordsFrom};
-ghost use Rattle.verdicts.specs.Records.{asRecord, SmallRecord, SmallList};
+ghost use Rattle.verdicts.specs.Records.{asRecord, SmallRootBits, SmallList};
 ghost use Rattle.verdicts.specs.OnePass as pass;
 
 // Root bits first .. last reach leaf bits that stand displacement below them.
@@ -20,7 +21,7 @@ pub struct Least(pub i64);
 
 // Record i of the list t.
 pub fn record_at(t: &[i64], i: usize) -> Record
-    requires { ⌜ 3 * i + 3 ≤ length (now t) ⌝ }
+    requires { ⌜ rowWidth * i + rowWidth ≤ length (now t) ⌝ }
     ensures { λ r. ⌜ asRecord r ≡ recordAt (now (t .entry)) i ⌝ }
 {
     let row = sorting::row_at(t, i);
@@ -53,7 +54,7 @@ fn same_records(r: Record, s: Record) -> bool
 
 // Whether na records of a are nb records of b, in one pass.
 pub fn same_lists(a: &[i64], na: usize, b: &[i64], nb: usize) -> bool
-    requires { ⌜ (3 * na ≤ length (now a)) × (3 * nb ≤ length (now b)) ⌝ }
+    requires { ⌜ (rowWidth * na ≤ length (now a)) × (rowWidth * nb ≤ length (now b)) ⌝ }
     ensures { λ r. ⌜ r ≡ sameList (recordsOf (now (a .entry)) na) (recordsOf (now (b .entry)) nb) ⌝ }
 {
     if na != nb {
@@ -85,7 +86,7 @@ fn lower(least: Least, next: i64) -> Least
 
 // The same, where the next is past the end of the shorter of two records, if one is shorter.
 fn lower_end(least: Least, r: Record, s: Record) -> Least
-    requires { ⌜ SmallRecord (asRecord r) × SmallRecord (asRecord s) ⌝ }
+    requires { ⌜ SmallRootBits (asRecord r) × SmallRootBits (asRecord s) ⌝ }
     ensures { λ b. ⌜ b .0 ≡ pass.lowestFrom (least .0) (pass.ends (asRecord r) (asRecord s)) ⌝ }
 {
     if r.last < s.last {
@@ -99,7 +100,7 @@ fn lower_end(least: Least, r: Record, s: Record) -> Least
 
 // The same, where the next is the first bit of record i of t, if there is one.
 fn lower_start(least: Least, t: &[i64], n: usize, i: usize) -> Least
-    requires { ⌜ 3 * n ≤ length (now t) ⌝ }
+    requires { ⌜ rowWidth * n ≤ length (now t) ⌝ }
     ensures { λ b. ⌜ b .0 ≡ pass.lowestFrom (least .0) (pass.starts (recordsFrom (now (t .entry)) i n)) ⌝ }
 {
     if i < n {
@@ -111,7 +112,7 @@ fn lower_start(least: Least, t: &[i64], n: usize, i: usize) -> Least
 
 // Whether both lists have a record i, and these two begin alike.
 fn alike_at(spec: &[i64], ns: usize, imp: &[i64], ni: usize, i: usize) -> bool
-    requires { ⌜ (3 * ns ≤ length (now spec)) × (3 * ni ≤ length (now imp)) ⌝ }
+    requires { ⌜ (rowWidth * ns ≤ length (now spec)) × (rowWidth * ni ≤ length (now imp)) ⌝ }
     ensures { λ b. ⌜ b ≡ pass.headsAligned (recordsFrom (now (spec .entry)) i ns) (recordsFrom (now (imp .entry)) i ni) ⌝ }
 {
     if ns <= i {

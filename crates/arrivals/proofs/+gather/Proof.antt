@@ -15,11 +15,12 @@ use Rattle.model.specs.Graph.{graphOf, NodeRow, bitOffset}
 use Rattle.tables.proofs.Rows.{edges-length}
 use Rattle.tables.specs.Tables.{edgeAt}
 use Rattle.steps.proofs.Rows.{node-good}
+use Rattle.model.specs.Limits.{edgeWidth}
 use Rattle.references.specs.References.{Reference, referenceOf, own, broughtOf, through, isNone}
 use Rattle.references.specs.declared.Reference.{Reference as Held}
 use Rattle.references.specs.declared.Brought.the-variants.{Left}
 use Rattle.references.proofs.Bringing.{none-brings}
-use Rattle.arrivals.specs.State.{isMet, referenceAt, isListed, placeOf, countOf, rootIn}
+use Rattle.arrivals.specs.State.{isMet, referenceAt, isListed, listRow, countOf, rootIn}
 use Rattle.arrivals.specs.Sweep.{Gatherable}
 use Rattle.arrivals.proofs.Gathering.{Through, owner-few, list-readable, list-cuttable, list-gathered, none-left, owner-other, head-is, through-start, through-end, through-agrees, next-is, next-onward, turn-crossable, turn-nothing, turn-part, part-gatherable, crossing-part, crossing-nothing}
 use Rattle.arrivals.proofs.gather.Reads as reads
@@ -72,7 +73,7 @@ abbrev Inv-loop : lts.InvT-loop
 Inv-loop nodes edges plan f left state₀ n owner rows m₀ e₀ state m e = Through nodes edges (referenceOf f) state₀ n state m e
 
 abbrev μ-loop : lts.MeasureT-loop
-μ-loop nodes edges plan f left state₀ n owner rows m₀ e₀ state m e = length edges / 3 - e
+μ-loop nodes edges plan f left state₀ n owner rows m₀ e₀ state m e = length edges / edgeWidth - e
 
 module _ (t : ℕ) where
   -- a list of the owner is kept
@@ -116,10 +117,10 @@ module _ (t : ℕ) where
       c .own-reference .ensures (s .args .edges .now) ∙ ap (own (graphOf (s .args .nodes .now) (s .args .edges .now))) (c .before .number-at .ensures)
 
   -- where the list stands
-  place : (c : lts.After-stored-at (claims t) (at t) reads.Post Inv-loop μ-loop)
+  stored : (c : lts.After-stored-at (claims t) (at t) reads.Post Inv-loop μ-loop)
       → let s = c .before .before .before .before .before .before in
-      (c .stored-at .result .row ≡ placeOf (s .args .state .now) (s .args .f .owner)) × (c .stored-at .result .count ≡ countOf (s .args .state .now) (s .args .f .owner))
-  place c = (ap natAbs (c .stored-at .ensures .0), ap natAbs (c .stored-at .ensures .1))
+      (c .stored-at .result .row ≡ listRow (s .args .state .now) (s .args .f .owner)) × (c .stored-at .result .count ≡ countOf (s .args .state .now) (s .args .f .owner))
+  stored c = (ap natAbs (c .stored-at .ensures .0), ap natAbs (c .stored-at .ensures .1))
 
   gather-list-requires : lts.Need-gather-list-requires (claims t) (at t) reads.Post Inv-loop μ-loop
   gather-list-requires c κs =
@@ -127,7 +128,7 @@ module _ (t : ℕ) where
       let r = o .before .before .before in
       let b = r .before .before in
       let s = b .before .before .before .before in
-      rw (place r .0, place r .1) (list-cuttable (s .pre .1) (s .args .f .owner) refl (listed b) (root-bits o))
+      rw (stored r .0, stored r .1) (list-cuttable (s .pre .1) (s .args .f .owner) refl (listed b) (root-bits o))
 
   same-length : lts.Need-same-length (claims t) (at t) reads.Post Inv-loop μ-loop
   same-length c = search needs
@@ -138,7 +139,7 @@ module _ (t : ℕ) where
       let r = a .before .before .before .before .before in
       let b = r .before .before in
       let s = b .before .before .before .before in
-      list-gathered (s .pre .1) (s .args .f .owner) refl (listed b) (rw (← place r .0, ← place r .1) (a .gather-list .ensures))
+      list-gathered (s .pre .1) (s .args .f .owner) refl (listed b) (rw (← stored r .0, ← stored r .1) (a .gather-list .ensures))
 
   same-length-2 : lts.Need-same-length-2 (claims t) (at t) reads.Post Inv-loop μ-loop
   same-length-2 c = search needs

@@ -4,6 +4,7 @@ use Prim.Native.Nat.{_*_, _-_, _≤_}
 use native.Mathlib.Omega.{arith}
 use lib.IntN.{negsuc}
 use lib.ListN.{length, length-set}
+use Rattle.arrivals.specs.State.{markWidth}
 use Rattle.arrivals.specs.Moves.{Blank}
 use Rattle.arrivals.proofs.Marks.{blank-next}
 use Rattle.arrivals.proofs.clear_marks.Statement.{statement}
@@ -36,7 +37,7 @@ loop-less c = omega arith
 loop-again : tie.Need-loop-again Inv-loop μ-loop
 loop-again c =
     let l = c .before in
-    let same = length-set (l .loop .state) (6 * l .loop .v) (negsuc 0) ∙ l .loop .inv .1 in
+    let same = length-set (l .loop .state) (markWidth * l .loop .v) (negsuc 0) ∙ l .loop .inv .1 in
     (omega arith, same, blank-next (l .loop .state) (l .loop .v) (omega arith) (l .loop .inv .2))
 
 same-length : tie.Need-same-length Inv-loop μ-loop

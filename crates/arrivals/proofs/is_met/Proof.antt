@@ -8,6 +8,7 @@ use lib.ListN.{getD}
 use mir.Val.{SFits}
 use mir.Facts.{toZ-ofZ}
 use mir.Syntax.{w64}
+use Rattle.arrivals.specs.State.{markWidth}
 use Rattle.arrivals.proofs.Marks.{owner-number}
 use Rattle.arrivals.proofs.is_met.Statement.{statement}
 use Rattle.arrivals.proofs.is_met.Tie as tie
@@ -15,7 +16,7 @@ use Rattle.arrivals.proofs.is_met.Tie as tie
 returns : tie.Need-returns
 returns c =
     let s = c .before in
-    let fits : SFits w64 (getD (s .args .state .now) (6 * s .args .v) (pos 0)) = sfits-of {w = w64} (c .owner .given) in
+    let fits : SFits w64 (getD (s .args .state .now) (markWidth * s .args .v) (pos 0)) = sfits-of {w = w64} (c .owner .given) in
     ap (leZ (pos 0)) (toZ-ofZ fits ∙ owner-number (s .args .state .now) (s .args .v))
 
 pub is-met-spec : {M : Type 1} → statement M

@@ -11,14 +11,14 @@ use lib.ListN.{length}
 use Rattle.integers.proofs.Linear.{ints}
 use Rattle.model.specs.Graph.{graphOf, node, firstBit}
 use Rattle.references.specs.References.{Reference, referenceOf, shifted}
-use Rattle.arrivals.specs.State.{isMet}
+use Rattle.arrivals.specs.State.{markWidth, isMet}
 use Rattle.arrivals.proofs.Agreeing.{row-few}
 use Rattle.arrivals.proofs.Answering.{leafPart, leaf-good, first-small, answered-unmet, part-movable, askable-makeable, answered}
 use Rattle.arrivals.proofs.list_at.Statement.{statement}
 use Rattle.arrivals.proofs.list_at.Tie as tie
 
 -- the mark of the leaf stands in the state
-mark-there : (s : tie.Start) → 6 * s .args .leaf + 6 ≤ length (s .args .state .now)
+mark-there : (s : tie.Start) → markWidth * s .args .leaf + markWidth ≤ length (s .args .state .now)
 mark-there s = let w = s .pre .state .state in omega (arith, w .room, row-few (w .tables) (s .pre .block .row))
 
 is-met-requires : tie.Need-is-met-requires

@@ -6,6 +6,7 @@ use borrow.Author.Needs.{needs}
 use lib.IntN.{natAbs}
 use lib.ListN.{length}
 use Rattle.integers.proofs.Linear.{ints}
+use Rattle.sorting.specs.Rows.{rowWidth}
 use Rattle.arrivals.specs.State.{arenaRow, arenaRows, usedIn}
 use Rattle.arrivals.proofs.Making.{gathered-count, gathered-mergeable, list-made}
 use Rattle.arrivals.proofs.make_list.Statement.{statement}
@@ -27,30 +28,30 @@ gather-requires c κs = rw (used (c .before)) (start (c .before) .pre .gatherabl
 -- the rows that were gathered stand in the state
 room : (c : tie.After-gather)
     → let n = c .before .before .number-at .result in
-    (n ≤ arenaRow + arenaRows) × (n ≤ c .gather .result) × (3 * c .gather .result ≤ length (c .gather .last .1 .1 .1 .1 .1 .0))
+    (n ≤ arenaRow + arenaRows) × (n ≤ c .gather .result) × (rowWidth * c .gather .result ≤ length (c .gather .last .1 .1 .1 .1 .1 .0))
 room c =
     let u = c .before .before in
     let p = start u .pre in
     let count = gathered-count p (used u) (c .gather .ensures) in
     (omega (arith, used u, p .gatherable .sweeping .usedHigh), count .0, count .2)
 
-mul-merge-rows : tie.Need-mul-merge-rows
-mul-merge-rows c = omega (arith, room (c .before))
+mul-normalise-rows : tie.Need-mul-normalise-rows
+mul-normalise-rows c = omega (arith, room (c .before))
 
-mul-merge-rows-2 : tie.Need-mul-merge-rows-2
-mul-merge-rows-2 c = omega (arith, room (c .before))
+mul-normalise-rows-2 : tie.Need-mul-normalise-rows-2
+mul-normalise-rows-2 c = omega (arith, room (c .before))
 
-sub-merge-rows : tie.Need-sub-merge-rows
-sub-merge-rows c = omega (arith, room (c .before))
+sub-normalise-rows : tie.Need-sub-normalise-rows
+sub-normalise-rows c = omega (arith, room (c .before))
 
-part-merge-rows-start : tie.Need-part-merge-rows-start
-part-merge-rows-start c = omega (arith, room (c .before))
+part-normalise-rows-start : tie.Need-part-normalise-rows-start
+part-normalise-rows-start c = omega (arith, room (c .before))
 
-sub-merge-rows-2 : tie.Need-sub-merge-rows-2
-sub-merge-rows-2 c = omega (arith, room (c .before .before))
+sub-normalise-rows-2 : tie.Need-sub-normalise-rows-2
+sub-normalise-rows-2 c = omega (arith, room (c .before .before))
 
-merge-rows-requires : tie.Need-merge-rows-requires
-merge-rows-requires c κs =
+normalise-rows-requires : tie.Need-normalise-rows-requires
+normalise-rows-requires c κs =
     let h = c .before .before .before in
     let u = h .before .before in
     gathered-mergeable (start u .pre) (used u) (h .gather .ensures)
@@ -60,8 +61,8 @@ returns c =
     let m = c .before .before in
     let h = m .before .before .before .before in
     let u = h .before .before in
-    let e = m .merge-rows .ensures in
-    list-made (start u .pre) (used u) (h .gather .ensures) (m .merge-rows .last .0) (m .merge-rows .result) (e .1 .1 .0) (e .0) (e .1 .0)
+    let e = m .normalise-rows .ensures in
+    list-made (start u .pre) (used u) (h .gather .ensures) (m .normalise-rows .last .0) (m .normalise-rows .result) (e .1 .1 .0) (e .0) (e .1 .0)
 
 pub make-list-spec : {M : Type 1} → statement M
 make-list-spec =
@@ -69,13 +70,13 @@ make-list-spec =
     (tie.spec
     number-at-requires
     gather-requires
-    mul-merge-rows
-    mul-merge-rows-2
-    sub-merge-rows
-    part-merge-rows-start
+    mul-normalise-rows
+    mul-normalise-rows-2
+    sub-normalise-rows
+    part-normalise-rows-start
     (λ c. search needs)
-    sub-merge-rows-2
-    merge-rows-requires
+    sub-normalise-rows-2
+    normalise-rows-requires
     (λ c. search needs)
     (λ c. search needs)
     returns)

@@ -6,13 +6,13 @@ use Prim.Native.Nat.{_+_, _*_, _≤_}
 use native.Mathlib.Omega.{arith}
 use borrow.Author.Needs.{needs}
 use borrow.Author.Tests.{not-true, not-false}
-use lib.IntN.{ℤ, pos, negsuc}
+use lib.IntN.{ℤ, pos}
 use lib.ListN.{length}
 use mir.Syntax.{w64}
 use mir.Val.{toZ, ofZ}
 use Rattle.model.specs.Graph.{graphOf}
 use Rattle.references.specs.References.{Reference, referenceOf, own, sameReference}
-use Rattle.arrivals.specs.State.{setMark, marked, isMet, referenceAt}
+use Rattle.arrivals.specs.State.{markWidth, setMark, marked, isMet, referenceAt, notListed}
 use Rattle.arrivals.proofs.Moves.{own-owner, meeting-first, meeting-same, meeting-other}
 use Rattle.arrivals.proofs.meet.Statement.{statement}
 use Rattle.arrivals.proofs.meet.Tie as tie
@@ -32,7 +32,7 @@ start r = r .before .before
 rows-met-requires : tie.Need-rows-met-requires
 rows-met-requires c κs = let p = c .before .pre in (omega (arith, p .1, p .2), omega (arith, p .2, p .3))
 
-mark-there : (s : tie.Start) → 6 * s .args .v + 6 ≤ length (s .args .state .now)
+mark-there : (s : tie.Start) → markWidth * s .args .v + markWidth ≤ length (s .args .state .now)
 mark-there s = omega (arith, s .pre .1, s .pre .2)
 
 is-met-requires : tie.Need-is-met-requires
@@ -93,7 +93,7 @@ returns-3 c =
       rows r,
       λ es.
           c .before .put-mark2 .ensures
-          ∙ ap (λ (x : Reference). setMark (s .args .state .now) (s .args .v) (marked x (negsuc 0) (rows r))) (o .own-reference .ensures es)
+          ∙ ap (λ (x : Reference). setMark (s .args .state .now) (s .args .v) (marked x notListed (rows r))) (o .own-reference .ensures es)
           ∙ sym
           (meeting-other (s .args .state .now) (s .args .v) (all s es) (referenceOf (s .args .f)) (rows r) (met (m .before .before .before))
           (sym (compared m) ∙ o .before .before .if2 .left)),

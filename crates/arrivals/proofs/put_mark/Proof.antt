@@ -20,8 +20,8 @@ slice-set-from-first c = simp length-set (omega arith)
 slice-set-from-last : tie.Need-slice-set-from-last
 slice-set-from-last c = simp length-set (omega arith)
 
-slice-set-from-place : tie.Need-slice-set-from-place
-slice-set-from-place c = simp length-set (omega arith)
+slice-set-from-row : tie.Need-slice-set-from-row
+slice-set-from-row c = simp length-set (omega arith)
 
 slice-set-from-count : tie.Need-slice-set-from-count
 slice-set-from-count c = simp length-set (omega arith)
@@ -38,12 +38,12 @@ returns c =
     mark-stored
     (s .args .state .now)
     (s .args .v)
-    (marked (referenceOf (s .args .f)) (s .args .place) (s .args .count))
+    (marked (referenceOf (s .args .f)) (s .args .row) (s .args .count))
     (toZ-pos w64 (omega arith))
     (toZ-ofZ shift)
     (toZ-ofZ first)
     (toZ-ofZ last)
-    (toZ-ofZ (s .fits .place))
+    (toZ-ofZ (s .fits .row))
     (toZ-ofZ (s .fits .count))
 
 pub put-mark-spec : {M : Type 1} → statement M
@@ -69,7 +69,7 @@ put-mark-spec =
     (λ c. search needs)
     (λ c. search needs)
     (λ c. search needs)
-    slice-set-from-place
+    slice-set-from-row
     (λ c. search needs)
     (λ c. search needs)
     (λ c. search needs)

@@ -8,7 +8,7 @@ use mir.Facts.{toZ-ofZ}
 use mir.Val.{toZ, ofZ}
 use mir.Syntax.{w64}
 use Rattle.tables.proofs.Cells.{index-fits, index-same}
-use Rattle.arrivals.specs.State.{markNumber}
+use Rattle.arrivals.specs.State.{markWidth, markNumber}
 use Rattle.arrivals.proofs.Marks.{owner-number, owner-low}
 use Rattle.arrivals.proofs.reference_at.Statement.{statement}
 use Rattle.arrivals.proofs.reference_at.Tie as tie
@@ -17,7 +17,7 @@ cast-t7 : tie.Need-cast-t7
 cast-t7 c =
     let s = c .before .before .before .before in
     index-fits
-    (sfits-of {w = w64} {z = getD (s .args .state .now) (6 * s .args .v) (pos 0)} (c .before .before .before .owner .given))
+    (sfits-of {w = w64} {z = getD (s .args .state .now) (markWidth * s .args .v) (pos 0)} (c .before .before .before .owner .given))
     (owner-low (s .args .state .now) (s .args .v) (s .pre .1))
 
 returns : tie.Need-returns
@@ -25,7 +25,7 @@ returns c =
     let s = c .before .before .before .before .before .before .before in
     let st = s .args .state .now in
     let v = s .args .v in
-    let owner : pos (natAbs (toZ w64 (ofZ w64 (getD st (6 * v) (pos 0))))) ≡ markNumber st v 0 =
+    let owner : pos (natAbs (toZ w64 (ofZ w64 (getD st (markWidth * v) (pos 0))))) ≡ markNumber st v 0 =
     index-same (sfits-of {w = w64} (c .before .before .before .before .before .before .owner .given)) (owner-low st v (s .pre .1)) ∙ owner-number st v in
     let delta : c .before .before .of .result .0 ≡ markNumber st v 1 =
     c .before .before .of .ensures ∙ toZ-ofZ (sfits-of {w = w64} (c .before .before .before .before .before .delta .given)) in

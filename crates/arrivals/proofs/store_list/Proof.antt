@@ -5,14 +5,14 @@ use mathlib.Core.Bool.{false}
 use Prim.Native.Nat.{_+_, _*_, _≤_}
 use native.Mathlib.Omega.{arith}
 use borrow.Author.Needs.{needs, sfits-of}
-use lib.IntN.{pos, negsuc}
+use lib.IntN.{pos}
 use lib.ListN.{length}
 use lib.Signed.{leZ}
 use lib.Dec.{lit<}
 use mir.Facts.{toZ-ofZ, toZ-neg}
 use mir.Syntax.{w64}
 use mir.Val.{toZ}
-use Rattle.arrivals.specs.State.{isListed}
+use Rattle.arrivals.specs.State.{markWidth, isListed, notListed}
 use Rattle.arrivals.specs.Moves.{ListMade}
 use Rattle.integers.proofs.Linear.{ints}
 use Rattle.arrivals.proofs.Agreeing.{rows-few}
@@ -21,7 +21,7 @@ use Rattle.arrivals.proofs.store_list.Statement.{statement}
 use Rattle.arrivals.proofs.store_list.Tie as tie
 
 -- the mark of the node stands in the state
-mark-there : (s : tie.Start) → 6 * s .args .v + 6 ≤ length (s .args .state .now)
+mark-there : (s : tie.Start) → markWidth * s .args .v + markWidth ≤ length (s .args .state .now)
 mark-there s = omega (arith, s .pre .sweeping .room, rows-few (s .pre .sweeping .tables) (s .pre .row))
 
 reference-at-requires : tie.Need-reference-at-requires
@@ -30,8 +30,8 @@ reference-at-requires c κs = let s = c .before .before in (mark-there s, s .pre
 returns : tie.Need-returns
 returns c = kept-same (c .before .before .before .before .before .pre)
 
-place-at-requires : tie.Need-place-at-requires
-place-at-requires c κs = mark-there (c .before .before .before .before .before .before)
+list-row-requires : tie.Need-list-row-requires
+list-row-requires c κs = mark-there (c .before .before .before .before .before .before)
 
 returns-2 : tie.Need-returns-2
 returns-2 c = kept-same (c .before .before .before .before .before .before .before .before .pre)
@@ -39,8 +39,8 @@ returns-2 c = kept-same (c .before .before .before .before .before .before .befo
 -- the node has no list yet
 unlisted : (c : tie.Else2) → let s = c .before .before .before .before .before .before .before .before in isListed (s .args .state .now) (s .args .v) ≡ false
 unlisted c =
-    let p = c .before .place-at in
-    let none : p .result ≡ negsuc 0 = sym (toZ-ofZ (sfits-of {w = w64} (p .ok))) ∙ ap (toZ w64) (c .if2 .left) ∙ toZ-neg w64 0 (lit< tt) in
+    let p = c .before .list-row in
+    let none : p .result ≡ notListed = sym (toZ-ofZ (sfits-of {w = w64} (p .ok))) ∙ ap (toZ w64) (c .if2 .left) ∙ toZ-neg w64 0 (lit< tt) in
     ap (leZ (pos 0)) (sym (p .ensures) ∙ none)
 
 crowded-requires : tie.Need-crowded-requires
@@ -84,7 +84,7 @@ store-list-spec =
     reference-at-requires
     (λ c. search needs)
     returns
-    place-at-requires
+    list-row-requires
     (λ c. search needs)
     returns-2
     crowded-requires

@@ -4,13 +4,13 @@ use mathlib.Core.List.{List, []}
 use Prim.Native.Nat.{_<_}
 use native.Mathlib.Omega.{arith}
 use borrow.Author.Needs.{needs}
-use lib.IntN.{ℤ, pos, negsuc}
+use lib.IntN.{ℤ, pos}
 use mir.Facts.{toZ-pos}
 use mir.Syntax.{w64}
 use Rattle.model.specs.Limits.{maxNodes}
 use Rattle.model.specs.Graph.{graphOf}
 use Rattle.references.specs.References.{Reference, own}
-use Rattle.arrivals.specs.State.{setMark, marked}
+use Rattle.arrivals.specs.State.{setMark, marked, noRoom}
 use Rattle.arrivals.proofs.Moves.{own-owner, storing-full, rows-stored}
 use Rattle.arrivals.proofs.store_rows.Statement.{statement}
 use Rattle.arrivals.proofs.store_rows.Tie as tie
@@ -31,7 +31,7 @@ returns c = λ es.
     let i = c .before .before .before in
     let s = i .before .before in
     c .before .put-mark .ensures
-    ∙ ap (λ (x : Reference). setMark (s .args .state .now) (s .args .v) (marked x (negsuc 1) (pos 0))) (i .before .own-reference .ensures es)
+    ∙ ap (λ (x : Reference). setMark (s .args .state .now) (s .args .v) (marked x noRoom (pos 0))) (i .before .own-reference .ensures es)
     ∙ sym (storing-full (all s es) (s .args .v) (s .args .used) (s .args .k) (s .args .state .now) (omega arith))
 
 put-mark-requires-2 : tie.Need-put-mark-requires-2

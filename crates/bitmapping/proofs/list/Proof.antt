@@ -8,7 +8,7 @@ use lib.ListN.{length, take, replicate, length-replicate}
 use mir.Syntax.{w64}
 use mir.Val.{toZ, ofZ}
 use mir.Facts.{toZ-ofZ}
-use Rattle.model.specs.Limits.{maxNodes, maxPaths}
+use Rattle.model.specs.Limits.{recordWidth, maxNodes, maxPaths}
 use Rattle.model.specs.Graph.{graphOf}
 use Rattle.model.specs.Runs.{listOf}
 use Rattle.model.specs.Calls.{full, numbersOf}
@@ -43,12 +43,12 @@ records-listed : (c : tie.After-list-pair) → let a = c .before .before .before
 records-listed c = let k = c .before .before .before in rw (root-same k, leaf-same k) at (c .list-pair .ensures .0)
 
 numbers-listed : (c : tie.After-list-pair) → let a = c .before .before .before .before .before .before .before .before .args in
-    take (3 * c .list-pair .result) (c .list-pair .last .1 .1 .1 .1 .1 .0)
+    take (recordWidth * c .list-pair .result) (c .list-pair .last .1 .1 .1 .1 .1 .0)
     ≡ numbersOf (listOf (graphOf (a .nodes .now) (a .edges .now)) (a .root) (a .leaf))
 numbers-listed c = let k = c .before .before .before in rw (root-same k, leaf-same k) at (c .list-pair .ensures .1)
 
-numbers-room : (c : tie.After-list-pair) → 3 * c .list-pair .result ≤ length (c .list-pair .last .1 .1 .1 .1 .1 .0)
-numbers-room c = front-room _ (3 * c .list-pair .result) (numbers-length _ ∙ ap (λ n. 3 * n) (sym (records-listed c))) (numbers-listed c)
+numbers-room : (c : tie.After-list-pair) → recordWidth * c .list-pair .result ≤ length (c .list-pair .last .1 .1 .1 .1 .1 .0)
+numbers-room c = front-room _ (recordWidth * c .list-pair .result) (numbers-length _ ∙ ap (λ n. recordWidth * n) (sym (records-listed c))) (numbers-listed c)
 
 returns : tie.Need-returns
 returns c =
@@ -68,12 +68,12 @@ list-pair-requires c κs =
     let s = a .before .before in
     asked-ready (s .args .nodes .now) (s .args .edges .now) (s .args .root) (s .args .leaf) (taken k) _ _ (root-same k) (leaf-same k) (replicate maxNodes 0)
     (simp (toZ-ofZ, s .fits .leaf) at (a .check-asked .ensures .counted (k .enum-told .given .1)))
-    (omega (arith, length-replicate {A = ℤ} (3 * maxPaths) (pos 0)))
+    (omega (arith, length-replicate {A = ℤ} (recordWidth * maxPaths) (pos 0)))
 
 mul-put-numbers : tie.Need-mul-put-numbers
 mul-put-numbers c =
     let p = c .before .before in
-    omega (arith, numbers-room p, p .list-pair .kept .1 .1 .1 .1 .1 .0, length-replicate {A = ℤ} (3 * maxPaths) (pos 0))
+    omega (arith, numbers-room p, p .list-pair .kept .1 .1 .1 .1 .1 .0, length-replicate {A = ℤ} (recordWidth * maxPaths) (pos 0))
 
 put-numbers-requires : tie.Need-put-numbers-requires
 put-numbers-requires c κs k h = omega (arith, h, numbers-room (c .before .before .before))
@@ -82,7 +82,7 @@ returns-2 : tie.Need-returns-2
 returns-2 c =
     let p = c .before .before .before .before .before in
     list-taken _ _ _ _ _ (taken (p .before .before .before)) (records-listed p)
-    (rw (spaced-front _ (3 * p .list-pair .result) (numbers-room p), numbers-listed p) at (c .before .put-numbers .ensures))
+    (rw (spaced-front _ (recordWidth * p .list-pair .result) (numbers-room p), numbers-listed p) at (c .before .put-numbers .ensures))
 
 pub list-spec : {M : Type 1} → statement M
 list-spec =

@@ -9,7 +9,7 @@ use lib.ListN.{length, take, replicate, length-replicate}
 use mir.Syntax.{w64}
 use mir.Val.{toZ, ofZ}
 use mir.Facts.{toZ-ofZ}
-use Rattle.model.specs.Limits.{maxNodes, maxPaths}
+use Rattle.model.specs.Limits.{recordWidth, maxNodes, maxPaths}
 use Rattle.model.specs.Graph.{graphOf}
 use Rattle.model.specs.Calls.{full, numbersOf, leafBits}
 use Rattle.model.specs.Answers.{checkedAnswer}
@@ -48,7 +48,7 @@ bits-counted c =
     let k = c .before .before .before in
     rw (root-same k, leaf-same k, toZ-ofZ (k .before .before .before .before .before .fits .address)) at (c .walk-pair .ensures .0)
 
-bits-reached : (c : tie.After-walk-pair) → take (3 * c .walk-pair .result) (c .walk-pair .last .1 .1 .1 .1 .1 .1 .0) ≡ numbersOf (map bitRecord (bits c))
+bits-reached : (c : tie.After-walk-pair) → take (recordWidth * c .walk-pair .result) (c .walk-pair .last .1 .1 .1 .1 .1 .1 .0) ≡ numbersOf (map bitRecord (bits c))
 bits-reached c =
     let k = c .before .before .before in
     rw (root-same k, leaf-same k, toZ-ofZ (k .before .before .before .before .before .fits .address)) at (c .walk-pair .ensures .1)
@@ -71,7 +71,7 @@ walk-pair-requires c κs =
     let s = a .before .before in
     asked-ready (s .args .nodes .now) (s .args .edges .now) (s .args .root) (s .args .leaf) (taken k) _ _ (root-same k) (leaf-same k) (replicate maxNodes 0)
     (simp (toZ-ofZ, s .fits .leaf) at (a .check-asked .ensures .counted (k .enum-told .given .1)))
-    (omega (arith, length-replicate {A = ℤ} (3 * maxPaths) (pos 0)))
+    (omega (arith, length-replicate {A = ℤ} (recordWidth * maxPaths) (pos 0)))
 
 returns-2 : tie.Need-returns-2
 returns-2 c =
@@ -87,7 +87,7 @@ put-numbers-requires c κs k h =
       h,
       bits-room (p .walk-pair .last .1 .1 .1 .1 .1 .1 .0) (bits p) (p .walk-pair .result) (sym (bits-counted p)) (bits-reached p),
       p .walk-pair .kept .1 .1 .1 .1 .1 .1 .0,
-      length-replicate {A = ℤ} (3 * maxPaths) (pos 0),
+      length-replicate {A = ℤ} (recordWidth * maxPaths) (pos 0),
     )
 
 pub walk-spec : {M : Type 1} → statement M

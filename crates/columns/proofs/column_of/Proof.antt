@@ -70,17 +70,11 @@ part-same-end c =
     let l = c .before in
     end-within (l .before .before .before .args .text .now) (l .loop .at) (c .field-end .result) (l .loop .inv .0) (c .field-end .ensures)
 
-same-requires : tie.Need-same-requires Inv-loop μ-loop
-same-requires c κs = search needs
-
 returns : tie.Need-returns Inv-loop μ-loop
 returns c =
     let l = c .before .before .before .before in
     let s = l .before .before .before .args in
     sym (l .loop .inv .2 ∙ column-here (s .name .now) (drop (l .loop .at) (s .text .now)) (l .loop .i) (tested (c .before)) (c .if1 .taken))
-
-is-blank-requires : tie.Need-is-blank-requires Inv-loop μ-loop
-is-blank-requires c κs = search needs
 
 returns-2 : tie.Need-returns-2 Inv-loop μ-loop
 returns-2 c =
@@ -124,9 +118,9 @@ column-of-spec =
     sub-same
     part-same-start
     part-same-end
-    same-requires
+    (λ c κs. search needs)
     returns
-    is-blank-requires
+    (λ c κs. search needs)
     returns-2
     add-at
     add-i

@@ -25,9 +25,6 @@ field-end-requires c κs = c .before .pre .within
 loop-holds : tie.Need-loop-holds Inv-loop μ-loop
 loop-holds c = let s = c .before .before in fields-one (s .args .text .now) (s .args .from .at) (c .field-end .result) (s .pre .within) (c .field-end .ensures)
 
-is-blank-requires : tie.Need-is-blank-requires Inv-loop μ-loop
-is-blank-requires c κs = search needs
-
 add-fields : tie.Need-add-fields Inv-loop μ-loop
 add-fields c = let l = c .before .before in omega (arith, l .loop .inv .few, l .loop .inv .within, more c)
 
@@ -66,7 +63,7 @@ count-fields-spec =
     μ-loop
     field-end-requires
     loop-holds
-    is-blank-requires
+    (λ c κs. search needs)
     add-fields
     add-field-end
     field-end-requires-2

@@ -41,13 +41,7 @@ add-loop : tie.Need-add-loop Inv-loop μ-loop
 add-loop c = let s = c .before .before in omega (arith, c .loop .inv .short, s .fits .width)
 
 value-requires : tie.Need-value-requires Inv-loop μ-loop
-value-requires c κs = c .before .loop .inv .placed
-
-enum-known-n : tie.Need-enum-known-n Inv-loop μ-loop
-enum-known-n c = search needs
-
-enum-told : tie.Need-enum-told Inv-loop μ-loop
-enum-told c = search needs
+value-requires c κs = c .before .loop .inv .inText
 
 same-length : tie.Need-same-length Inv-loop μ-loop
 same-length c = c .before .before .before .before .loop .inv .kept
@@ -80,13 +74,7 @@ loop-again c =
     rw (toZ-ofZ fits) (left-goes (l .loop .inv) (k .before .loop-test .taken) (s .pre .2) (given .0) (given .1))
 
 last-value-requires : tie.Need-last-value-requires Inv-loop μ-loop
-last-value-requires c κs = c .before .loop .inv .placed
-
-enum-known-n-2 : tie.Need-enum-known-n-2 Inv-loop μ-loop
-enum-known-n-2 c = search needs
-
-enum-told-2 : tie.Need-enum-told-2 Inv-loop μ-loop
-enum-told-2 c = search needs
+last-value-requires c κs = c .before .loop .inv .inText
 
 same-length-2 : tie.Need-same-length-2 Inv-loop μ-loop
 same-length-2 c = c .before .before .before .before .loop .inv .kept
@@ -124,8 +112,8 @@ read-line-spec =
     loop-holds
     add-loop
     value-requires
-    enum-known-n
-    enum-told
+    (λ c. search needs)
+    (λ c. search needs)
     same-length
     returns
     mul-v
@@ -134,8 +122,8 @@ read-line-spec =
     loop-less
     loop-again
     last-value-requires
-    enum-known-n-2
-    enum-told-2
+    (λ c. search needs)
+    (λ c. search needs)
     same-length-2
     returns-2
     mul-v-2

@@ -4,8 +4,8 @@ use Prim.Native.Nat.{_<_, _/_}
 use native.Mathlib.Omega.{arith}
 use lib.ListN.{length, take}
 use Rattle.model.specs.Limits.{edgeWidth}
-use Rattle.depth.specs.Passes.{Placed}
-use Rattle.depth.proofs.Peeling.{roundMarks, RoundSplit, Peeling, peeling-fewer, peeling-start, peeling-placed, peeling-ordered, peeling-long, peeling-cycle, peeling-next}
+use Rattle.depth.specs.Passes.{EndsWithin}
+use Rattle.depth.proofs.Peeling.{roundMarks, RoundSplit, Peeling, peeling-fewer, peeling-start, peeling-within, peeling-ordered, peeling-long, peeling-cycle, peeling-next}
 use Rattle.depth.proofs.peel.Statement.{statement}
 use Rattle.depth.proofs.peel.Tie as tie
 
@@ -59,7 +59,7 @@ stamp-starts-requires : tie.Need-stamp-starts-requires Inv-loop μ-loop
 stamp-starts-requires c κs =
     let l = c .before .before .before in
     let s = entry l in
-    (l .loop .inv .4 .long, peeling-placed (s .args .edges .now) (s .args .order .now) (s .pre .table) (l .loop .inv .4))
+    (l .loop .inv .4 .long, peeling-within (s .args .edges .now) (s .args .order .now) (s .pre .table) (l .loop .inv .4))
 
 sub-split-rows : tie.Need-sub-split-rows Inv-loop μ-loop
 sub-split-rows c = let l = c .before .before .before .before .before .before .before .before .before in omega (arith, l .loop .inv .4 .bound)
@@ -68,9 +68,9 @@ split-rows-requires : tie.Need-split-rows-requires Inv-loop μ-loop
 split-rows-requires c κs =
     let l = c .before .before .before .before .before .before .before .before .before in
     let s = entry l in
-    let placed = peeling-placed (s .args .edges .now) (s .args .order .now) (s .pre .table) (l .loop .inv .4) in (
+    let within = peeling-within (s .args .edges .now) (s .args .order .now) (s .pre .table) (l .loop .inv .4) in (
       l .loop .inv .4 .long,
-      subst (λ n. Placed (s .args .edges .now) n (take (l .loop .left) (l .loop .rest))) (sym (c .before .before .before .before .before .stamp-starts .kept .1 .1 .1 .1 .0)) placed,
+      subst (λ n. EndsWithin (s .args .edges .now) n (take (l .loop .left) (l .loop .rest))) (sym (c .before .before .before .before .before .stamp-starts .kept .1 .1 .1 .1 .0)) within,
       omega (arith, l .loop .inv .4 .bound, l .loop .inv .2, s .pre .table .fits),
     )
 

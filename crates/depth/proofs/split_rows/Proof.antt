@@ -124,12 +124,6 @@ loop-again c =
           (omega arith, omega arith, l .loop .inv .2, length-set (l .loop .order) place (row l) ∙ l .loop .inv .3, next)
     ]
 
-same-length : tie.Need-same-length Inv-loop μ-loop
-same-length c = search needs
-
-same-length-2 : tie.Need-same-length-2 Inv-loop μ-loop
-same-length-2 c = search needs
-
 returns : tie.Need-returns Inv-loop μ-loop
 returns c =
     let l = c .before in
@@ -159,6 +153,6 @@ split-rows-spec =
     add-i
     loop-less
     loop-again
-    same-length
-    same-length-2
+    (λ c. search needs)
+    (λ c. search needs)
     returns)

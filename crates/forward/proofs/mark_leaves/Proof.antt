@@ -6,7 +6,8 @@ use lib.ListN.{length, length-set}
 use Rattle.integers.proofs.Linear.{ints}
 use Rattle.model.specs.Limits.{pairWidth}
 use Rattle.depth.specs.Passes.{Within}
-use Rattle.forward.specs.Passes.{columnAt}
+use Rattle.tables.specs.Tables.{pairAt}
+use Rattle.pairing.specs.Pairs.{nodeIn}
 use Rattle.forward.proofs.Leaves.{RowsMarked, row-within, rows-start, rows-next, rows-end}
 use Rattle.forward.proofs.mark_leaves.Statement.{statement}
 use Rattle.forward.proofs.mark_leaves.Tie as tie
@@ -20,7 +21,7 @@ abbrev μ-loop : tie.MeasureT-loop
 -- the node of the row has a mark
 turn-within : (k : tie.In-loop Inv-loop μ-loop)
     → let s = k .before .before .before in
-    Within (length (s .args .marks .now)) (columnAt (s .args .column) (s .args .pairs .now) (k .before .loop .k))
+    Within (length (s .args .marks .now)) (nodeIn (s .args .column) (pairAt (s .args .pairs .now) (k .before .loop .k)))
 turn-within k =
     let s = k .before .before .before in
     row-within (s .args .pairs .now) (s .args .column) (s .pre) (k .before .loop .k) (k .loop-test .taken)
@@ -64,7 +65,7 @@ returns : tie.Need-returns Inv-loop μ-loop
 returns c =
     let l = c .before in
     let s = l .before .before in
-    rows-end (s .args .pairs .now) (s .args .column) (s .pre .inPair) (omega (arith, l .loop .inv .0, c .loop-test .left)) (l .loop .inv .2)
+    rows-end (s .args .pairs .now) (s .args .column) (omega (arith, l .loop .inv .0, c .loop-test .left)) (l .loop .inv .2)
 
 pub mark-leaves-spec : {M : Type 1} → statement M
 mark-leaves-spec =

@@ -31,8 +31,8 @@ mark-leading-requires c κs =
     let k = c .before .before in
     plan-passable (start k .pre) (length (k .mark-leaves .last .1 .1 .0)) (omega (arith, k .mark-leaves .kept .1 .1 .0, length-replicate {A = ℕ} maxNodes 0))
 
-keep-leading-requires : tie.Need-keep-leading-requires
-keep-leading-requires c κs =
+store-leading-requires : tie.Need-store-leading-requires
+store-leading-requires c κs =
     let l = c .before .before .before .before in
     let k = l .before .before .before in
     (marks-passable k, l .link-entering .kept .1 .1 .0 ∙ start (k .before .before .before) .pre .room)
@@ -48,8 +48,8 @@ returns c =
     leading-marks (s .pre .rows) (k .before .before .before .mark-leaves .ensures) (k .mark-leading .ensures ns) in
     let linked = l .link-entering .last .1 .1 .0 in
     let room = l .link-entering .kept .1 .1 .0 ∙ s .pre .room in (
-      plan-planned linked (s .pre .tables) (marks-passable k) marks room (f .keep-leading .ensures) (l .link-entering .ensures),
-      plan-leading linked (s .pre .tables) (marks-passable k) marks room (f .keep-leading .ensures),
+      plan-planned linked (s .pre .tables) (marks-passable k) marks room (f .store-leading .ensures) (l .link-entering .ensures),
+      plan-leading linked (s .pre .tables) (marks-passable k) marks room (f .store-leading .ensures),
     )
 
 pub plan-graph-spec : {M : Type 1} → statement M
@@ -62,6 +62,6 @@ plan-graph-spec =
     mark-leading-requires
     (λ c κs. search needs)
     (λ c. search needs)
-    keep-leading-requires
+    store-leading-requires
     (λ c. search needs)
     returns)

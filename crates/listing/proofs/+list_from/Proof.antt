@@ -18,6 +18,8 @@ use Rattle.model.proofs.Taken.{taken-fit}
 use Rattle.steps.proofs.Rows.{node-good, edge-in, to-row}
 use Rattle.steps.proofs.Bounds.{left-small}
 use Rattle.tables.specs.Tables.{edgeAt}
+use Rattle.model.specs.Limits.{edgeWidth}
+use Rattle.sorting.specs.Rows.{rowWidth}
 use Rattle.listing.specs.Listing.{runRow, runRows}
 use Rattle.listing.proofs.Appending.{append-none, append-length}
 use Rattle.listing.proofs.Passing.{Passing, head-there, entered-row, nexts-length, passing-start, passing-end, turn-room, turn-next, turn-onward}
@@ -65,7 +67,7 @@ Inv-loop nodes edges head next leaf v run left out₀ n m₀ e₀ out m e =
     Passing nodes edges head next leaf v (runsOver (left - 1) (graphOf nodes edges) (pos leaf) (runOf run)) out₀ n out m e
 
 abbrev μ-loop : lts.MeasureT-loop
-μ-loop nodes edges head next leaf v run left out₀ n m₀ e₀ out m e = length edges / 3 - e
+μ-loop nodes edges head next leaf v run left out₀ n m₀ e₀ out m e = length edges / edgeWidth - e
 
 module _ (t : ℕ) where
   -- at the leaf there is one row
@@ -94,7 +96,7 @@ module _ (t : ℕ) where
   room : (l : lts.At-loop (claims t) (at t) reads.Post Inv-loop μ-loop)
       → let s = l .before .before .before .before .before .before in
       let g = graphOf (s .args .nodes .now) (s .args .edges .now) in
-      3 * (s .args .n + length (flatMap (runsOver (s .args .left - 1) g (pos (s .args .leaf)) (runOf (s .args .run))) (leaving g (pos (s .args .v)))))
+      rowWidth * (s .args .n + length (flatMap (runsOver (s .args .left - 1) g (pos (s .args .leaf)) (runOf (s .args .run))) (leaving g (pos (s .args .v)))))
       ≤ length (s .args .out .now)
   room l = let s = l .before .before .before .before .before .before in omega (arith, s .pre .1 .3, ap length (onward (l .before .before)))
 

@@ -21,6 +21,8 @@ use Rattle.steps.specs.Steps.{SmallAddress}
 use Rattle.steps.proofs.Rows.{node-good, to-row}
 use Rattle.steps.proofs.Bounds.{stands-small}
 use Rattle.tables.specs.Tables.{edgeAt}
+use Rattle.model.specs.Limits.{edgeWidth}
+use Rattle.sorting.specs.Rows.{rowWidth}
 use Rattle.listing.specs.Listing.{arrivalRow, arrivalRows}
 use Rattle.listing.proofs.Appending.{append-none, append-length}
 use Rattle.listing.proofs.Passing.{Passing, head-there, entered-row, nexts-length, passing-start, passing-end, turn-room, turn-next, turn-onward}
@@ -70,7 +72,7 @@ Inv-loop nodes edges head next leaf v a left out₀ n m₀ e₀ out m e =
     Passing nodes edges head next leaf v (arrivalsOver (left - 1) (graphOf nodes edges) (pos leaf) (a .0)) out₀ n out m e
 
 abbrev μ-loop : lts.MeasureT-loop
-μ-loop nodes edges head next leaf v a left out₀ n m₀ e₀ out m e = length edges / 3 - e
+μ-loop nodes edges head next leaf v a left out₀ n m₀ e₀ out m e = length edges / edgeWidth - e
 
 module _ (t : ℕ) where
   -- past the first test a walk may stand on the node
@@ -112,7 +114,7 @@ module _ (t : ℕ) where
   room : (l : lts.At-loop (claims t) (at t) reads.Post Inv-loop μ-loop)
       → let s = l .before .before .before .before .before .before .before .before in
       let g = graphOf (s .args .nodes .now) (s .args .edges .now) in
-      3 * (s .args .n + length (flatMap (arrivalsOver (s .args .left - 1) g (pos (s .args .leaf)) (s .args .a .0)) (leaving g (pos (s .args .v)))))
+      rowWidth * (s .args .n + length (flatMap (arrivalsOver (s .args .left - 1) g (pos (s .args .leaf)) (s .args .a .0)) (leaving g (pos (s .args .v)))))
       ≤ length (s .args .out .now)
   room l = let s = l .before .before .before .before .before .before .before .before in omega (arith, s .pre .1 .2, ap length (onward (l .before .before)))
 

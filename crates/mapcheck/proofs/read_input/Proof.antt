@@ -53,15 +53,6 @@ sub-read-some c = omega (arith, c .loop-test .taken)
 part-read-some-start : tie.Need-part-read-some-start Inv-loop μ-loop
 part-read-some-start c = omega (arith, c .loop-test .taken)
 
-part-read-some-end : tie.Need-part-read-some-end Inv-loop μ-loop
-part-read-some-end c = search needs
-
-read-some-requires : tie.Need-read-some-requires Inv-loop μ-loop
-read-some-requires c κs = search needs
-
-enum-known-input : tie.Need-enum-known-input Inv-loop μ-loop
-enum-known-input c = search needs
-
 same-length : tie.Need-same-length Inv-loop μ-loop
 same-length c = let r = c .before .before .before in kept r ∙ loop-of r .loop .inv .1
 
@@ -99,9 +90,9 @@ read-input-spec =
     loop-holds
     sub-read-some
     part-read-some-start
-    part-read-some-end
-    read-some-requires
-    enum-known-input
+    (λ c. search needs)
+    (λ c κs. search needs)
+    (λ c. search needs)
     same-length
     returns
     same-length-2

@@ -82,13 +82,13 @@ read-table-requires-2 : tie.Need-read-table-requires-2
 read-table-requires-2 c κs =
     let r = c .before .before .before in
     let s = Entry (Nodes r) in
-    (nodes-read r .placed, omega (arith, s .pre .specEdges, s .pre .implEdges), omega (arith, s .pre .specEdges, s .pre .implEdges))
+    (nodes-read r .inText, omega (arith, s .pre .specEdges, s .pre .implEdges), omega (arith, s .pre .specEdges, s .pre .implEdges))
 
 read-table-requires-3 : tie.Need-read-table-requires-3
 read-table-requires-3 c κs =
     let r = c .before .before .before in
     let s = Entry (Nodes (Before r)) in
-    (edges-read r .placed, omega (arith, s .pre .rootPairs, s .pre .leafPairs), omega (arith, s .pre .rootPairs, s .pre .leafPairs))
+    (edges-read r .inText, omega (arith, s .pre .rootPairs, s .pre .leafPairs), omega (arith, s .pre .rootPairs, s .pre .leafPairs))
 
 returns-2 : tie.Need-returns-2
 returns-2 c =

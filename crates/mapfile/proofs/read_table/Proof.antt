@@ -2,7 +2,7 @@
 use borrow.Author.Needs.{needs}
 use borrow.Author.Tests.{not-true, not-false}
 use Rattle.mapfile.specs.Given.{isLast}
-use Rattle.mapfile.proofs.ReadTables.{file-several, file-few, file-room, table-wrong, table-good, table-placed, table-values, table-room}
+use Rattle.mapfile.proofs.ReadTables.{file-several, file-few, file-room, table-wrong, table-good, table-in-text, table-values, table-room}
 use Rattle.mapfile.proofs.read_table.Statement.{statement}
 use Rattle.mapfile.proofs.read_table.Tie as tie
 
@@ -24,7 +24,7 @@ read-rows-requires c κs =
     let next = k .before .count-fields .ensures .1 in
     let given = k .table-columns .ensures in
     rw (m .room-of .ensures) (
-      table-placed (file-several f) (s .pre .0) given all next,
+      table-in-text (file-several f) (s .pre .0) given all next,
       table-good (file-several f) (s .pre .0) given all next (file-few f),
       table-room (file-several f) (s .pre .0) given all next (file-room f),
       s .pre .1,

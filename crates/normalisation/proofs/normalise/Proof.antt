@@ -16,7 +16,7 @@ merge-touching-requires : tie.Need-merge-touching-requires
 merge-touching-requires c κs =
     let a = c .before .before .before .before in
     let s = a .before .before .before in
-    (omega (arith, a .sort-rows .kept .0), omega (arith, a .sort-rows .kept .1 .1 .0), rw (a .sort-rows .ensures .0) (sorted-small _ _ (s .pre .2)))
+    (omega (arith, a .sort-rows .kept .0), omega (arith, a .sort-rows .kept .1 .1 .0), sorted-small _ _ _ (a .sort-rows .ensures .0) (omega arith) (s .pre .2))
 
 sort-rows-requires-2 : tie.Need-sort-rows-requires-2
 sort-rows-requires-2 c κs =

@@ -10,7 +10,7 @@ use mir.Val.{SFits}
 use mir.Facts.{toZ-ofZ}
 use Rattle.model.specs.Limits.{pairWidth}
 use Rattle.pairing.specs.Classes.{hasClass}
-use Rattle.pairing.specs.Pairs.{pairAt}
+use Rattle.tables.specs.Tables.{pairAt}
 use Rattle.pairing.proofs.both_have_class.Statement.{statement}
 use Rattle.pairing.proofs.both_have_class.Tie as tie
 

@@ -6,7 +6,7 @@ use native.Mathlib.Omega.{arith}
 use borrow.Author.Tests.{not-true, not-false}
 use lib.ListN.{length}
 use Rattle.pairing.specs.Classes.{hasClass}
-use Rattle.pairing.specs.Pairs.{pairAt}
+use Rattle.tables.specs.Tables.{pairAt}
 use Rattle.pairing.proofs.Marks.{Passed, passed-start, passed-end, passed-refused, spec-classed, impl-classed, nodes-marked, passed-before, passed-next}
 use Rattle.pairing.proofs.check_unmarked.Statement.{statement}
 use Rattle.pairing.proofs.check_unmarked.Tie as tie

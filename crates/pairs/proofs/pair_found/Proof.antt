@@ -10,9 +10,10 @@ use borrow.Author.Needs.{needs, sfits-of}
 use Rattle.lists.specs.Lists.{_∈_}
 use Rattle.model.specs.Rows.{pairRows}
 use Rattle.model.specs.Compare.{findingOf, verdictOf}
-use Rattle.pairing.specs.Pairs.{pairAt}
-use Rattle.pairing.proofs.Pairs.{pair-member}
-use Rattle.arrivals.specs.State.{rowWidth, stateRoom}
+use Rattle.tables.specs.Tables.{pairAt}
+use Rattle.tables.proofs.Rows.{pair-member}
+use Rattle.sorting.specs.Rows.{rowWidth}
+use Rattle.arrivals.specs.State.{stateRoom}
 use Rattle.arrivals.specs.Sweep.{Answered}
 use Rattle.pairs.proofs.Sides.{Side, spec-side, impl-side, side-normal, side-askable, side-count, side-rows, side-few, side-small, side-swept}
 use Rattle.pairs.proofs.pair_found.Statement.{statement}

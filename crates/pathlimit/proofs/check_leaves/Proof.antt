@@ -10,8 +10,8 @@ use Rattle.model.specs.Rows.{pairsFrom, pairRows}
 use Rattle.model.specs.Answers.{checkedAnswer}
 use Rattle.tables.proofs.Checks.{checked, Left, left-none, left-on, left-stops}
 use Rattle.depth.specs.Passes.{Within}
-use Rattle.pairing.specs.Pairs.{pairAt}
-use Rattle.pairing.proofs.Pairs.{pairs-rest, pairs-end}
+use Rattle.tables.specs.Tables.{pairAt}
+use Rattle.tables.proofs.Rows.{pairs-rest, pairs-end}
 use Rattle.pathlimit.specs.Checks.{checkLeaf}
 use Rattle.pathlimit.proofs.Leaves.{leaf-within, within-index, leaf-checked}
 use Rattle.pathlimit.proofs.check_leaves.Statement.{statement}
@@ -83,12 +83,6 @@ mul-check-counts-2 c = omega (arith, impl-index (c .before))
 shared-slice-read-check-counts-2 : tie.Need-shared-slice-read-check-counts-2 Inv-loop μ-loop
 shared-slice-read-check-counts-2 c = impl-index (c .before .before)
 
-check-counts-requires : tie.Need-check-counts-requires Inv-loop μ-loop
-check-counts-requires c κs = search needs
-
-enum-known-c : tie.Need-enum-known-c Inv-loop μ-loop
-enum-known-c c = search needs
-
 returns : tie.Need-returns Inv-loop μ-loop
 returns c =
     let k = c .before .before .before in
@@ -97,9 +91,6 @@ returns c =
     let a = start l .args in
     left-stops _ _ (l .loop .inv) (pairs-rest (a .leaf-pairs .now) (l .loop .leaf-row) (omega (arith, t .loop-test .taken)))
     (ap checkedAnswer (sym (c .before .c .given .1)) ∙ row-check k)
-
-enum-told : tie.Need-enum-told Inv-loop μ-loop
-enum-told c = search needs
 
 add-leaf-row : tie.Need-add-leaf-row Inv-loop μ-loop
 add-leaf-row c = omega arith
@@ -137,10 +128,10 @@ check-leaves-spec =
     shared-slice-read-check-counts
     mul-check-counts-2
     shared-slice-read-check-counts-2
-    check-counts-requires
-    enum-known-c
+    (λ c κs. search needs)
+    (λ c. search needs)
     returns
-    enum-told
+    (λ c. search needs)
     add-leaf-row
     loop-less
     loop-again

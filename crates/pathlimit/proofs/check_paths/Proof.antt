@@ -13,7 +13,7 @@ use Rattle.model.specs.Calls.{answer}
 use Rattle.model.specs.Answers.{checkedAnswer}
 use Rattle.tables.proofs.Checks.{checked, Left, left-none, left-on, left-stops}
 use Rattle.pairing.specs.Pairs.{tablesOf}
-use Rattle.pairing.proofs.Pairs.{pairs-rest, pairs-end}
+use Rattle.tables.proofs.Rows.{pairs-rest, pairs-end}
 use Rattle.pathlimit.specs.Checks.{checkRow}
 use Rattle.pathlimit.proofs.Rows.{paths-rows}
 use Rattle.pathlimit.proofs.Unplanned.{unplanned-taken}
@@ -69,9 +69,6 @@ check-row-requires c κs =
     let s = start l in
     (s .pre .0, omega (arith, s .pre .1, l .loop .inv .0), omega (arith, s .pre .2, l .loop .inv .1), t .loop-test .taken)
 
-enum-known-c : tie.Need-enum-known-c Inv-loop μ-loop
-enum-known-c c = search needs
-
 same-length : tie.Need-same-length Inv-loop μ-loop
 same-length c = sizes (c .before .before .before .before .before .before .before) .0
 
@@ -87,9 +84,6 @@ returns-2 c =
     left-stops _ _ (l .loop .inv .2) (pairs-rest (s .args .root-pairs .now) (l .loop .root-row) (omega (arith, t .loop-test .taken)))
     (ap checkedAnswer (sym (c .before .c .given .1)) ∙ k .check-row .ensures)
     ∙ ap checked (sym (paths-rows (tables s)))
-
-enum-told : tie.Need-enum-told Inv-loop μ-loop
-enum-told c = search needs
 
 add-root-row : tie.Need-add-root-row Inv-loop μ-loop
 add-root-row c = omega arith
@@ -135,11 +129,11 @@ check-paths-spec =
     returns
     loop-holds
     check-row-requires
-    enum-known-c
+    (λ c. search needs)
     same-length
     same-length-2
     returns-2
-    enum-told
+    (λ c. search needs)
     add-root-row
     loop-less
     loop-again

@@ -5,7 +5,7 @@ use borrow.Author.Needs.{needs}
 use Rattle.model.specs.Graph.{graphOf}
 use Rattle.model.specs.Paths.{Root}
 use Rattle.tables.proofs.Checks.{checked}
-use Rattle.pairing.specs.Pairs.{pairAt}
+use Rattle.tables.specs.Tables.{pairAt}
 use Rattle.pathlimit.proofs.Inputs.{row-roots}
 use Rattle.pathlimit.proofs.Rows.{spec-countable, impl-countable, leaves-counted, row-checked}
 use Rattle.pathlimit.proofs.check_row.Statement.{statement}

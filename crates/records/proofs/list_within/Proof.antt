@@ -5,14 +5,14 @@ use Prim.Native.Nat.{_*_}
 use native.Mathlib.Omega.{arith}
 use lib.ListN.{length}
 use mir.Facts.{toZ-ofZ}
-use Rattle.model.specs.Limits.{maxPaths}
+use Rattle.model.specs.Limits.{recordWidth, maxPaths}
 use Rattle.records.specs.Promises.{lentNumbers}
 use Rattle.records.proofs.Promises.{lent-few, lent-many, lent-within, front-listed}
 use Rattle.records.proofs.list_within.Statement.{statement}
 use Rattle.records.proofs.list_within.Tie as tie
 
 -- three numbers a record are lent
-lent : (c : tie.Joined1) → 3 * c .if1 .records ≡ lentNumbers (c .before .args .room)
+lent : (c : tie.Joined1) → recordWidth * c .if1 .records ≡ lentNumbers (c .before .args .room)
 lent c =
     elim (c .if1 .came) [
       | inl w ↦ let few = lent-few (w .0 .taken) in omega (arith, w .1)
@@ -23,7 +23,7 @@ mul-list-front : tie.Need-mul-list-front
 mul-list-front c = omega (arith, lent (c .before), lent-within (c .before .before .args .room))
 
 -- the work buffer is whole
-whole : (c : tie.After-list-front-arg) → length (c .before .before .before .args .work .now) ≡ 3 * maxPaths
+whole : (c : tie.After-list-front-arg) → length (c .before .before .before .args .work .now) ≡ recordWidth * maxPaths
 whole c = let told = c .list-front-arg .given in omega arith
 
 list-front-requires : tie.Need-list-front-requires

@@ -9,10 +9,10 @@ use Rattle.references.proofs.gather_list.Statement.{statement}
 use Rattle.references.proofs.gather_list.Tie as tie
 
 abbrev Inv-loop : tie.InvT-loop
-Inv-loop state₀ place count f n end m₀ i₀ state m i = Gathering (referenceOf f) state₀ place count n state m i
+Inv-loop state₀ row count f n end m₀ i₀ state m i = Gathering (referenceOf f) state₀ row count n state m i
 
 abbrev μ-loop : tie.MeasureT-loop
-μ-loop state₀ place count f n end m₀ i₀ state m i = end - i
+μ-loop state₀ row count f n end m₀ i₀ state m i = end - i
 
 -- the entry of the function, from the loop
 abbrev start : tie.At-loop Inv-loop μ-loop → tie.Start Inv-loop μ-loop

@@ -1,5 +1,6 @@
 -- The ends of the reference at the owner are taken from the last bit and from the first, and one more from the last.
 use mathlib.Core.Path.{ap, _∙_}
+use borrow.Author.Needs.{needs}
 use lib.IntN.{ℤ, pos, _-ℤ_}
 use Rattle.references.proofs.Numbers.{owner-low, owner-high, owner-last, owner-first, owner-before}
 use Rattle.references.proofs.reaching.Statement.{statement}
@@ -12,7 +13,7 @@ plus-requires-2 : tie.Need-plus-requires-2
 plus-requires-2 c κs = owner-high (c .before .before .before .before .pre .0)
 
 less-requires : tie.Need-less-requires
-less-requires c κs = let s = c .before .before .before .before .before in owner-last (s .pre .0) (s .pre .1) (c .plus2 .ensures)
+less-requires c κs = let s = c .before .before .before .before .before in owner-last (s .pre .0) (search needs) (c .plus2 .ensures)
 
 previous-requires : tie.Need-previous-requires
 previous-requires c κs = owner-first (c .before .before .before .before .before .before .pre .0) (c .before .before .plus .ensures)

@@ -58,9 +58,6 @@ sub-put-field c = omega (arith, room (c .before), kept (c .before .before))
 part-put-field-start : tie.Need-part-put-field-start Inv-loop μ-loop
 part-put-field-start c = omega (arith, room (c .before), kept (c .before .before))
 
-part-put-field-end : tie.Need-part-put-field-end Inv-loop μ-loop
-part-put-field-end c = search needs
-
 put-field-requires : tie.Need-put-field-requires Inv-loop μ-loop
 put-field-requires c κs =
     let i = c .before .before in
@@ -115,7 +112,7 @@ put-numbers-spec =
     shared-slice-copy-out-v
     sub-put-field
     part-put-field-start
-    part-put-field-end
+    (λ c. search needs)
     put-field-requires
     add-at
     add-i

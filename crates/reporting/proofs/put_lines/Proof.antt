@@ -52,9 +52,6 @@ sub-put-line c = omega (arith, room (c .before), kept (c .before .before))
 part-put-line-start : tie.Need-part-put-line-start Inv-loop μ-loop
 part-put-line-start c = omega (arith, room (c .before), kept (c .before .before))
 
-part-put-line-end : tie.Need-part-put-line-end Inv-loop μ-loop
-part-put-line-end c = search needs
-
 put-line-requires : tie.Need-put-line-requires Inv-loop μ-loop
 put-line-requires c κs =
     let i = c .before .before in
@@ -99,7 +96,7 @@ put-lines-spec =
     shared-slice-read-number
     sub-put-line
     part-put-line-start
-    part-put-line-end
+    (λ c. search needs)
     put-line-requires
     add-at
     add-i

@@ -58,7 +58,7 @@ add-t19 : tie.Need-add-t19 Inv-loop μ-loop
 add-t19 c =
     let t = c .before .before .before .before in
     let l = t .before .before in
-    omega (arith, t .if1 .taken, l .loop .inv .1 .placed .low, l .before .before .good)
+    omega (arith, t .if1 .taken, l .loop .inv .1 .inText .low, l .before .before .good)
 
 same-length : tie.Need-same-length Inv-loop μ-loop
 same-length c = let l = c .before .before .before .before .before .before in held-length (l .loop .inv .1 .inFirst) (l .before .before .pre .3)
@@ -77,10 +77,7 @@ slice-aggregate-read-row : tie.Need-slice-aggregate-read-row Inv-loop μ-loop
 slice-aggregate-read-row c = sym (At (c .before) .loop .inv .0)
 
 read-row-requires : tie.Need-read-row-requires Inv-loop μ-loop
-read-row-requires c κs = let l = At (c .before) in (l .loop .inv .1 .placed, l .before .before .pre .1, omega (arith, l .loop .inv .0))
-
-enum-known-r : tie.Need-enum-known-r Inv-loop μ-loop
-enum-known-r c = search needs
+read-row-requires c κs = let l = At (c .before) in (l .loop .inv .1 .inText, l .before .before .pre .1, omega (arith, l .loop .inv .0))
 
 slice-aggregate-store : tie.Need-slice-aggregate-store Inv-loop μ-loop
 slice-aggregate-store c = sym (wide (c .before .before .before .before .before .before))
@@ -121,9 +118,6 @@ loop-again c =
           (s .pre .1 .several) (s .pre .3) (st .store .ensures),
     )
 
-enum-known-r-2 : tie.Need-enum-known-r-2 Inv-loop μ-loop
-enum-known-r-2 c = search needs
-
 slice-aggregate-store-2 : tie.Need-slice-aggregate-store-2 Inv-loop μ-loop
 slice-aggregate-store-2 c = sym (wide (c .before .before .before .before .before .before))
 
@@ -162,9 +156,6 @@ loop-again-2 c =
       rows-second (l .loop .inv .1) (e .before .before .if1 .taken) (goes e) (given .1) (given .0) (numbers-length (s .pre .1) (rowAfter rr))
           (s .pre .1 .several) (s .pre .4) (st .store2 .ensures),
     )
-
-enum-told : tie.Need-enum-told Inv-loop μ-loop
-enum-told c = search needs
 
 same-length-3 : tie.Need-same-length-3 Inv-loop μ-loop
 same-length-3 c = let l = At (c .before .before .before .before .before) in held-length (l .loop .inv .1 .inFirst) (l .before .before .pre .3)
@@ -211,17 +202,17 @@ read-rows-spec =
     returns
     slice-aggregate-read-row
     read-row-requires
-    enum-known-r
+    (λ c. search needs)
     slice-aggregate-store
     store-requires
     loop-less
     loop-again
-    enum-known-r-2
+    (λ c. search needs)
     slice-aggregate-store-2
     store-requires-2
     loop-less-2
     loop-again-2
-    enum-told
+    (λ c. search needs)
     same-length-3
     same-length-4
     returns-2

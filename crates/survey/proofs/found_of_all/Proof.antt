@@ -41,9 +41,6 @@ turn c = c .before .before .before .before .before .before
 there : (c : tie.In-loop Inv-loop μ-loop) → c .before .loop .row < length (start (c .before) .args .root-pairs .now) / pairWidth
 there c = omega (arith, c .loop-test .taken)
 
-no-pair-requires : tie.Need-no-pair-requires Inv-loop μ-loop
-no-pair-requires c κs = search needs
-
 loop-holds : tie.Need-loop-holds Inv-loop μ-loop
 loop-holds c = let s = c .before .before .before .before in (rows-start (tables s) (c .no-pair .ensures), s .pre .1, refl)
 
@@ -115,7 +112,7 @@ found-of-all-spec =
     (tie.spec
     Inv-loop
     μ-loop
-    no-pair-requires
+    (λ c κs. search needs)
     loop-holds
     same-length
     same-length-2

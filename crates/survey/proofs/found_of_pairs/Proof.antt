@@ -50,9 +50,6 @@ there c = omega (arith, c .loop-test .taken)
 loop-holds : tie.Need-loop-holds Inv-loop μ-loop
 loop-holds c = (c .before .before .before .pre .0, λ fs k. record { fs = fs; kept = k; split = refl }, refl)
 
-address-asked-requires : tie.Need-address-asked-requires Inv-loop μ-loop
-address-asked-requires c κs = search needs
-
 pair-found-requires : tie.Need-pair-found-requires Inv-loop μ-loop
 pair-found-requires c κs = let l = turn c in (l .before .loop .inv .0, omega (arith, there l))
 
@@ -111,7 +108,7 @@ found-of-pairs-spec =
     Inv-loop
     μ-loop
     loop-holds
-    address-asked-requires
+    (λ c κs. search needs)
     pair-found-requires
     with-pair-requires
     add-leaf-row

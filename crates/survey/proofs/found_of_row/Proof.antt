@@ -8,9 +8,10 @@ use Rattle.model.specs.Limits.{maxPaths}
 use Rattle.model.specs.Graph.{graphOf}
 use Rattle.model.specs.Paths.{Root}
 use Rattle.model.specs.Compare.{Tables}
-use Rattle.pairing.specs.Pairs.{pairAt, tablesOf}
+use Rattle.tables.specs.Tables.{pairAt}
+use Rattle.pairing.specs.Pairs.{tablesOf}
 use Rattle.pathlimit.proofs.Inputs.{row-roots}
-use Rattle.arrivals.specs.State.{rowWidth}
+use Rattle.sorting.specs.Rows.{rowWidth}
 use Rattle.survey.specs.Survey.{rowFindings}
 use Rattle.survey.proofs.Passing.{row-count}
 use Rattle.survey.proofs.Ready.{spec-sweepable, impl-sweepable, pairs-ready}

@@ -76,9 +76,6 @@ long l = let s = start l in putting-length (tables s) (l .loop .written) (l .loo
 loop-holds : tie.Need-loop-holds Inv-loop μ-loop
 loop-holds c = let s = c .before .before .before .before in (putting-start (tables s) (s .args .out .now), s .pre .1, refl)
 
-no-pair-requires : tie.Need-no-pair-requires Inv-loop μ-loop
-no-pair-requires c κs = search needs
-
 found-of-row-requires : tie.Need-found-of-row-requires Inv-loop μ-loop
 found-of-row-requires c κs =
     let l = turn c in
@@ -91,9 +88,6 @@ sub-put-lines c = let f = rowed c in omega (arith, fits f, long (turn (f .before
 
 part-put-lines-start : tie.Need-part-put-lines-start Inv-loop μ-loop
 part-put-lines-start c = let f = rowed c in omega (arith, fits f, long (turn (f .before) .before))
-
-part-put-lines-end : tie.Need-part-put-lines-end Inv-loop μ-loop
-part-put-lines-end c = search needs
 
 put-lines-requires : tie.Need-put-lines-requires Inv-loop μ-loop
 put-lines-requires c κs =
@@ -159,11 +153,11 @@ put-rows-spec =
     Inv-loop
     μ-loop
     loop-holds
-    no-pair-requires
+    (λ c κs. search needs)
     found-of-row-requires
     sub-put-lines
     part-put-lines-start
-    part-put-lines-end
+    (λ c. search needs)
     put-lines-requires
     add-at
     add-written

@@ -37,9 +37,6 @@ returns-2 c =
 mul-value : tie.Need-mul-value Inv-loop μ-loop
 mul-value c = omega (arith, small (c .before .before .before))
 
-cast-value : tie.Need-cast-value Inv-loop μ-loop
-cast-value c = search needs
-
 add-value : tie.Need-add-value Inv-loop μ-loop
 add-value c = omega (arith, small (c .before .before .before))
 
@@ -71,7 +68,7 @@ scan-digits-spec =
     returns
     returns-2
     mul-value
-    cast-value
+    (λ c. search needs)
     add-value
     add-i
     loop-less

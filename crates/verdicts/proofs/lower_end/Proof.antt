@@ -9,13 +9,13 @@ use mir.Facts.{toZ-ofZ}
 use Rattle.integers.proofs.Linear.{ints, sum}
 use Rattle.integers.proofs.Range.{fits64}
 use Rattle.model.specs.Bitmapping.{Record}
-use Rattle.verdicts.specs.Records.{SmallRecord}
+use Rattle.verdicts.specs.Records.{SmallRootBits}
 use Rattle.verdicts.specs.OnePass.{ends, lowestFrom}
 use Rattle.verdicts.proofs.lower_end.Statement.{statement}
 use Rattle.verdicts.proofs.lower_end.Tie as tie
 
 -- one more than the last bit of a small record
-past : {r : Record} → SmallRecord r → SFits w64 (r .last +ℤ pos 1)
+past : {r : Record} → SmallRootBits r → SFits w64 (r .last +ℤ pos 1)
 past {r} h = fits64 (omega (arith, ints, h .low, h .full, h .high, sum (r .last) (pos 1)))
 
 add-lower : tie.Need-add-lower

@@ -20,7 +20,7 @@ use Rattle.model.proofs.Verdicts.{contained?, each?}
 use Rattle.normalisation.specs.Merging.{sortedByDisplacement}
 use Rattle.normalisation.specs.Records.{IsNormal}
 use Rattle.normalisation.proofs.Sorted.{Pairwise, more, Follows, by-displacement-members, by-displacement-follows}
-use Rattle.containment.specs.Covering.{coveredBy}
+use Rattle.containment.specs.Containing.{containsAll}
 
 -- each record of m is contained in one record of l
 abbrev Each : List Record → List Record → Type 0
@@ -85,18 +85,18 @@ each-none : {r : Record} {m : List Record} → Each [] (r ∷ m) → ⊥
 each-none {r} each = List·Memᴰ·not-nil (each r (List·Memᴰ·head refl) .1)
 
 -- the pass decides whether each record is contained
-covered? : (l m : List Record) → Pairwise Follows l → Pairwise Follows m → Apart l → Full m → Decides (Each l m) (coveredBy l m)
-unfolding coveredBy
-covered? [] [] p q a f = passed (λ r k. absurd (List·Memᴰ·not-nil k))
-covered? (s ∷ l) [] p q a f = passed (λ r k. absurd (List·Memᴰ·not-nil k))
-covered? [] (r ∷ m) p q a f = failed each-none
-covered? (s ∷ l) (r ∷ m) (more b p) (more c q) a f =
+containsAll? : (l m : List Record) → Pairwise Follows l → Pairwise Follows m → Apart l → Full m → Decides (Each l m) (containsAll l m)
+unfolding containsAll
+containsAll? [] [] p q a f = passed (λ r k. absurd (List·Memᴰ·not-nil k))
+containsAll? (s ∷ l) [] p q a f = passed (λ r k. absurd (List·Memᴰ·not-nil k))
+containsAll? [] (r ∷ m) p q a f = failed each-none
+containsAll? (s ∷ l) (r ∷ m) (more b p) (more c q) a f =
     go (contained r s) (contained? r s)
-    (covered? (s ∷ l) m (more b p) q a (λ z k. f z (List·Memᴰ·tail k)))
-    (covered? l (r ∷ m) p (more c q) (λ y z i k. a y z (List·Memᴰ·tail i) (List·Memᴰ·tail k)) f)
+    (containsAll? (s ∷ l) m (more b p) q a (λ z k. f z (List·Memᴰ·tail k)))
+    (containsAll? l (r ∷ m) p (more c q) (λ y z i k. a y z (List·Memᴰ·tail i) (List·Memᴰ·tail k)) f)
   where
-    go : (t : Bool) → Decides (Contained r s) t → Decides (Each (s ∷ l) m) (coveredBy (s ∷ l) m) → Decides (Each l (r ∷ m)) (coveredBy l (r ∷ m))
-        → Decides (Each (s ∷ l) (r ∷ m)) (cond t (coveredBy (s ∷ l) m) (coveredBy l (r ∷ m)))
+    go : (t : Bool) → Decides (Contained r s) t → Decides (Each (s ∷ l) m) (containsAll (s ∷ l) m) → Decides (Each l (r ∷ m)) (containsAll l (r ∷ m))
+        → Decides (Each (s ∷ l) (r ∷ m)) (cond t (containsAll (s ∷ l) m) (containsAll l (r ∷ m)))
     go true (passed k) inside past = decides-as (each-inside k) inside
     go false (failed n) inside past =
         decides-as (each-past (λ z i. (b z i, a s z (List·Memᴰ·head refl) (List·Memᴰ·tail i))) (λ z k. (c z k, f z (List·Memᴰ·tail k))) (f r (List·Memᴰ·head refl)) n) past
@@ -116,11 +116,11 @@ decided (failed n) (passed p) = absurd (n p)
 decided (failed n) (failed m) = refl
 
 -- one pass over two normal lists, sorted by displacement, says whether each record is contained
-pub covered-contained : {l m : List Record} → IsNormal l → IsNormal m → coveredBy (sortedByDisplacement l) (sortedByDisplacement m) ≡ allContained l m
-covered-contained {l} {m} p q =
+pub containsAll-contained : {l m : List Record} → IsNormal l → IsNormal m → containsAll (sortedByDisplacement l) (sortedByDisplacement m) ≡ allContained l m
+containsAll-contained {l} {m} p q =
     decided
     (decides-as (each-sorted l m)
-    (covered? (sortedByDisplacement l) (sortedByDisplacement m) (by-displacement-follows l) (by-displacement-follows m)
+    (containsAll? (sortedByDisplacement l) (sortedByDisplacement m) (by-displacement-follows l) (by-displacement-follows m)
     (λ r s i k. p .apart r s (by-displacement-members l .0 i) (by-displacement-members l .0 k))
     (λ r k. q .full r (by-displacement-members m .0 k))))
     (each? l m)

@@ -3,8 +3,8 @@ use mathlib.Core.Path.{refl}
 use native.Mathlib.Omega.{arith}
 use borrow.Author.Needs.{needs}
 use Rattle.normalisation.proofs.Normalising.{sorted-small, displaced-count, displaced-records, displaced-none}
-use Rattle.normalisation.proofs.merge_rows.Statement.{statement}
-use Rattle.normalisation.proofs.merge_rows.Tie as tie
+use Rattle.normalisation.proofs.normalise_rows.Statement.{statement}
+use Rattle.normalisation.proofs.normalise_rows.Tie as tie
 
 returns : tie.Need-returns
 returns c = let (count, rows) = displaced-none _ _ (c .if1 .taken) in (count, (rows, (refl, refl)))
@@ -13,13 +13,13 @@ rows-apart-requires : tie.Need-rows-apart-requires
 rows-apart-requires c κs =
     let a = c .before .before .before in
     let e = a .before .before .before in
-    (omega (arith, e .if1 .left), omega (arith, a .sort-rows .kept .0), rw (a .sort-rows .ensures .0) (sorted-small _ _ (e .before .pre .2)))
+    (omega (arith, e .if1 .left), omega (arith, a .sort-rows .kept .0), sorted-small _ _ _ (a .sort-rows .ensures .0) (omega (arith, e .if1 .left)) (e .before .pre .2))
 
 join-touching-requires : tie.Need-join-touching-requires
 join-touching-requires c κs =
     let a = c .before .before .before .before .before in
-    let s = a .before .before .before .before in
-    (omega (arith, a .sort-rows .kept .0), c .before .rows-apart .ensures, rw (a .sort-rows .ensures .0) (sorted-small _ _ (s .pre .2)))
+    let e = a .before .before .before in
+    (omega (arith, a .sort-rows .kept .0), c .before .rows-apart .ensures, sorted-small _ _ _ (a .sort-rows .ensures .0) (omega (arith, e .if1 .left)) (e .before .pre .2))
 
 returns-2 : tie.Need-returns-2
 returns-2 c =
@@ -34,8 +34,8 @@ returns-2 c =
       ),
     )
 
-pub merge-rows-spec : {M : Type 1} → statement M
-merge-rows-spec =
+pub normalise-rows-spec : {M : Type 1} → statement M
+normalise-rows-spec =
     tie.close
     (tie.spec
     returns

@@ -13,11 +13,12 @@ use Rattle.integers.proofs.Tests.{ltb?, is-true, is-false, of-test, test-of}
 use Rattle.lists.specs.Lists.{_∈_, keep}
 use Rattle.lists.proofs.Kept.{keep-length}
 use Rattle.lists.proofs.Membership.{map-out}
+use Rattle.lists.proofs.Places.{getD-in}
 use Rattle.model.specs.Limits.{edgeWidth}
 use Rattle.model.specs.Rows.{edgeRows}
 use Rattle.model.proofs.Paths.{edges-distinct}
 use Rattle.tables.specs.Tables.{edgeAt}
-use Rattle.tables.proofs.Rows.{getD-in, nodes-length, edges-length, edge-own}
+use Rattle.tables.proofs.Rows.{nodes-length, edges-length, edge-own}
 use Rattle.depth.specs.Order.{edgeOrder}
 use Rattle.depth.proofs.Stores.{sets-more}
 use Rattle.reach.proofs.Turns.{order-cut, cut-length}
@@ -64,37 +65,37 @@ module _ {es : List ℤ} {order : List ℕ} {count : ℕ} (p : BackwardRows es o
 -- ---- one pass from the last to the first
 
 module _ (es : List ℤ) (order marks : List ℕ) where
-  -- the rows kept of those from place i on
-  abbrev keptFrom : ℕ → List ℕ
-  keptFrom i = reverse (keep (entersMarked es marks) (drop i (take (length (edgeRows es)) order)))
+  -- the leading rows of those from place i on
+  abbrev leadingFrom : ℕ → List ℕ
+  leadingFrom i = reverse (keep (entersMarked es marks) (drop i (take (length (edgeRows es)) order)))
 
   -- the state between two turns
-  pub record Keeping (old plan : List ℕ) (kept i : ℕ) : Type 0 where
+  pub record Storing (old plan : List ℕ) (leading i : ℕ) : Type 0 where
     pub within : i ≤ length es / edgeWidth
-    pub count : kept ≡ length (keptFrom i)
-    pub stored : plan ≡ sets old 0 (keptFrom i)
+    pub count : leading ≡ length (leadingFrom i)
+    pub stored : plan ≡ sets old 0 (leadingFrom i)
 
   -- the state at a place written otherwise
-  pub keeping-at : {old plan : List ℕ} {kept i : ℕ} (k : ℕ) → i ≡ k → Keeping old plan kept i → Keeping old plan kept k
-  keeping-at {old} {plan} {kept} k e s = subst (λ (j : ℕ). Keeping old plan kept j) e s
+  pub storing-at : {old plan : List ℕ} {leading i : ℕ} (k : ℕ) → i ≡ k → Storing old plan leading i → Storing old plan leading k
+  storing-at {old} {plan} {leading} k e s = subst (λ (j : ℕ). Storing old plan leading j) e s
 
   -- the plan keeps its length
-  pub keeping-long : {old plan : List ℕ} {kept i : ℕ} → Keeping old plan kept i → length plan ≡ length old
-  keeping-long {old} {i = i} s = ap length (s .stored) ∙ length-sets old 0 (keptFrom i)
+  pub storing-long : {old plan : List ℕ} {leading i : ℕ} → Storing old plan leading i → length plan ≡ length old
+  storing-long {old} {i = i} s = ap length (s .stored) ∙ length-sets old 0 (leadingFrom i)
 
   module _ (p : BackwardRows es order (length marks)) where
     -- before the first turn
-    pub keep-start : (old : List ℕ) → Keeping old old 0 (length es / edgeWidth)
+    pub store-start : (old : List ℕ) → Storing old old 0 (length es / edgeWidth)
     unfolding keep
-    keep-start old =
+    store-start old =
         let front = take (length (edgeRows es)) order in
-        let none : keptFrom (length es / edgeWidth) ≡ [] =
+        let none : leadingFrom (length es / edgeWidth) ≡ [] =
         ap (λ l. reverse (keep (entersMarked es marks) l)) (ap (λ n. drop n front) (sym (front-length p)) ∙ drop-length front) in
         record { within = omega arith; count = sym (ap length none); stored = ap (sets old 0) (sym none) }
 
-    -- fewer rows are kept than there are edges
-    pub keep-few : {old plan : List ℕ} {kept i : ℕ} → Keeping old plan kept i → kept + i ≤ length es / edgeWidth
-    keep-few {i = i} s =
+    -- the leading rows with those left are no more than the edges
+    pub store-few : {old plan : List ℕ} {leading i : ℕ} → Storing old plan leading i → leading + i ≤ length es / edgeWidth
+    store-few {i = i} s =
         let rest = drop i (take (length (edgeRows es)) order) in
         let some = keep (entersMarked es marks) rest in
         omega (
@@ -107,7 +108,7 @@ module _ (es : List ℤ) (order marks : List ℕ) where
           front-length p,
         )
 
-    module _ {old plan : List ℕ} {kept k : ℕ} (s : Keeping old plan kept (suc k)) (to : ℕ) (q : pos to ≡ edgeAt es (getD order k 0) .to) where
+    module _ {old plan : List ℕ} {leading k : ℕ} (s : Storing old plan leading (suc k)) (to : ℕ) (q : pos to ≡ edgeAt es (getD order k 0) .to) where
       -- the row of a turn
       below : k < length es / edgeWidth
       below = omega (arith, s .within)
@@ -117,11 +118,11 @@ module _ (es : List ℤ) (order marks : List ℕ) where
       unfolding entersMarked
       test-at = ap (λ v. ltb 0 (getD marks (natAbs v) 0)) (sym q)
 
-      -- the rows kept with one row more, by the test of it
-      kept-more : (t : Bool) → ltb 0 (getD marks to 0) ≡ t
-          → keptFrom k ≡ cond t (keptFrom (suc k) ++ (getD order k 0 ∷ [])) (keptFrom (suc k))
+      -- the leading rows with one row more, by the test of it
+      leading-more : (t : Bool) → ltb 0 (getD marks to 0) ≡ t
+          → leadingFrom k ≡ cond t (leadingFrom (suc k) ++ (getD order k 0 ∷ [])) (leadingFrom (suc k))
       unfolding keep
-      kept-more t e =
+      leading-more t e =
           let front = take (length (edgeRows es)) order in
           let ok = entersMarked es marks in
           let row = getD order k 0 in
@@ -136,28 +137,28 @@ module _ (es : List ℤ) (order marks : List ℕ) where
           turned false = refl
 
       -- a row that enters a marked node is stored
-      pub keep-marked : getD marks to 0 ≢ 0 → Keeping old (set plan kept (getD order k 0)) (kept + 1) k
-      keep-marked m =
+      pub store-marked : getD marks to 0 ≢ 0 → Storing old (set plan leading (getD order k 0)) (leading + 1) k
+      store-marked m =
           let row = getD order k 0 in
-          let more = kept-more true (is-true (ltb 0 (getD marks to 0)) (of-test (ltb? 0 (getD marks to 0)) (λ z. m (omega (arith, z))))) in
-          let place : kept ≡ 0 + length (keptFrom (suc k)) = omega (arith, s .count) in
+          let more = leading-more true (is-true (ltb 0 (getD marks to 0)) (of-test (ltb? 0 (getD marks to 0)) (λ z. m (omega (arith, z))))) in
+          let place : leading ≡ 0 + length (leadingFrom (suc k)) = omega (arith, s .count) in
           record {
             within = omega (arith, below);
-            count = omega (arith, s .count, ap length more, length-append (keptFrom (suc k)) (row ∷ []));
+            count = omega (arith, s .count, ap length more, length-append (leadingFrom (suc k)) (row ∷ []));
             stored =
-                ap (λ l. set l kept row) (s .stored)
-                ∙ ap (λ n. set (sets old 0 (keptFrom (suc k))) n row) place
-                ∙ sets-more old 0 (keptFrom (suc k)) row
+                ap (λ l. set l leading row) (s .stored)
+                ∙ ap (λ n. set (sets old 0 (leadingFrom (suc k))) n row) place
+                ∙ sets-more old 0 (leadingFrom (suc k)) row
                 ∙ ap (sets old 0) (sym more);
           }
 
       -- any other is passed over
-      pub keep-over : getD marks to 0 ≡ 0 → Keeping old plan kept k
-      keep-over z =
-          let same = kept-more false (is-false (ltb 0 (getD marks to 0)) (λ t. let m = test-of (ltb? 0 (getD marks to 0)) t in omega (arith, m, z))) in
+      pub store-over : getD marks to 0 ≡ 0 → Storing old plan leading k
+      store-over z =
+          let same = leading-more false (is-false (ltb 0 (getD marks to 0)) (λ t. let m = test-of (ltb? 0 (getD marks to 0)) t in omega (arith, m, z))) in
           record { within = omega (arith, below); count = s .count ∙ ap length (sym same); stored = s .stored ∙ ap (sets old 0) (sym same) }
 
   -- behind the last turn the number of rows is stored
-  pub keep-end : {old plan : List ℕ} {kept : ℕ} → Keeping old plan kept 0 → set plan countAt kept ≡ planWith (leadingRows es order marks) old
+  pub store-end : {old plan : List ℕ} {leading : ℕ} → Storing old plan leading 0 → set plan countAt leading ≡ planWith (leadingRows es order marks) old
   unfolding leadingRows planWith
-  keep-end {old} {kept = kept} s = ap (λ l. set l countAt kept) (s .stored) ∙ ap (set (sets old 0 (keptFrom 0)) countAt) (s .count)
+  store-end {old} {leading = leading} s = ap (λ l. set l countAt leading) (s .stored) ∙ ap (set (sets old 0 (leadingFrom 0)) countAt) (s .count)

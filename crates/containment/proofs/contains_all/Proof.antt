@@ -6,14 +6,14 @@ use Rattle.sorting.specs.Rows.{rowAt}
 use Rattle.sorting.proofs.Tables.{rowsFrom-start}
 use Rattle.sorting.specs.declared.Row.{Row}
 use Rattle.model.specs.Verdicts.{contained}
-use Rattle.normalisation.specs.Merging.{ofDisplacement}
-use Rattle.containment.specs.Covering.{coveredBy, displacedOf}
-use Rattle.containment.proofs.Turns.{displacedFrom, covered-inside, covered-past, covered-none, covered-end}
-use Rattle.containment.proofs.covered.Statement.{statement}
-use Rattle.containment.proofs.covered.Tie as tie
+use Rattle.normalisation.specs.Merging.{ofDisplacement, displacedOf}
+use Rattle.containment.specs.Containing.{containsAll}
+use Rattle.containment.proofs.Turns.{displacedFrom, containsAll-inside, containsAll-past, containsAll-none, containsAll-end}
+use Rattle.containment.proofs.contains_all.Statement.{statement}
+use Rattle.containment.proofs.contains_all.Tie as tie
 
 abbrev Inv-loop : tie.InvT-loop
-Inv-loop spec ns imp ni i₀ j₀ i j = coveredBy (displacedOf spec ns) (displacedOf imp ni) ≡ coveredBy (displacedFrom spec i ns) (displacedFrom imp j ni)
+Inv-loop spec ns imp ni i₀ j₀ i j = containsAll (displacedOf spec ns) (displacedOf imp ni) ≡ containsAll (displacedFrom spec i ns) (displacedFrom imp j ni)
 
 abbrev μ-loop : tie.MeasureT-loop
 μ-loop spec ns imp ni i₀ j₀ i j = (ns - i) + (ni - j)
@@ -35,7 +35,7 @@ returns c =
     let l = c .before .before in
     let s = l .before in
     sym (l .loop .inv
-    ∙ covered-none (s .args .spec .now) (s .args .imp .now) (s .args .ns) (s .args .ni) (l .loop .i) (l .loop .j) (c .if1 .taken) (c .before .loop-test .taken))
+    ∙ containsAll-none (s .args .spec .now) (s .args .imp .now) (s .args .ns) (s .args .ni) (l .loop .i) (l .loop .j) (c .if1 .taken) (c .before .loop-test .taken))
 
 loop-again : tie.Need-loop-again Inv-loop μ-loop
 loop-again c =
@@ -43,7 +43,7 @@ loop-again c =
     let l = e .before .before in
     let s = l .before in
     l .loop .inv
-    ∙ covered-inside (s .args .spec .now) (s .args .imp .now) (s .args .ns) (s .args .ni) (l .loop .i) (l .loop .j) (e .if1 .left) (e .before .loop-test .taken)
+    ∙ containsAll-inside (s .args .spec .now) (s .args .imp .now) (s .args .ns) (s .args .ni) (l .loop .i) (l .loop .j) (e .if1 .left) (e .before .loop-test .taken)
     (sym (test (c .before)) ∙ c .if2 .taken)
 
 loop-again-2 : tie.Need-loop-again-2 Inv-loop μ-loop
@@ -52,17 +52,17 @@ loop-again-2 c =
     let l = e .before .before in
     let s = l .before in
     l .loop .inv
-    ∙ covered-past (s .args .spec .now) (s .args .imp .now) (s .args .ns) (s .args .ni) (l .loop .i) (l .loop .j) (e .if1 .left) (e .before .loop-test .taken)
+    ∙ containsAll-past (s .args .spec .now) (s .args .imp .now) (s .args .ns) (s .args .ni) (l .loop .i) (l .loop .j) (e .if1 .left) (e .before .loop-test .taken)
     (sym (test (c .before)) ∙ c .if2 .left)
 
 returns-2 : tie.Need-returns-2 Inv-loop μ-loop
 returns-2 c =
     let l = c .before in
     let s = l .before in
-    sym (l .loop .inv ∙ covered-end (s .args .spec .now) (s .args .imp .now) (s .args .ns) (s .args .ni) (l .loop .i) (l .loop .j) (c .loop-test .left))
+    sym (l .loop .inv ∙ containsAll-end (s .args .spec .now) (s .args .imp .now) (s .args .ns) (s .args .ni) (l .loop .i) (l .loop .j) (c .loop-test .left))
 
-pub covered-spec : {M : Type 1} → statement M
-covered-spec =
+pub contains-all-spec : {M : Type 1} → statement M
+contains-all-spec =
     tie.close
     (tie.spec
     Inv-loop

@@ -1,16 +1,13 @@
 -- A names line: the columns of a table's names, and how many fields it has, field by field.
-use mathlib.Core.Path.{_≡_, refl, sym, ap, subst, _∙_}
-use mathlib.Core.Bool.{Bool, true, false, cond}
-use mathlib.Core.List.{List, [], _∷_}
-use mathlib.Core.Option.{none, some}
+use mathlib.Core.Path.{_≡_, refl, sym, ap, _∙_}
+use mathlib.Core.Bool.{Bool, true, false, true≢false, cond}
+use mathlib.Core.List.{[]}
 use Prim.Native.Nat.{ℕ, suc, _+_, _≤_, _<_}
 use native.Mathlib.Numerals.{add-one}
 use native.Mathlib.Omega.{arith}
 use lib.ListN.{length, drop}
-use Rattle.integers.proofs.Tests.{passed, failed}
-use Rattle.lists.proofs.Decisions.{Decides}
-use Rattle.filerules.proofs.Words.{same?}
-use Rattle.model.specs.Bytes.{Bytes, same}
+use Rattle.filerules.proofs.Names.{column-first, column-later}
+use Rattle.model.specs.Bytes.{Bytes}
 use Rattle.model.specs.Reader.{fieldsOf, columnOf}
 use Rattle.cursor.specs.Parts.{firstLine, laterLines, firstField, blankFirst, followed, restOf}
 use Rattle.cursor.specs.Given.{Stands}
@@ -25,42 +22,29 @@ count-goes t e = rw (fields-first t, e) refl
 count-ends : (t : Bytes) → followed t ≡ false → length (fieldsOf (firstLine t)) ≡ 1
 count-ends t e = rw (fields-first t, e) refl
 
--- ---- the column of a name, among the fields of the first line, which begin with column i
+-- ---- the column of a name among the fields of the first line
 
-same-is : (a b : Bytes) (r : Bool) → (r ≡ true → a ≡ b) × (a ≡ b → r ≡ true) → same a b ≡ r
-same-is a b r h = go (same a b) (same? a b) r h
-  where
-    go : (t : Bool) → Decides (a ≡ b) t → (r : Bool) → (r ≡ true → a ≡ b) × (a ≡ b → r ≡ true) → t ≡ r
-    go true (passed e) r h = sym (h .1 e)
-    go false (failed n) true h = absurd (n (h .0 refl))
-    go false (failed n) false h = refl
-
--- what the test of the first field leaves
-column-test : (name : Bytes) (i : ℕ) (f : Bytes) (fs : List Bytes) {b : Bool} → same name f ≡ b
-    → columnOf name i (f ∷ fs) ≡ elim b [ true ↦ some i | false ↦ columnOf name (suc i) fs ]
-unfolding columnOf
-column-test name i f fs e = subst (λ (b : Bool). columnOf name i (f ∷ fs) ≡ elim b [ true ↦ some i | false ↦ columnOf name (suc i) fs ]) e refl
-
-module _ (name t : Bytes) (i : ℕ) {r : Bool} (test : (r ≡ true → name ≡ firstField t) × (name ≡ firstField t → r ≡ true)) where
-  column-first : {b : Bool} → r ≡ b → columnOf name i (fieldsOf (firstLine t))
-      ≡ elim b [ true ↦ some i | false ↦ columnOf name (suc i) (cond (followed t) (fieldsOf (firstLine (restOf t))) []) ]
-  column-first e =
-      ap (columnOf name i) (fields-first t)
-      ∙ column-test name i (firstField t) (cond (followed t) (fieldsOf (firstLine (restOf t))) []) (same-is name (firstField t) r test ∙ e)
-
+module _ (name t : Bytes) {r : Bool} (test : (r ≡ true → name ≡ firstField t) × (name ≡ firstField t → r ≡ true)) where
   -- the first field is the name
-  pub column-here : r ≡ true → columnOf name i (fieldsOf (firstLine t)) ≡ some i
-  column-here e = column-first e
+  pub column-here : r ≡ true → columnOf name (fieldsOf (firstLine t)) ≡ 0
+  column-here e =
+      ap (columnOf name) (fields-first t)
+      ∙ column-first name (firstField t) (cond (followed t) (fieldsOf (firstLine (restOf t))) []) (test .0 e)
 
   module _ (other : r ≡ false) where
+    column-behind : columnOf name (fieldsOf (firstLine t)) ≡ suc (columnOf name (cond (followed t) (fieldsOf (firstLine (restOf t))) []))
+    column-behind =
+        ap (columnOf name) (fields-first t)
+        ∙ column-later name (firstField t) (cond (followed t) (fieldsOf (firstLine (restOf t))) []) (λ q. true≢false (sym (test .1 q) ∙ other))
+
     -- it is not, and another follows
-    pub column-goes : followed t ≡ true → columnOf name i (fieldsOf (firstLine t)) ≡ columnOf name (suc i) (fieldsOf (firstLine (restOf t)))
-    column-goes e = column-first other ∙ rw e refl
+    pub column-goes : followed t ≡ true → columnOf name (fieldsOf (firstLine t)) ≡ suc (columnOf name (fieldsOf (firstLine (restOf t))))
+    column-goes e = column-behind ∙ rw e refl
 
     -- it is not, and none follows
-    pub column-none : followed t ≡ false → columnOf name i (fieldsOf (firstLine t)) ≡ none
+    pub column-none : followed t ≡ false → columnOf name (fieldsOf (firstLine t)) ≡ 1
     unfolding columnOf
-    column-none e = column-first other ∙ rw e refl
+    column-none e = column-behind ∙ rw e refl
 
 -- ---- the number of fields
 

@@ -1,25 +1,23 @@
 // Names lines: how many fields a line has, and the columns of names among them.
 ghost use mathlib.Core.Path.{_≡_};
-ghost use Prim.Native.Nat.{suc, _≤_, _<_};
+ghost use mathlib.Core.Bool.{true, false};
+ghost use Prim.Native.Nat.{suc, _≤_};
 ghost use lib.ListN.{length, drop};
-ghost use Rattle.model.specs.Reader.{fieldsOf, columnOf};
-ghost use Rattle.cursor.specs.Parts.{firstLine, laterLines};
+ghost use Rattle.model.specs.Reader.{columnOf};
+ghost use Rattle.cursor.specs.Parts.{laterLines};
 ghost use Rattle.cursor.specs.Given.{InText, Stands};
-ghost use Rattle.columns.specs.Given.{maxNames, columnFound, NameGiven};
+ghost use Rattle.columns.specs.Given.{isComplete, lineFields, NoName, Seeking, NameGiven};
 use cursor::Cursor;
 
-// Names of a table at most.
+// Names of a table at most, optional ones among them.
 pub const MAX_NAMES: usize = 5;
 
-// The column of a name.
-enum Column {
-    At(usize),
-    Missing,
-}
-
-// The columns of a table's names, in their order, and whether all are found.
+// The columns of a table's names, in their order, in a names line with so many fields: whether all names that the line must have are found, and how
+// many names are found in all.
 pub struct Columns {
     pub found: bool,
+    pub fields: usize,
+    pub named: usize,
     pub count: usize,
     pub at: [usize; MAX_NAMES],
 }
@@ -33,7 +31,7 @@ pub struct Heading {
 // Counts the fields of the line that starts at the cursor.
 pub fn count_fields(text: &[u8], from: Cursor) -> Heading
     requires { ⌜ InText (now text) from ⌝ }
-    ensures fields { λ r. ⌜ r .fields ≡ length (fieldsOf (firstLine (drop (from .at) (now (text .entry))))) ⌝ }
+    ensures fields { λ r. ⌜ r .fields ≡ length (lineFields (now (text .entry)) (from .at)) ⌝ }
     ensures next { λ r. ⌜ Stands (now (text .entry)) (laterLines (drop (from .at) (now (text .entry)))) (suc (from .line)) (r .next) ⌝ }
 {
     let mut fields: usize = 1;
@@ -51,20 +49,20 @@ pub fn count_fields(text: &[u8], from: Cursor) -> Heading
     }
 }
 
-// The column of a name among the fields of the line that starts at `from`.
-fn column_of(text: &[u8], from: usize, name: &[u8]) -> Column
+// The column of a name among the fields of the line that starts at `from`; as many as there are fields, where none is the name.
+fn column_of(text: &[u8], from: usize, name: &[u8]) -> usize
     requires { ⌜ from ≤ length (now text) ⌝ }
-    ensures { λ r. ⌜ columnFound r ≡ columnOf (now (name .entry)) 0 (fieldsOf (firstLine (drop from (now (text .entry))))) ⌝ }
+    ensures { λ r. ⌜ r ≡ columnOf (now (name .entry)) (lineFields (now (text .entry)) from) ⌝ }
 {
     let mut at = from;
     let mut i: usize = 0;
     loop {
         let end = cursor::field_end(text, at);
         if check::same(name, &text[at..end]) {
-            return Column::At(i);
+            return i;
         }
         if !cursor::is_blank(text, end) {
-            return Column::Missing;
+            return i + 1;
         }
         at = end + 1;
         i += 1;
@@ -72,37 +70,51 @@ fn column_of(text: &[u8], from: usize, name: &[u8]) -> Column
 }
 
 impl Columns {
-    // No column yet, and whether the names line has the right number of fields.
-    pub fn none(found: bool) -> Self
-        ensures { λ r. ⌜ (r .found ≡ found) × (r .count ≡ 0) ⌝ }
+    // No column yet, in a names line with so many fields.
+    pub fn none(fields: usize) -> Self
+        ensures { λ r. ⌜ NoName fields r ⌝ }
     {
         Columns {
-            found: found,
+            found: true,
+            fields: fields,
+            named: 0,
             count: 0,
             at: [0; MAX_NAMES],
         }
     }
+
+    // Whether the line is a names line: it has all names that it must have, and as many fields as names found.
+    pub fn complete(self) -> bool
+        ensures { λ r. ⌜ r ≡ isComplete self ⌝ }
+    {
+        self.found && self.fields == self.named
+    }
 }
 
-// The columns with that of one name more, where all before it are found.
-pub fn with_name(cs: Columns, text: &[u8], from: usize, name: &[u8]) -> Columns
-    requires { ⌜ (cs .count < maxNames) × (from ≤ length (now text)) ⌝ }
-    ensures { λ r. ⌜ NameGiven cs (columnOf (now (name .entry)) 0 (fieldsOf (firstLine (drop from (now (text .entry)))))) r ⌝ }
+// The columns with that of a name that the line may have.
+pub fn with_optional(cs: Columns, text: &[u8], from: usize, name: &[u8]) -> Columns
+    requires { ⌜ Seeking (now text) from cs ⌝ }
+    ensures { λ r. ⌜ NameGiven false (now (name .entry)) (lineFields (now (text .entry)) from) cs r ⌝ }
 {
     let n = cs.count;
+    let i = column_of(text, from, name);
     let mut next = cs;
+    next.at[n] = i;
     next.count = n + 1;
-    if !next.found {
-        return next;
+    if i < next.fields {
+        next.named += 1;
     }
-    let column = column_of(text, from, name);
-    match column {
-        Column::At(i) => {
-            next.at[n] = i;
-        }
-        Column::Missing => {
-            next.found = false;
-        }
+    next
+}
+
+// The columns with that of a name that the line must have.
+pub fn with_name(cs: Columns, text: &[u8], from: usize, name: &[u8]) -> Columns
+    requires { ⌜ Seeking (now text) from cs ⌝ }
+    ensures { λ r. ⌜ NameGiven true (now (name .entry)) (lineFields (now (text .entry)) from) cs r ⌝ }
+{
+    let mut next = with_optional(cs, text, from, name);
+    if next.named == cs.named {
+        next.found = false;
     }
     next
 }

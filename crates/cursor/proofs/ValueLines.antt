@@ -8,7 +8,7 @@ use native.Mathlib.Numerals.{add-one}
 use native.Mathlib.Omega.{arith}
 use lib.IntN.{ℤ}
 use lib.ListN.{length, take, drop, set, length-set, length-drop}
-use lib.Seq.{take-suc-set}
+use lib.Seq.{take-suc-set, drop-set-lt}
 use Rattle.model.specs.Bytes.{Bytes}
 use Rattle.model.specs.Reader.{consOption}
 use Rattle.cursor.specs.declared.Cursor.{Cursor}
@@ -34,6 +34,7 @@ behind-cons xs v (some vs) = ap {B = Option (List ℤ)} some (sym (append-assoc 
 pub record LineLeft (text : Bytes) (width : ℕ) (row₀ : List ℤ) (c₀ : Cursor) (row : List ℤ) (c : Cursor) (i : ℕ) : Type 0 where
   pub short : i < width
   pub kept : length row ≡ length row₀
+  pub rest : drop width row ≡ drop width row₀
   pub inText : InText text c
   pub same : lineValues width (drop (c₀ .at) text) ≡ behind (take i row) (lineValues (width - i) (drop (c .at) text))
   pub later : laterLines (drop (c .at) text) ≡ laterLines (drop (c₀ .at) text)
@@ -45,6 +46,7 @@ left-all text width row c h p =
     record {
       short = omega arith;
       kept = refl;
+      rest = refl;
       inText = p;
       same = rw (sub-zero width) (sym (behind-nil (lineValues width (drop (c .at) text))));
       later = refl;
@@ -52,6 +54,10 @@ left-all text width row c h p =
     }
 
 module _ {text : Bytes} {width : ℕ} {row₀ : List ℤ} {c₀ : Cursor} {row : List ℤ} {c : Cursor} {i : ℕ} (l : LineLeft text width row₀ c₀ row c i) where
+  -- what lies behind the values of the line stays
+  pub left-rest : (v : ℤ) → drop width (set row i v) ≡ drop width row₀
+  left-rest v = drop-set-lt width row i v (l .short) ∙ l .rest
+
   -- another value is due behind this one
   module _ (due : i + 1 < width) where
     left-inner : lineValues (width - i) (drop (c .at) text)
@@ -74,6 +80,7 @@ module _ {text : Bytes} {width : ℕ} {row₀ : List ℤ} {c₀ : Cursor} {row :
         record {
           short = due;
           kept = length-set row i v ∙ l .kept;
+          rest = left-rest v;
           inText = record {
             within = s .within;
             low = omega (

@@ -141,10 +141,11 @@ pub enum Line {
     Bad,
 }
 
-// Reads a line of `width` values into the front of `row`.
+// Reads a line of `width` values into the front of `row`, of which the rest stays.
 pub fn read_line(text: &[u8], from: Cursor, width: usize, row: &mut [i64]) -> Line
     requires { ⌜ InText (now text) from × (1 ≤ width) × (width ≤ length (now row)) ⌝ }
-    ensures { λ r. ⌜ LineGiven (now (text .entry)) from width (now (row .exit)) r ⌝ }
+    ensures line { λ r. ⌜ LineGiven (now (text .entry)) from width (now (row .exit)) r ⌝ }
+    ensures rest { λ r. ⌜ drop width (now (row .exit)) ≡ drop width (now (row .entry)) ⌝ }
 {
     let mut c = from;
     let mut i: usize = 0;

@@ -1,148 +1,150 @@
--- Names lines: the reader finds the columns of a table's names exactly where the line has these names as its fields.
+-- Names lines: the reader gives columns exactly where the fields of the line are a table's names, and a field's column is where it stands.
 use mathlib.Core.Path.{_≡_, refl, sym, ap, subst, _∙_}
-use mathlib.Core.Bool.{Bool, true, false}
+use mathlib.Core.Bool.{Bool, true, false, cond}
 use mathlib.Core.Logic.{_≢_, _⊎_, inl, inr, ⊎-elim, _↔_}
-use mathlib.Core.List.{List, [], _∷_, _++_, append-assoc, List·Memᴰ·append-cases, List·Memᴰ·cases-cons, List·Memᴰ·head, List·Memᴰ·tail, List·Memᴰ·not-nil, Memᴰ·append-left, Memᴰ·append-right, Memᴰ·cast}
+use mathlib.Core.List.{List, [], _∷_, List·Memᴰ·append-cases, List·Memᴰ·cases-cons, List·Memᴰ·head, List·Memᴰ·tail, List·Memᴰ·not-nil, Memᴰ·append-left, Memᴰ·append-right, Memᴰ·cast}
 use mathlib.Core.Option.{none, some}
-use Prim.Native.Nat.{ℕ, suc, _+_, _<_}
+use Prim.Native.Nat.{suc, _≤_, _<_}
 use native.Mathlib.Omega.{arith}
-use lib.ListN.{length, getD, length-append}
+use lib.ListN.{length}
 use Rattle.integers.proofs.Tests.{Test, passed, failed, eq?}
-use Rattle.lists.specs.Lists.{_∈_, any, Distinct, none as noMore, more}
-use Rattle.lists.proofs.Distinct.{distinct-length}
-use Rattle.lists.proofs.Decisions.{Decides, any?}
-use Rattle.lists.proofs.Places.{getD-in}
+use Rattle.lists.specs.Lists.{_∈_, keep, Distinct}
+use Rattle.lists.proofs.Membership.{keep-in, keep-out}
+use Rattle.lists.proofs.Distinct.{distinct-length, distinct-covers, distinct-covered, keep-distinct, front-distinct}
+use Rattle.lists.proofs.Decisions.{Decides, test-map, decides-iff, decides-as, decides-and, any?, all?}
 use Rattle.model.specs.Bytes.{Bytes, blank, same}
-use Rattle.model.specs.MapFile.{Table, NamesLine}
-use Rattle.model.specs.Reader.{fieldsOf, columnOf, columnsOf, columns}
-use Rattle.filerules.proofs.Options.{none-some, some-same, choice-in, choice-out, Both, cons-in, cons-out}
+use Rattle.model.specs.MapFile.{Table, allNames, GoodFields, NamesLine}
+use Rattle.model.specs.Reader.{Layout, fieldsOf, columnOf, isField, layoutOf, goodFields, columns}
+use Rattle.filerules.proofs.Options.{some-same, choice-in, choice-out}
 use Rattle.filerules.proofs.Words.{same?, Regular, word-lacks-blank}
 use Rattle.filerules.proofs.Splits.{AllLack}
 use Rattle.filerules.proofs.Fields.{fields-spaced, spaced-fields}
 
--- ---- as many fields as names, with each name among them
+-- ---- the column of a name
 
-module _ {names fields : List Bytes} (once : Distinct names) (asMany : length fields ≡ length names) (each : (n : Bytes) → n ∈ names → n ∈ fields) where
-  -- every field is a name
-  pub fields-names : (f : Bytes) → f ∈ fields → f ∈ names
-  fields-names f m = go (any (same f) names) (any? (same? f) names)
-    where
-      go : (b : Bool) → Test ((n : Bytes) × (n ∈ names) × (f ≡ n)) ((n : Bytes) → n ∈ names → f ≡ n → ⊥) b → f ∈ names
-      go true (passed w) = Memᴰ·cast (w .2) (w .1)
-      go false (failed n) =
-          let d : Distinct (f ∷ names) = more (λ k. n f k refl) once in
-          absurd (omega (arith, distinct-length d fields (λ x k. ⊎-elim (λ e. Memᴰ·cast e m) (each x) (List·Memᴰ·cases-cons k))))
+-- isField decides whether one of the fields is the name
+pub isField? : (fs : List Bytes) (n : Bytes) → Decides (n ∈ fs) (isField fs n)
+unfolding isField
+isField? fs n = test-map (λ w. Memᴰ·cast (w .2) (w .1)) (λ h m. h n m refl) (any? (same? n) fs)
 
-  distinct-behind : (p q : List Bytes) → p ++ q ≡ fields → Distinct q
-  distinct-behind p [] e = noMore
-  distinct-behind p (f ∷ q) e =
-      more (λ m. twice m) (distinct-behind (p ++ (f ∷ [])) q (append-assoc p (f ∷ []) q ∙ e))
-    where
-      twice : f ∈ q → ⊥
-      twice m = omega (arith, distinct-length once (p ++ q) still, length-append p q, ap length e, length-append p (f ∷ q))
-        where
-          still : (n : Bytes) → n ∈ names → n ∈ p ++ q
-          still n k =
-              ⊎-elim (Memᴰ·append-left q) (λ j. Memᴰ·append-right p (⊎-elim (λ i. Memᴰ·cast i m) (λ i. i) (List·Memᴰ·cases-cons j)))
-              (List·Memᴰ·append-cases p (subst (λ (z : List Bytes). n ∈ z) (sym e) (each n k)))
-
-  -- no field stands twice
-  pub fields-distinct : Distinct fields
-  fields-distinct = distinct-behind [] fields refl
-
--- ---- columns
-
--- the columns of the names among the fields
-pub data Stand (fields : List Bytes) : List Bytes → List ℕ → Type 0 where
-  nil : Stand fields [] []
-  cons : {n : Bytes} {c : ℕ} {ns : List Bytes} {cs : List ℕ} → c < length fields → getD fields c [] ≡ n → Stand fields ns cs → Stand fields (n ∷ ns) (c ∷ cs)
-
--- a column that is found is that of the name
-column-out : (n : Bytes) (i c : ℕ) (fs : List Bytes) → columnOf n i fs ≡ some c → (j : ℕ) × (c ≡ i + j) × (j < length fs) × (getD fs j [] ≡ n)
+-- the first field is the name
+pub column-first : (n f : Bytes) (fs : List Bytes) → n ≡ f → columnOf n (f ∷ fs) ≡ 0
 unfolding columnOf
-column-out n i c [] e = absurd (none-some e)
-column-out n i c (f ∷ fs) e = go (same n f) (same? n f) e (column-out n (suc i) c fs)
-  where
-    Found : List Bytes → ℕ → Type 0
-    Found fs i = (j : ℕ) × (c ≡ i + j) × (j < length fs) × (getD fs j [] ≡ n)
+column-first n f fs e = choice-in (suc (columnOf n fs)) (same? n f) e
 
-    go : (b : Bool) → Decides (n ≡ f) b → elim b [ true ↦ some i | false ↦ columnOf n (suc i) fs ] ≡ some c
-        → (columnOf n (suc i) fs ≡ some c → Found fs (suc i)) → Found (f ∷ fs) i
-    go true (passed q) e rec = (0, omega (arith, some-same e), omega arith, sym q)
-    go false (failed q) e rec = let w = rec e in (suc (w .0), omega (arith, w .1), omega (arith, w .2), w .3)
-
--- a name among the fields has a column
-column-in : (n : Bytes) (i : ℕ) (fs : List Bytes) → n ∈ fs → (c : ℕ) × (columnOf n i fs ≡ some c)
+-- it is not
+pub column-later : (n f : Bytes) (fs : List Bytes) → n ≢ f → columnOf n (f ∷ fs) ≡ suc (columnOf n fs)
 unfolding columnOf
-column-in n i [] m = absurd (List·Memᴰ·not-nil m)
-column-in n i (f ∷ fs) m = go (same n f) (same? n f) (List·Memᴰ·cases-cons m) (column-in n (suc i) fs)
+column-later n f fs h = go (same n f) (same? n f)
   where
-    go : (b : Bool) → Decides (n ≡ f) b → (n ≡ f) ⊎ (n ∈ fs) → (n ∈ fs → (c : ℕ) × (columnOf n (suc i) fs ≡ some c))
-        → (c : ℕ) × (elim b [ true ↦ some i | false ↦ columnOf n (suc i) fs ] ≡ some c)
-    go true (passed q) k rec = (i, refl)
+    go : (b : Bool) → Decides (n ≡ f) b → cond b 0 (suc (columnOf n fs)) ≡ suc (columnOf n fs)
+    go true (passed e) = absurd (h e)
+    go false (failed e) = refl
+
+-- a name that is no field has the column behind the last
+pub column-absent : (n : Bytes) (fs : List Bytes) → (n ∈ fs → ⊥) → columnOf n fs ≡ length fs
+unfolding columnOf
+column-absent n [] h = refl
+column-absent n (f ∷ fs) h = column-later n f fs (λ e. h (List·Memᴰ·head e)) ∙ ap suc (column-absent n fs (λ m. h (List·Memᴰ·tail m)))
+
+-- one that is a field has the column of a field
+pub column-present : (n : Bytes) (fs : List Bytes) → n ∈ fs → columnOf n fs < length fs
+unfolding columnOf
+column-present n [] m = absurd (List·Memᴰ·not-nil m)
+column-present n (f ∷ fs) m = go (same n f) (same? n f) (List·Memᴰ·cases-cons m) (column-present n fs)
+  where
+    go : (b : Bool) → Decides (n ≡ f) b → (n ≡ f) ⊎ (n ∈ fs) → (n ∈ fs → columnOf n fs < length fs) → cond b 0 (suc (columnOf n fs)) < suc (length fs)
+    go true (passed q) k rec = omega arith
     go false (failed q) (inl k) rec = absurd (q k)
-    go false (failed q) (inr k) rec = rec k
+    go false (failed q) (inr k) rec = omega (arith, rec k)
 
--- columns that are found are those of the names
-columns-out : (ns fs : List Bytes) (cs : List ℕ) → columnsOf ns fs ≡ some cs → Stand fs ns cs
-unfolding columnsOf
-columns-out [] fs cs e = subst (Stand fs []) (some-same e) nil
-columns-out (n ∷ ns) fs cs e = go (cons-out (columnOf n 0 fs) (columnsOf ns fs) cs e) (columns-out ns fs)
-  where
-    go : Both (columnOf n 0 fs) (columnsOf ns fs) cs → ((ds : List ℕ) → columnsOf ns fs ≡ some ds → Stand fs ns ds) → Stand fs (n ∷ ns) cs
-    go w rec =
-        let c = column-out n 0 (w .first) fs (w .there) in
-        let here : w .first ≡ c .0 = omega (arith, c .1) in
-        rw (w .joined, here) (cons (c .2) (c .3) (rec (w .others) (w .rest)))
+-- isField tells a column of a field
+pub isField-column : (fs : List Bytes) (n : Bytes) → Test (columnOf n fs < length fs) (columnOf n fs ≡ length fs) (isField fs n)
+isField-column fs n = test-map (column-present n fs) (column-absent n fs) (isField? fs n)
 
--- names that are all among the fields have columns
-columns-in : (ns fs : List Bytes) → ((n : Bytes) → n ∈ ns → n ∈ fs) → (cs : List ℕ) × (columnsOf ns fs ≡ some cs)
-unfolding columnsOf
-columns-in [] fs h = ([], refl)
-columns-in (n ∷ ns) fs h =
-    let c = column-in n 0 fs (h n (List·Memᴰ·head refl)) in
-    let cs = columns-in ns fs (λ x m. h x (List·Memᴰ·tail m)) in
-    (c .0 ∷ cs .0, cons-in (c .1) (cs .1))
+-- ---- the fields of a names line
 
--- a name that has a column is a field
-stand-in : {fs ns : List Bytes} {cs : List ℕ} → Stand fs ns cs → (n : Bytes) → n ∈ ns → n ∈ fs
-stand-in nil n m = absurd (List·Memᴰ·not-nil m)
-stand-in {fs} (cons {n = f} {c} h e s) n m =
-    ⊎-elim (λ q. subst (λ (z : Bytes). z ∈ fs) (e ∙ sym q) (getD-in fs c [] h)) (stand-in s n) (List·Memᴰ·cases-cons m)
+module _ {t : Table} (regular : Regular t) where
+  -- the names of the table among the fields
+  among : List Bytes → List Bytes
+  among fs = keep (isField fs) (allNames t)
 
--- ---- names lines of a table
+  among-out : (fs : List Bytes) (n : Bytes) → n ∈ among fs → (n ∈ allNames t) × (n ∈ fs)
+  unfolding among
+  among-out fs n m = let w = keep-out (isField fs) (allNames t) m in (w .0, decides-iff (isField? fs n) .0 (w .1))
 
--- the columns that the reader gives are those of the table's names, and the line's fields are exactly these
-pub names-read : (t : Table) (line : Bytes) (cs : List ℕ) → columns (t .names) line ≡ some cs
-    → NamesLine t (fieldsOf line) line × Stand (fieldsOf line) (t .names) cs
-unfolding columns
-names-read t line cs e =
-    let w = choice-out (eq? (length (fieldsOf line)) (length (t .names))) e in
-    let s = columns-out (t .names) (fieldsOf line) cs (w .1) in
-    (record { writes = sym (spaced-fields line); asMany = w .0; each = stand-in s }, s)
+  among-once : (fs : List Bytes) → Distinct (among fs)
+  unfolding among
+  among-once fs = keep-distinct (isField fs) (regular .once)
 
-module _ {t : Table} (regular : Regular t) {fields : List Bytes} {line : Bytes} (names : NamesLine t fields line) where
+  -- every field is a name
+  pub good-names : {fs : List Bytes} → GoodFields t fs → (f : Bytes) → f ∈ fs → f ∈ allNames t
+  good-names g f m = ⊎-elim (Memᴰ·append-left (t .optional)) (Memᴰ·append-right (t .names)) (g .known f m)
+
+  -- the fields are right exactly where they have each name and are as many as the names among them
+  good-count : (fs : List Bytes) → (((n : Bytes) → n ∈ t .names → n ∈ fs) × (length fs ≡ length (among fs))) ↔ GoodFields t fs
+  unfolding among
+  good-count fs = (
+    λ w. record {
+      once = distinct-covered (among-once fs) fs found (omega (arith, w .1));
+      each = w .0;
+      known = λ f m. List·Memᴰ·append-cases (t .names) (among-out fs f (distinct-covers (among-once fs) fs found (omega (arith, w .1)) f m) .0);
+    },
+    λ g. (g .each, omega (arith, distinct-length (g .once) (among fs) (kept g), distinct-length (among-once fs) fs found)),
+  )
+    where
+      found : (n : Bytes) → n ∈ among fs → n ∈ fs
+      found n m = among-out fs n m .1
+
+      kept : GoodFields t fs → (f : Bytes) → f ∈ fs → f ∈ among fs
+      kept g f m = keep-in (isField fs) (decides-iff (isField? fs f) .1 m) (good-names g f m)
+
+  -- goodFields decides whether the fields are right
+  pub goodFields? : (fs : List Bytes) → Decides (GoodFields t fs) (goodFields t fs)
+  unfolding goodFields among
+  goodFields? fs =
+      decides-as (good-count fs)
+      (decides-and (test-map (λ h. h) (λ w h. w .2 (h (w .0) (w .1))) (all? (isField? fs) (t .names))) (eq? (length fs) (length (among fs))))
+
   -- no field has a space
-  names-lack : AllLack blank fields
-  names-lack f m = word-lacks-blank (regular .words f (fields-names (regular .once) (names .asMany) (names .each) f m))
+  good-lack : {fs : List Bytes} → GoodFields t fs → AllLack blank fs
+  good-lack g f m = word-lacks-blank (regular .words f (good-names g f m))
+
+  -- there are at least as many fields as names that the line must have
+  pub good-many : {fs : List Bytes} → GoodFields t fs → length (t .names) ≤ length fs
+  good-many {fs} g = distinct-length (front-distinct (t .names) (t .optional) (regular .once)) fs (g .each)
+
+  -- and no more than names
+  pub good-few : {fs : List Bytes} → GoodFields t fs → length fs ≤ length (allNames t)
+  good-few g = distinct-length (g .once) (allNames t) (good-names g)
+
+  -- the key is a field
+  pub good-key : {fs : List Bytes} → GoodFields t fs → t .key ∈ fs
+  good-key g = g .each (t .key) (subst (λ (l : List Bytes). t .key ∈ l) (sym (regular .keyed)) (List·Memᴰ·head refl))
 
   -- there is a field
-  pub names-some : fields ≢ []
-  names-some e = let none : length fields ≡ 0 = ap length e in omega (arith, names .asMany, ap length (regular .keyed))
+  pub good-some : {fs : List Bytes} → GoodFields t fs → fs ≢ []
+  good-some g e = List·Memᴰ·not-nil (subst (λ (l : List Bytes). t .key ∈ l) e (good-key g))
 
-  -- a names line has one list of fields
-  pub names-fields : fieldsOf line ≡ fields
-  names-fields = ap fieldsOf (names .writes) ∙ fields-spaced fields names-some names-lack
+  -- ---- names lines of a table
 
-  -- the reader gives columns for a names line of the table
-  pub names-columns : (cs : List ℕ) × (columns (t .names) line ≡ some cs)
+  -- the line for which the reader gives columns is a names line, and they are those of its fields
+  pub names-read : (line : Bytes) (y : Layout) → columns t line ≡ some y → NamesLine t (fieldsOf line) line × (y ≡ layoutOf t (fieldsOf line))
   unfolding columns
-  names-columns =
-      let w = columns-in (t .names) (fieldsOf line) (λ n m. subst (λ (z : List Bytes). n ∈ z) (sym names-fields) (names .each n m)) in
-      let many : length (fieldsOf line) ≡ length (t .names) = ap length names-fields ∙ names .asMany in
-      (w .0, choice-in none (eq? (length (fieldsOf line)) (length (t .names))) many ∙ w .1)
+  names-read line y e =
+      let w = choice-out (goodFields? (fieldsOf line)) e in
+      (record { writes = sym (spaced-fields line); named = w .0 }, sym (some-same (w .1)))
 
--- the reader gives columns exactly where the line is a names line of the table
-pub names-exact : {t : Table} → Regular t → (line : Bytes)
-    → ((cs : List ℕ) × (columns (t .names) line ≡ some cs)) ↔ ((fields : List Bytes) × NamesLine t fields line)
-names-exact {t} regular line = (λ w. (fieldsOf line, names-read t line (w .0) (w .1) .0), λ w. names-columns regular (w .1))
+  module _ {fields : List Bytes} {line : Bytes} (names : NamesLine t fields line) where
+    -- a names line has one list of fields
+    pub names-fields : fieldsOf line ≡ fields
+    names-fields = ap fieldsOf (names .writes) ∙ fields-spaced fields (good-some (names .named)) (good-lack (names .named))
+
+    -- the reader gives columns for a names line of the table
+    pub names-columns : columns t line ≡ some (layoutOf t fields)
+    unfolding columns
+    names-columns = rw names-fields (choice-in none (goodFields? fields) (names .named))
+
+  -- the reader gives columns exactly where the line is a names line of the table
+  pub names-exact : (line : Bytes) → ((y : Layout) × (columns t line ≡ some y)) ↔ ((fields : List Bytes) × NamesLine t fields line)
+  names-exact line = (λ w. (fieldsOf line, names-read line (w .0) (w .1) .0), λ w. (layoutOf t (w .0), names-columns (w .1)))

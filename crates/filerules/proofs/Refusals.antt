@@ -14,12 +14,12 @@ use Rattle.model.specs.Refusals.{Refusal, Condition, NoneHolds, FirstHolds, ref
 use Rattle.model.specs.Checks.{_then_}
 use Rattle.model.specs.Calls.{Answer, refused, full}
 use Rattle.model.specs.Compare.{Tables}
-use Rattle.model.specs.Reader.{fieldsOf, columns, rowOf, Reading, stopped, rows, withRow, stop, readValues, readTable, readThird, readSecond, readFirst, readMap, checkText}
+use Rattle.model.specs.Reader.{Layout, fieldsOf, layoutOf, columns, rowOf, Reading, stopped, rows, withRow, stop, readValues, readTable, readThird, readSecond, readFirst, readMap, checkText}
 use Rattle.model.proofs.Settled.{Settled, settled-next, settled-some, settled-none}
 use Rattle.filerules.proofs.Options.{none-some}
 use Rattle.filerules.proofs.Words.{Regular, node-regular, edge-regular, pair-regular}
-use Rattle.filerules.proofs.Names.{Stand, names-read, names-fields, names-columns}
-use Rattle.filerules.proofs.Values.{row-in, row-out, last-step}
+use Rattle.filerules.proofs.Names.{names-read, names-fields, names-columns}
+use Rattle.filerules.proofs.Values.{row-some, row-out, last-step}
 use Rattle.filerules.proofs.Text.{text-settled}
 
 -- the conditions of what follows a table, from line n on
@@ -51,42 +51,41 @@ reads-with us row (rows rs ls n) cs s = s
 
 -- ---- value lines
 
-module _ {t : Table} (regular : Regular t) {fields : List Bytes} {namesLine : Bytes} (line : NamesLine t fields namesLine) {cs : List ℕ}
-    (stand : Stand fields (t .names) cs) where
+module _ {t : Table} (regular : Regular t) {fields : List Bytes} {namesLine : Bytes} (line : NamesLine t fields namesLine) where
   -- a line that gives no row breaks the file rules
-  row-wrong : (l : Bytes) → rowOf cs l ≡ none → WrongValues t namesLine l
+  row-wrong : (l : Bytes) → rowOf (layoutOf t fields) l ≡ none → WrongValues t namesLine l
   row-wrong l e fs n v =
       let same : fs ≡ fields = sym (names-fields regular n) ∙ names-fields regular line in
-      none-some (sym e ∙ row-in regular line stand (subst (λ (z : List Bytes). ValueLine t z l) same v))
+      none-some (sym e ∙ row-some regular (line .named) (subst (λ (z : List Bytes). ValueLine t z l) same v))
 
   -- one that gives a row keeps them
-  row-right : (l : Bytes) (row : List ℤ) → rowOf cs l ≡ some row → WrongValues t namesLine l → ⊥
-  row-right l row e wrong = wrong fields line (row-out regular line stand l row e .0)
+  row-right : (l : Bytes) (row : List ℤ) → rowOf (layoutOf t fields) l ≡ some row → WrongValues t namesLine l → ⊥
+  row-right l row e wrong = wrong fields line (row-out regular (line .named) l row e .0)
 
   -- one value line and those after it
   reads-row : (us : List Table) (n : ℕ) (l : Bytes) (later : Reading) (ds : List Condition) → Reads us later ds
-      → Reads us (elim (rowOf cs l) [ none ↦ stop 14 n | some r ↦ withRow r later ]) (refuse 14 6 n (WrongValues t namesLine l) next ds)
+      → Reads us (elim (rowOf (layoutOf t fields) l) [ none ↦ stop 14 n | some r ↦ withRow r later ]) (refuse 14 6 n (WrongValues t namesLine l) next ds)
   unfolding stop
-  reads-row us n l later ds rec = go (rowOf cs l) refl
+  reads-row us n l later ds rec = go (rowOf (layoutOf t fields) l) refl
     where
-      go : (o : Option (List ℤ)) → rowOf cs l ≡ o
+      go : (o : Option (List ℤ)) → rowOf (layoutOf t fields) l ≡ o
           → Reads us (elim o [ none ↦ stop 14 n | some r ↦ withRow r later ]) (refuse 14 6 n (WrongValues t namesLine l) next ds)
       go none e = inl (row-wrong l e, refl)
       go (some row) e = reads-skip us 14 n (withRow row later) ds (row-right l row e) (reads-with us row later ds rec)
 
   -- the value lines of a table
-  values-settle : (us : List Table) (n : ℕ) (ls : List Bytes) → Reads us (readValues (isNil us) cs n ls) (lineConditions n (values t namesLine us) ls)
+  values-settle : (us : List Table) (n : ℕ) (ls : List Bytes) → Reads us (readValues (isNil us) (layoutOf t fields) n ls) (lineConditions n (values t namesLine us) ls)
   unfolding readValues lineConditions isNil stop
   values-settle [] n [] = λ c s. s
   values-settle (u ∷ us) n [] = inl (tt, refl)
   values-settle [] n (l ∷ ls) =
       let later = lineConditions (suc n) (values t namesLine []) ls in
-      subst (λ (r : Reading). Reads [] r (refuse 14 6 n (WrongValues t namesLine l) next later)) (sym (last-step cs n l ls))
-      (reads-row [] n l (readValues true cs (suc n) ls) later (values-settle [] (suc n) ls))
+      subst (λ (r : Reading). Reads [] r (refuse 14 6 n (WrongValues t namesLine l) next later)) (sym (last-step (layoutOf t fields) n l ls))
+      (reads-row [] n l (readValues true (layoutOf t fields) (suc n) ls) later (values-settle [] (suc n) ls))
   values-settle (u ∷ us) n ([] ∷ ls) = λ c s. s
   values-settle (u ∷ us) n ((c ∷ l) ∷ ls) =
       let later = lineConditions (suc n) (values t namesLine (u ∷ us)) ls in
-      reads-row (u ∷ us) n (c ∷ l) (readValues false cs (suc n) ls) later (values-settle (u ∷ us) (suc n) ls)
+      reads-row (u ∷ us) n (c ∷ l) (readValues false (layoutOf t fields) (suc n) ls) later (values-settle (u ∷ us) (suc n) ls)
 
 -- ---- tables
 
@@ -95,17 +94,17 @@ table-settles : {t : Table} → Regular t → (us : List Table) (n : ℕ) (ls : 
     → Reads us (readTable (isNil us) t n ls) (lineConditions n (names t us) ls)
 unfolding readTable lineConditions stop
 table-settles regular us n [] = inl (tt, refl)
-table-settles {t} regular us n (l ∷ ls) = go (columns (t .names) l) refl
+table-settles {t} regular us n (l ∷ ls) = go (columns t l) refl
   where
-    go : (o : Option (List ℕ)) → columns (t .names) l ≡ o
-        → Reads us (elim o [ none ↦ stop 13 n | some cs ↦ readValues (isNil us) cs (suc n) ls ])
+    go : (o : Option Layout) → columns t l ≡ o
+        → Reads us (elim o [ none ↦ stop 13 n | some y ↦ readValues (isNil us) y (suc n) ls ])
         (refuse 13 6 n (WrongNames t l) next lineConditions (suc n) (values t l us) ls)
-    go none e = inl ((λ fields line. none-some (sym e ∙ names-columns regular line .1)), refl)
-    go (some cs) e =
-        let w = names-read t l cs e in
-        reads-skip us 13 n (readValues (isNil us) cs (suc n) ls) (lineConditions (suc n) (values t l us) ls)
+    go none e = inl ((λ fields line. none-some (sym e ∙ names-columns regular line)), refl)
+    go (some y) e =
+        let w = names-read regular l y e in
+        rw (w .1) (reads-skip us 13 n (readValues (isNil us) (layoutOf t (fieldsOf l)) (suc n) ls) (lineConditions (suc n) (values t l us) ls)
         (λ wrong. wrong (fieldsOf l) (w .0))
-        (values-settle regular (w .0) (w .1) us (suc n) ls)
+        (values-settle regular (w .0) us (suc n) ls))
 
 -- ---- the file
 

@@ -10,16 +10,16 @@ use lib.IntN.{ℤ}
 use Rattle.lists.specs.Lists.{_∈_, isNil}
 use Rattle.lists.proofs.Membership.{map-out}
 use Rattle.model.specs.Bytes.{Bytes, lineFeed, blank, shown, spaced}
-use Rattle.model.specs.MapFile.{Table, NamesLine, Allowed}
+use Rattle.model.specs.MapFile.{Table, allNames, GoodFields, NamesLine, Allowed}
 use Rattle.model.specs.FileRules.{Values, rowLine, tableLines, GoodRow, TableOf}
 use Rattle.model.specs.Refusals.{Refusal}
-use Rattle.model.specs.Reader.{fieldsOf, valueOf, valuesOf, consOption, arranged, columns, rowOf, Reading, stopped, rows, withRow, stop, readValues, readTable}
+use Rattle.model.specs.Reader.{Layout, fieldsOf, valueOf, valuesOf, consOption, layoutOf, arranged, columns, rowOf, Reading, stopped, rows, withRow, stop, readValues, readTable}
 use Rattle.filerules.proofs.Options.{none-some}
 use Rattle.filerules.proofs.Splits.{Lacks}
 use Rattle.filerules.proofs.Fields.{spaced-out}
 use Rattle.filerules.proofs.Lines.{ended, ended-cons}
 use Rattle.filerules.proofs.Words.{Plain, Word, plain-apart, plain-allowed, Regular}
-use Rattle.filerules.proofs.Names.{Stand, fields-names, names-read, names-fields, names-columns}
+use Rattle.filerules.proofs.Names.{good-names, names-read, names-columns}
 use Rattle.filerules.proofs.Values.{shown-all, row-in, row-out, last-step}
 
 -- ---- the lines that write a table
@@ -66,7 +66,7 @@ unfolding linesOf written
 table-clean regular w l m = ⊎-elim namesLine row (List·Memᴰ·cases-cons m)
   where
     namesLine : l ≡ spaced (w .fields) → Clean l
-    namesLine e = rw e (spaced-clean (w .fields) (λ f k. regular .words f (fields-names (regular .once) (w .asMany) (w .each) f k)))
+    namesLine e = rw e (spaced-clean (w .fields) (λ f k. regular .words f (good-names regular (w .named) f k)))
 
     row : l ∈ map (written (w .fields)) (w .rows) → Clean l
     row k = let v = map-out (written (w .fields)) (w .rows) k in rw (v .2) (spaced-clean (map (λ n. shown (v .0 n)) (w .fields)) (shown-all (v .0) (w .fields)))
@@ -83,23 +83,23 @@ abbrev pub numbersIn : List Bytes → List Values → List (List ℤ)
 numbersIn names values = map (λ value. map value names) values
 
 -- the empty line gives no row
-empty-row : (cs : List ℕ) → rowOf cs [] ≡ none
+empty-row : (y : Layout) → rowOf y [] ≡ none
 unfolding rowOf arranged fieldsOf valuesOf valueOf consOption
-empty-row cs = refl
+empty-row y = refl
 
 -- a line that gives a row is not empty, and so no table ends with it
-row-step : (last : Bool) (cs : List ℕ) (n : ℕ) (l : Bytes) (ls : List Bytes) (row : List ℤ) → rowOf cs l ≡ some row
-    → readValues last cs n (l ∷ ls) ≡ withRow row (readValues last cs (suc n) ls)
+row-step : (last : Bool) (y : Layout) (n : ℕ) (l : Bytes) (ls : List Bytes) (row : List ℤ) → rowOf y l ≡ some row
+    → readValues last y n (l ∷ ls) ≡ withRow row (readValues last y (suc n) ls)
 unfolding readValues isNil
-row-step last cs n [] ls row e = absurd (none-some (sym (empty-row cs) ∙ e))
-row-step last cs n (c ∷ l) ls row e =
-    ap (λ o. elim o [ none ↦ stop 14 n | some r ↦ withRow r (readValues last cs (suc n) ls) ]) e
+row-step last y n [] ls row e = absurd (none-some (sym (empty-row y) ∙ e))
+row-step last y n (c ∷ l) ls row e =
+    ap (λ o. elim o [ none ↦ stop 14 n | some r ↦ withRow r (readValues last y (suc n) ls) ]) e
 
 -- lines that were read as these rows, up to the rest: they are written by the file rules
 record RowsRead (t : Table) (fields : List Bytes) (last : Bool) (ls : List Bytes) (rs : List (List ℤ)) (rest : List Bytes) : Type 0 where
   values : List Values
-  good : (value : Values) → value ∈ values → GoodRow t value
-  numbers : rs ≡ numbersIn (t .names) values
+  good : (value : Values) → value ∈ values → GoodRow t fields value
+  numbers : rs ≡ numbersIn (allNames t) values
   tail : List Bytes
   ends : Ends last tail rest
   writes : ls ≡ map (written fields) values ++ tail
@@ -124,60 +124,56 @@ unfolding withRow
 with-out row (stopped r) rs rest m e = absurd (stopped-rows e)
 with-out row (rows qs ls n) rs rest m e = (qs, cc, sym (rows-same e .0))
 
-module _ {t : Table} (regular : Regular t) {fields : List Bytes} {namesLine : Bytes} (line : NamesLine t fields namesLine) {cs : List ℕ}
-    (stand : Stand fields (t .names) cs) where
+module _ {t : Table} (regular : Regular t) {fields : List Bytes} (named : GoodFields t fields) where
+  -- the columns of the fields
+  abbrev layout : Layout
+  layout = layoutOf t fields
+
   -- the line of a good row gives its values
-  good-read : (value : Values) → GoodRow t value → rowOf cs (written fields value) ≡ some (map value (t .names))
+  good-read : (value : Values) → GoodRow t fields value → rowOf layout (written fields value) ≡ some (map value (allNames t))
   unfolding written
-  good-read value good =
-      row-in regular line stand
-      (record {
-        value = value;
-        writes = refl;
-        short = λ n m. good .short n (fields-names (regular .once) (line .asMany) (line .each) n m);
-        key = good .key;
-      })
+  good-read value good = row-in regular named (record { value = value; writes = refl; short = good .short; key = good .key }) (good .absent)
 
   -- the value lines of a table by the file rules are read as its rows
   values-read : {last : Bool} {tail rest : List Bytes} → Ends last tail rest → (n : ℕ) (values : List Values)
-      → ((value : Values) → value ∈ values → GoodRow t value)
-      → (m : ℕ) × (readValues last cs n (map (written fields) values ++ tail) ≡ rows (numbersIn (t .names) values) rest m)
+      → ((value : Values) → value ∈ values → GoodRow t fields value)
+      → (m : ℕ) × (readValues last layout n (map (written fields) values ++ tail) ≡ rows (numbersIn (allNames t) values) rest m)
   unfolding readValues isNil withRow
   values-read final n [] h = (n, refl)
   values-read between n [] h = (suc n, refl)
   values-read {last} {tail} e n (value ∷ values) h =
       let w = values-read e (suc n) values (λ v m. h v (List·Memᴰ·tail m)) in
       let row = good-read value (h value (List·Memᴰ·head refl)) in
-      let here = row-step last cs n (written fields value) (map (written fields) values ++ tail) (map value (t .names)) row in
-      (w .0, here ∙ ap (withRow (map value (t .names))) (w .1))
+      let here = row-step last layout n (written fields value) (map (written fields) values ++ tail) (map value (allNames t)) row in
+      (w .0, here ∙ ap (withRow (map value (allNames t))) (w .1))
 
   -- one value line, and those after it
   row-read : (last : Bool) (n m : ℕ) (l : Bytes) (ls : List Bytes) (reading : Reading) (rs : List (List ℤ)) (rest : List Bytes)
-      → elim (rowOf cs l) [ none ↦ stop 14 n | some r ↦ withRow r reading ] ≡ rows rs rest m
+      → elim (rowOf layout l) [ none ↦ stop 14 n | some r ↦ withRow r reading ] ≡ rows rs rest m
       → ((qs : List (List ℤ)) → reading ≡ rows qs rest m → RowsRead t fields last ls qs rest) → RowsRead t fields last (l ∷ ls) rs rest
   unfolding written stop
-  row-read last n m l ls reading rs rest e rec = go (rowOf cs l) refl e
+  row-read last n m l ls reading rs rest e rec = go (rowOf layout l) refl e
     where
-      go : (o : Option (List ℤ)) → rowOf cs l ≡ o → elim o [ none ↦ stop 14 n | some r ↦ withRow r reading ] ≡ rows rs rest m
+      go : (o : Option (List ℤ)) → rowOf layout l ≡ o → elim o [ none ↦ stop 14 n | some r ↦ withRow r reading ] ≡ rows rs rest m
           → RowsRead t fields last (l ∷ ls) rs rest
       go none q e = absurd (stopped-rows e)
       go (some row) q e =
           let w = with-out row reading rs rest m e in
           let r = rec (w .0) (w .1) in
-          let v = row-out regular line stand l row q in
+          let v = row-out regular named l row q in
           let value = v .0 .value in
-          let here : GoodRow t value = record { short = λ x k. v .0 .short x (line .each x k); key = v .0 .key } in
+          let here : GoodRow t fields value = record { short = v .0 .short; key = v .0 .key; absent = v .1 } in
           record {
             values = value ∷ r .values;
-            good = λ x k. ⊎-elim (λ i. subst (GoodRow t) (sym i) here) (r .good x) (List·Memᴰ·cases-cons k);
-            numbers = cc (w .2, v .1, r .numbers);
+            good = λ x k. ⊎-elim (λ i. subst (GoodRow t fields) (sym i) here) (r .good x) (List·Memᴰ·cases-cons k);
+            numbers = cc (w .2, v .2, r .numbers);
             tail = r .tail;
             ends = r .ends;
             writes = cc (v .0 .writes, r .writes);
           }
 
   -- value lines that are read are written by the file rules
-  read-values : (last : Bool) (n m : ℕ) (ls : List Bytes) (rs : List (List ℤ)) (rest : List Bytes) → readValues last cs n ls ≡ rows rs rest m
+  read-values : (last : Bool) (n m : ℕ) (ls : List Bytes) (rs : List (List ℤ)) (rest : List Bytes) → readValues last layout n ls ≡ rows rs rest m
       → RowsRead t fields last ls rs rest
   unfolding readValues isNil stop
   read-values true n m [] rs rest e =
@@ -185,32 +181,29 @@ module _ {t : Table} (regular : Regular t) {fields : List Bytes} {namesLine : By
       no-rows (w .0) (subst (Ends true []) (w .1) final)
   read-values false n m [] rs rest e = absurd (stopped-rows e)
   read-values true n m (l ∷ ls) rs rest e =
-      row-read true n m l ls (readValues true cs (suc n) ls) rs rest (sym (last-step cs n l ls) ∙ e) (λ qs q. read-values true (suc n) m ls qs rest q)
+      row-read true n m l ls (readValues true layout (suc n) ls) rs rest (sym (last-step layout n l ls) ∙ e) (λ qs q. read-values true (suc n) m ls qs rest q)
   read-values false n m ([] ∷ ls) rs rest e =
       let w = rows-same e in
       no-rows (w .0) (subst (Ends false ([] ∷ ls)) (w .1) between)
   read-values false n m ((c ∷ l) ∷ ls) rs rest e =
-      row-read false n m (c ∷ l) ls (readValues false cs (suc n) ls) rs rest e (λ qs q. read-values false (suc n) m ls qs rest q)
+      row-read false n m (c ∷ l) ls (readValues false layout (suc n) ls) rs rest e (λ qs q. read-values false (suc n) m ls qs rest q)
 
 -- ---- a whole table
 
 -- a table by the file rules is read as its rows
 pub table-read : {t : Table} → Regular t → (w : TableOf t) {last : Bool} {tail rest : List Bytes} → Ends last tail rest → (n : ℕ)
-    → (m : ℕ) × (readTable last t n (linesOf (w .fields) (w .rows) ++ tail) ≡ rows (numbersIn (t .names) (w .rows)) rest m)
+    → (m : ℕ) × (readTable last t n (linesOf (w .fields) (w .rows) ++ tail) ≡ rows (numbersIn (allNames t) (w .rows)) rest m)
 unfolding readTable linesOf
 table-read {t} regular w {last} {tail} {rest} e n =
     let fs = w .fields in
-    let line : NamesLine t fs (spaced fs) = record { writes = refl; asMany = w .asMany; each = w .each } in
-    let c = names-columns regular line in
-    let found = names-read t (spaced fs) (c .0) (c .1) .1 in
-    let stand = subst (λ (z : List Bytes). Stand z (t .names) (c .0)) (names-fields regular line) found in
-    let v = values-read regular line stand e (suc n) (w .rows) (w .good) in
-    (v .0, ap (λ o. elim o [ none ↦ stop 13 n | some cs ↦ readValues last cs (suc n) (map (written fs) (w .rows) ++ tail) ]) (c .1) ∙ v .1)
+    let line : NamesLine t fs (spaced fs) = record { writes = refl; named = w .named } in
+    let v = values-read regular (w .named) e (suc n) (w .rows) (w .good) in
+    (v .0, ap (λ o. elim o [ none ↦ stop 13 n | some y ↦ readValues last y (suc n) (map (written fs) (w .rows) ++ tail) ]) (names-columns regular line) ∙ v .1)
 
 -- lines that were read as these rows, up to the rest: they write a table by the file rules
 pub record TableRead (t : Table) (last : Bool) (ls : List Bytes) (rs : List (List ℤ)) (rest : List Bytes) : Type 0 where
   pub table : TableOf t
-  pub numbers : rs ≡ numbersIn (t .names) (table .rows)
+  pub numbers : rs ≡ numbersIn (allNames t) (table .rows)
   pub tail : List Bytes
   pub ends : Ends last tail rest
   pub writes : ls ≡ linesOf (table .fields) (table .rows) ++ tail
@@ -220,16 +213,16 @@ pub read-table : {t : Table} → Regular t → (last : Bool) (n m : ℕ) (ls : L
     → readTable last t n ls ≡ rows rs rest m → TableRead t last ls rs rest
 unfolding readTable linesOf stop
 read-table regular last n m [] rs rest e = absurd (stopped-rows e)
-read-table {t} regular last n m (l ∷ ls) rs rest e = go (columns (t .names) l) refl e
+read-table {t} regular last n m (l ∷ ls) rs rest e = go (columns t l) refl e
   where
-    go : (o : Option (List ℕ)) → columns (t .names) l ≡ o → elim o [ none ↦ stop 13 n | some cs ↦ readValues last cs (suc n) ls ] ≡ rows rs rest m
+    go : (o : Option Layout) → columns t l ≡ o → elim o [ none ↦ stop 13 n | some y ↦ readValues last y (suc n) ls ] ≡ rows rs rest m
         → TableRead t last (l ∷ ls) rs rest
     go none q e = absurd (stopped-rows e)
-    go (some cs) q e =
-        let w = names-read t l cs q in
-        let r = read-values regular (w .0) (w .1) last (suc n) m ls rs rest e in
+    go (some y) q e =
+        let w = names-read regular l y q in
+        let r = read-values regular (w .0 .named) last (suc n) m ls rs rest (rw (w .1) at e) in
         record {
-          table = record { fields = fieldsOf l; asMany = w .0 .asMany; each = w .0 .each; rows = r .values; good = r .good };
+          table = record { fields = fieldsOf l; named = w .0 .named; rows = r .values; good = r .good };
           numbers = r .numbers;
           tail = r .tail;
           ends = r .ends;

@@ -13,7 +13,7 @@ use Rattle.integers.specs.Integers.{eqZ}
 use Rattle.lists.specs.Lists.{_∈_, keep}
 use Rattle.model.specs.Limits.{maxText}
 use Rattle.model.specs.Bytes.{Bytes, bytes, lineFeed}
-use Rattle.model.specs.MapFile.{Table, nodeTable, edgeTable, pairTable, lines, Allowed, BrokenOff, fileConditions}
+use Rattle.model.specs.MapFile.{Table, allNames, nodeTable, edgeTable, pairTable, lines, Allowed, BrokenOff, fileConditions}
 use Rattle.model.specs.FileRules.{Values, tableLines, TableOf, numbersUnder, nodeNumbers, edgeNumbers, pairNumbers, KeepsRules}
 use Rattle.model.specs.Refusals.{Refusal, NoneHolds}
 use Rattle.model.specs.Compare.{Tables}
@@ -45,15 +45,15 @@ rows-numbers key names k (value ∷ values) = go (eqZ (value key) k) (rows-numbe
     go true e = ap (λ (r : List ℤ). map value names ++ r) e
     go false e = e
 
-node-rows : (k : ℤ) (values : List Values) → rowsWith k (numbersIn (nodeTable .names) values) ≡ nodeNumbers k values
+node-rows : (k : ℤ) (values : List Values) → rowsWith k (numbersIn (allNames nodeTable) values) ≡ nodeNumbers k values
 unfolding nodeTable nodeNumbers
 node-rows k values = rows-numbers (bytes "side") (bytes "kind" ∷ bytes "base" ∷ bytes "range" ∷ bytes "unit" ∷ []) k values
 
-edge-rows : (k : ℤ) (values : List Values) → rowsWith k (numbersIn (edgeTable .names) values) ≡ edgeNumbers k values
+edge-rows : (k : ℤ) (values : List Values) → rowsWith k (numbersIn (allNames edgeTable) values) ≡ edgeNumbers k values
 unfolding edgeTable edgeNumbers
 edge-rows k values = rows-numbers (bytes "side") (bytes "from" ∷ bytes "to" ∷ bytes "offset" ∷ []) k values
 
-pair-rows : (k : ℤ) (values : List Values) → rowsWith k (numbersIn (pairTable .names) values) ≡ pairNumbers k values
+pair-rows : (k : ℤ) (values : List Values) → rowsWith k (numbersIn (allNames pairTable) values) ≡ pairNumbers k values
 unfolding pairTable pairNumbers
 pair-rows k values = rows-numbers (bytes "role") (bytes "spec" ∷ bytes "impl" ∷ []) k values
 
@@ -129,8 +129,8 @@ module _ {text : Bytes} {t : Tables} (k : KeepsRules text t) where
           (ended-out c ruleLines (subst (λ (z : Bytes). c ∈ z) rules-text m))
 
   -- the tables of its rows
-  rules-tables : tablesOf (numbersIn (nodeTable .names) (k .nodes .rows)) (numbersIn (edgeTable .names) (k .edges .rows))
-      (numbersIn (pairTable .names) (k .pairs .rows))
+  rules-tables : tablesOf (numbersIn (allNames nodeTable) (k .nodes .rows)) (numbersIn (allNames edgeTable) (k .edges .rows))
+      (numbersIn (allNames pairTable) (k .pairs .rows))
       ≡ t
   unfolding tablesOf
   rules-tables =
@@ -138,7 +138,7 @@ module _ {text : Bytes} {t : Tables} (k : KeepsRules text t) where
       let es = k .edges .rows in
       let ps = k .pairs .rows in
       tables-same
-      (tablesOf (numbersIn (nodeTable .names) ns) (numbersIn (edgeTable .names) es) (numbersIn (pairTable .names) ps))
+      (tablesOf (numbersIn (allNames nodeTable) ns) (numbersIn (allNames edgeTable) es) (numbersIn (allNames pairTable) ps))
       t
       (node-rows (pos 0) ns ∙ sym (k .specNodes))
       (edge-rows (pos 0) es ∙ sym (k .specEdges))
@@ -150,8 +150,8 @@ module _ {text : Bytes} {t : Tables} (k : KeepsRules text t) where
   rules-first : readFirst (readTable false nodeTable 1 (lines text)) ≡ full t
   unfolding readFirst readSecond readThird ruleLines tablesLines fileLines
   rules-first =
-      let ns = numbersIn (nodeTable .names) (k .nodes .rows) in
-      let es = numbersIn (edgeTable .names) (k .edges .rows) in
+      let ns = numbersIn (allNames nodeTable) (k .nodes .rows) in
+      let es = numbersIn (allNames edgeTable) (k .edges .rows) in
       let P = linesOf (k .pairs .fields) (k .pairs .rows) in
       let E = linesOf (k .edges .fields) (k .edges .rows) in
       let n = table-read node-regular (k .nodes) (between {rest = E ++ [] ∷ P}) 1 in

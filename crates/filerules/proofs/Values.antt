@@ -1,28 +1,29 @@
 -- Value lines: the reader gives a row exactly where the line has a value for each field of the names line, and the row is these values
 -- in the order of the table's names.
 use mathlib.Core.Path.{_≡_, refl, sym, ap, subst, _∙_}
-use mathlib.Core.Bool.{Bool, true, false, cond}
-use mathlib.Core.Logic.{_≢_, _⊎_, ⊎-elim, _↔_}
-use mathlib.Core.List.{List, [], _∷_, map, map-map, nil≢cons, List·Memᴰ·cases-cons, List·Memᴰ·head, List·Memᴰ·tail, List·Memᴰ·not-nil, Memᴰ·cast}
+use mathlib.Core.Bool.{Bool, true, false}
+use mathlib.Core.Logic.{_≢_, _⊎_, inl, inr, ⊎-elim, _↔_}
+use mathlib.Core.List.{List, [], _∷_, _++_, map, map-map, nil≢cons, List·Memᴰ·append-cases, List·Memᴰ·cases-cons, List·Memᴰ·head, List·Memᴰ·tail, List·Memᴰ·not-nil, Memᴰ·cast}
 use mathlib.Core.Option.{Option, none, some}
 use Prim.Native.Nat.{ℕ, suc, _<_, _^_}
 use native.Mathlib.Omega.{arith}
 use lib.IntN.{ℤ, pos, natAbs}
-use lib.ListN.{length, getD, length-map}
+use lib.ListN.{length, getD, length-map, List·getD-eq-default}
 use Rattle.integers.proofs.Tests.{passed, failed, eq?, eqZ?}
 use Rattle.lists.specs.Lists.{_∈_, isNil, Distinct, none as noMore, more}
 use Rattle.lists.proofs.Membership.{map-in, map-out}
 use Rattle.lists.proofs.Decisions.{Decides, decides-or}
-use Rattle.lists.proofs.Places.{map-at, map-same}
+use Rattle.lists.proofs.Places.{map-same}
 use Rattle.model.specs.Limits.{maxDigits}
 use Rattle.model.specs.Bytes.{Bytes, shown, spaced, same}
-use Rattle.model.specs.MapFile.{Table, NamesLine, ValueLine}
-use Rattle.model.specs.Reader.{fieldsOf, valueOf, valuesOf, keyed, arranged, rowOf, withRow, stop, readValues}
+use Rattle.model.specs.MapFile.{Table, allNames, GoodFields, ValueLine}
+use Rattle.model.specs.FileRules.{Absent}
+use Rattle.model.specs.Reader.{Layout, fieldsOf, valueOf, valuesOf, columnOf, isField, layoutOf, keyed, arranged, rowOf, withRow, stop, readValues}
 use Rattle.filerules.proofs.Options.{none-some, some-same, choice-in, choice-out, Both, cons-in, cons-out}
 use Rattle.filerules.proofs.Numerals.{value-shown, shown-value}
 use Rattle.filerules.proofs.Fields.{fields-spaced, spaced-fields}
 use Rattle.filerules.proofs.Words.{same?, Word, Regular, shown-word, word-lacks-blank}
-use Rattle.filerules.proofs.Names.{Stand, nil, cons, fields-distinct, names-some}
+use Rattle.filerules.proofs.Names.{isField?, column-first, column-later, column-absent, good-key, good-some}
 
 -- ---- the values of fields
 
@@ -50,23 +51,12 @@ values-out (f ∷ fs) vs e = go (cons-out (valueOf f) (valuesOf fs) vs e) (value
         rw (b .joined)
         (cc (first .0, later .0), λ v m. ⊎-elim (λ q. subst Short (sym q) (first .1)) (later .1 v) (List·Memᴰ·cases-cons m))
 
--- the value under a name, of values that stand under these fields
-under : List Bytes → List ℤ → Bytes → ℤ
-under [] vs n = pos 0
-under (f ∷ fs) [] n = pos 0
-under (f ∷ fs) (v ∷ vs) n = cond (same n f) v (under fs vs n)
+-- the value under a name, of values that stand under these fields; 0 where the name is no field
+abbrev under : List Bytes → List ℤ → Bytes → ℤ
+under fs vs n = getD vs (columnOf n fs) (pos 0)
 
-under-here : (f : Bytes) (fs : List Bytes) (v : ℤ) (vs : List ℤ) → under (f ∷ fs) (v ∷ vs) f ≡ v
-unfolding under
-under-here f fs v vs = choice-in (under fs vs f) (same? f f) refl
-
-under-later : (f : Bytes) (fs : List Bytes) (v : ℤ) (vs : List ℤ) (n : Bytes) → n ≢ f → under (f ∷ fs) (v ∷ vs) n ≡ under fs vs n
-unfolding under
-under-later f fs v vs n h = go (same n f) (same? n f)
-  where
-    go : (b : Bool) → Decides (n ≡ f) b → cond b v (under fs vs n) ≡ under fs vs n
-    go true (passed e) = absurd (h e)
-    go false (failed e) = refl
+under-absent : (fs : List Bytes) (vs : List ℤ) (n : Bytes) → (n ∈ fs → ⊥) → length vs ≡ length fs → under fs vs n ≡ pos 0
+under-absent fs vs n h e = rw (column-absent n fs h) (List·getD-eq-default vs (pos 0) (omega arith))
 
 -- the values under all fields, where no field stands twice, are the values
 under-all : {fs : List Bytes} (vs : List ℤ) → Distinct fs → length vs ≡ length fs → map (under fs vs) fs ≡ vs
@@ -74,8 +64,20 @@ under-all [] noMore e = refl
 under-all (v ∷ vs) noMore e = absurd (omega arith)
 under-all [] (more new d) e = absurd (omega arith)
 under-all (v ∷ vs) (more {x = f} {l = fs} new d) e =
-    let later = map-same (under (f ∷ fs) (v ∷ vs)) (under fs vs) fs (λ n m. under-later f fs v vs n (λ q. new (Memᴰ·cast (sym q) m))) in
-    cc (under-here f fs v vs, later, under-all vs d (omega arith))
+    let here : under (f ∷ fs) (v ∷ vs) f ≡ v = rw (column-first f f fs refl) refl in
+    let later = map-same (under (f ∷ fs) (v ∷ vs)) (under fs vs) fs (λ n m. rw (column-later n f fs (λ q. new (Memᴰ·cast (sym q) m))) refl) in
+    cc (here, later, under-all vs d (omega arith))
+
+-- the values that a row has under all fields stand under each
+under-shown : (value : Bytes → ℤ) (fs : List Bytes) (n : Bytes) → n ∈ fs → under fs (map value fs) n ≡ value n
+under-shown value [] n m = absurd (List·Memᴰ·not-nil m)
+under-shown value (f ∷ fs) n m = go (same n f) (same? n f) (List·Memᴰ·cases-cons m) (under-shown value fs n)
+  where
+    go : (b : Bool) → Decides (n ≡ f) b → (n ≡ f) ⊎ (n ∈ fs) → (n ∈ fs → under fs (map value fs) n ≡ value n)
+        → under (f ∷ fs) (map value (f ∷ fs)) n ≡ value n
+    go true (passed q) k rec = rw (column-first n f fs q) (ap value (sym q))
+    go false (failed q) (inl k) rec = absurd (q k)
+    go false (failed q) (inr k) rec = rw (column-later n f fs q) (rec k)
 
 -- ---- a line of shown values
 
@@ -97,17 +99,6 @@ shown-fields value fields n =
 
 -- ---- rows
 
--- the values at the columns of names are the values under the names
-stand-values : {fs ns : List Bytes} {cs : List ℕ} (value : Bytes → ℤ) → Stand fs ns cs → map (λ c. getD (map value fs) c (pos 0)) cs ≡ map value ns
-stand-values value nil = refl
-stand-values {fs} value (cons {n} {c} {ns} {cs} h e s) =
-    cc (map-at value fs c (pos 0) [] h, e, stand-values value s)
-
--- there is a column for each name
-pub stand-length : {fs ns : List Bytes} {cs : List ℕ} → Stand fs ns cs → length cs ≡ length ns
-stand-length nil = refl
-stand-length (cons h e s) = ap suc (stand-length s)
-
 -- a side or role
 abbrev Key : ℤ → Type 0
 Key k = (k ≡ pos 0) ⊎ (k ≡ pos 1)
@@ -120,58 +111,82 @@ keyed-out : (k : ℤ) (r row : List ℤ) → keyed (k ∷ r) ≡ some row → Ke
 unfolding keyed
 keyed-out k r row e = let w = choice-out (decides-or (eqZ? k (pos 0)) (eqZ? k (pos 1))) e in (w .0, some-same (w .1))
 
-keyed-names : {ns os : List Bytes} {key : Bytes} (value : Bytes → ℤ) → ns ≡ key ∷ os → Key (value key) → keyed (map value ns) ≡ some (map value ns)
-keyed-names {os} {key} value e h = rw e (keyed-in (value key) (map value os) h)
+module _ {t : Table} (regular : Regular t) (value : Bytes → ℤ) where
+  keyed-names : Key (value (t .key)) → keyed (map value (allNames t)) ≡ some (map value (allNames t))
+  keyed-names h = rw (regular .keyed) (keyed-in (value (t .key)) (map value (regular .others ++ t .optional)) h)
 
-names-keyed : {ns os : List Bytes} {key : Bytes} (value : Bytes → ℤ) (row : List ℤ) → ns ≡ key ∷ os → keyed (map value ns) ≡ some row
-    → Key (value key) × (map value ns ≡ row)
-names-keyed {os} {key} value row e h = rw e (keyed-out (value key) (map value os) row (rw e at h))
+  names-keyed : (row : List ℤ) → keyed (map value (allNames t)) ≡ some row → Key (value (t .key)) × (map value (allNames t) ≡ row)
+  names-keyed row h = rw (regular .keyed) (keyed-out (value (t .key)) (map value (regular .others ++ t .optional)) row (rw (regular .keyed) at h))
 
 -- a line of the last table: it is a value line, also where it is empty
-pub last-step : (cs : List ℕ) (n : ℕ) (l : Bytes) (ls : List Bytes)
-    → readValues true cs n (l ∷ ls) ≡ elim (rowOf cs l) [ none ↦ stop 14 n | some r ↦ withRow r (readValues true cs (suc n) ls) ]
+pub last-step : (y : Layout) (n : ℕ) (l : Bytes) (ls : List Bytes)
+    → readValues true y n (l ∷ ls) ≡ elim (rowOf y l) [ none ↦ stop 14 n | some r ↦ withRow r (readValues true y (suc n) ls) ]
 unfolding readValues isNil
-last-step cs n [] ls = refl
-last-step cs n (c ∷ l) ls = refl
+last-step y n [] ls = refl
+last-step y n (c ∷ l) ls = refl
 
-module _ {t : Table} (regular : Regular t) {fields : List Bytes} {namesLine : Bytes} (names : NamesLine t fields namesLine) {cs : List ℕ}
-    (stand : Stand fields (t .names) cs) where
-  -- the values at the columns are those under the names
-  arranged-names : (value : Bytes → ℤ) (vs : List ℤ) → map value fields ≡ vs → map (λ c. getD vs c (pos 0)) cs ≡ map value (t .names)
-  arranged-names value vs e = subst (λ (z : List ℤ). map (λ c. getD z c (pos 0)) cs ≡ map value (t .names)) e (stand-values value stand)
+module _ {t : Table} (regular : Regular t) {fields : List Bytes} (named : GoodFields t fields) where
+  -- the values of a row under all names, where they stand under the fields
+  abbrev numbersOf : List ℤ → List ℤ
+  numbersOf vs = map (under fields vs) (allNames t)
 
-  -- a value line gives a row: the values under the table's names
-  pub row-in : {line : Bytes} (v : ValueLine t fields line) → rowOf cs line ≡ some (map (v .value) (t .names))
-  unfolding rowOf arranged
-  row-in {line} v =
+  -- the row of these values
+  row-keyed : (vs : List ℤ) → length vs ≡ length fields → arranged (layoutOf t fields) (some vs) ≡ keyed (numbersOf vs)
+  unfolding arranged layoutOf
+  row-keyed vs e =
+      choice-in none (eq? (length vs) (length fields)) e
+      ∙ ap keyed (map-map (λ c. getD vs c (pos 0)) (λ n. columnOf n fields) (allNames t))
+
+  -- a value line gives a row: the values under the fields
+  pub row-some : {line : Bytes} (v : ValueLine t fields line) → rowOf (layoutOf t fields) line ≡ some (numbersOf (map (v .value) fields))
+  unfolding rowOf
+  row-some {line} v =
       let vs = map (v .value) fields in
       let parts : fieldsOf line ≡ map shown vs =
-      ap fieldsOf (v .writes) ∙ shown-fields (v .value) fields (names-some regular names) ∙ sym (map-map shown (v .value) fields)
+      ap fieldsOf (v .writes) ∙ shown-fields (v .value) fields (good-some regular named) ∙ sym (map-map shown (v .value) fields)
       in
       let short : (x : ℤ) → x ∈ vs → Short x = λ x m. let w = map-out (v .value) fields m in subst Short (sym (w .2)) (v .short (w .0) (w .1)) in
       let read : valuesOf (fieldsOf line) ≡ some vs = ap valuesOf parts ∙ values-in vs short in
-      let many : length vs ≡ length cs = omega (arith, length-map fields (v .value), names .asMany, stand-length stand) in
-      rw read (choice-in none (eq? (length vs) (length cs)) many ∙ rw (arranged-names (v .value) vs refl) (keyed-names (v .value) (regular .keyed) (v .key)))
+      let key : Key (under fields vs (t .key)) = subst Key (sym (under-shown (v .value) fields (t .key) (good-key regular named))) (v .key) in
+      rw read (row-keyed vs (length-map fields (v .value)) ∙ keyed-names regular (under fields vs) key)
+
+  -- it is the values under the table's names, where these are 0 under a name that is no field
+  pub row-in : {line : Bytes} (v : ValueLine t fields line) → Absent t fields (v .value) → rowOf (layoutOf t fields) line ≡ some (map (v .value) (allNames t))
+  row-in v absent = row-some v ∙ ap some (map-same (under fields (map (v .value) fields)) (v .value) (allNames t) each)
+    where
+      each : (n : Bytes) → n ∈ allNames t → under fields (map (v .value) fields) n ≡ v .value n
+      each n m = go (isField fields n) (isField? fields n)
+        where
+          go : (b : Bool) → Decides (n ∈ fields) b → under fields (map (v .value) fields) n ≡ v .value n
+          go true (passed k) = under-shown (v .value) fields n k
+          go false (failed k) =
+              under-absent fields (map (v .value) fields) n k (length-map fields (v .value))
+              ∙ sym (⊎-elim (λ j. absurd (k (named .each n j))) (λ j. absent n j k) (List·Memᴰ·append-cases (t .names) m))
 
   -- a line that gives a row is a value line, and the row is the values under the table's names
-  pub row-out : (line : Bytes) (row : List ℤ) → rowOf cs line ≡ some row → (v : ValueLine t fields line) × (row ≡ map (v .value) (t .names))
-  unfolding rowOf arranged
+  pub row-out : (line : Bytes) (row : List ℤ) → rowOf (layoutOf t fields) line ≡ some row
+      → (v : ValueLine t fields line) × Absent t fields (v .value) × (row ≡ map (v .value) (allNames t))
+  unfolding rowOf arranged layoutOf
   row-out line row e = go (valuesOf (fieldsOf line)) refl e
     where
-      go : (o : Option (List ℤ)) → valuesOf (fieldsOf line) ≡ o → arranged cs o ≡ some row → (v : ValueLine t fields line) × (row ≡ map (v .value) (t .names))
+      go : (o : Option (List ℤ)) → valuesOf (fieldsOf line) ≡ o → arranged (layoutOf t fields) o ≡ some row
+          → (v : ValueLine t fields line) × Absent t fields (v .value) × (row ≡ map (v .value) (allNames t))
       go none q e = absurd (none-some e)
       go (some vs) q e =
-          let w = choice-out (eq? (length vs) (length cs)) e in
+          let many = choice-out (eq? (length vs) (length fields)) e .0 in
           let each = values-out (fieldsOf line) vs q in
           let value = under fields vs in
-          let once = fields-distinct (regular .once) (names .asMany) (names .each) in
-          let same-values : map value fields ≡ vs = under-all vs once (omega (arith, w .0, names .asMany, stand-length stand)) in
-          let key = names-keyed value row (regular .keyed) (rw (arranged-names value vs same-values) at (w .1)) in
+          let same-values : map value fields ≡ vs = under-all vs (named .once) many in
+          let key = names-keyed regular value row (sym (row-keyed vs many) ∙ e) in
           let shows : fieldsOf line ≡ map (λ n. shown (value n)) fields = each .0 ∙ ap (map shown) (sym same-values) ∙ map-map shown value fields in
           let among : (n : Bytes) → n ∈ fields → value n ∈ vs = λ n m. subst (λ (z : List ℤ). value n ∈ z) same-values (map-in value m) in
-          let writes : line ≡ spaced (map (λ n. shown (value n)) fields) = sym (spaced-fields line) ∙ ap spaced shows in
-          (record { value = value; writes = writes; short = λ n m. each .1 (value n) (among n m); key = key .0 }, sym (key .1))
+          let writes : line ≡ spaced (map (λ n. shown (value n)) fields) = sym (spaced-fields line) ∙ ap spaced shows in (
+            record { value = value; writes = writes; short = λ n m. each .1 (value n) (among n m); key = key .0 },
+            λ n m k. under-absent fields vs n k many,
+            sym (key .1),
+          )
 
   -- the reader gives a row exactly where the line is a value line, and the row is the values under the table's names
-  pub row-exact : (line : Bytes) (row : List ℤ) → (rowOf cs line ≡ some row) ↔ ((v : ValueLine t fields line) × (row ≡ map (v .value) (t .names)))
-  row-exact line row = (row-out line row, λ w. row-in (w .0) ∙ ap some (sym (w .1)))
+  pub row-exact : (line : Bytes) (row : List ℤ)
+      → (rowOf (layoutOf t fields) line ≡ some row) ↔ ((v : ValueLine t fields line) × Absent t fields (v .value) × (row ≡ map (v .value) (allNames t)))
+  row-exact line row = (row-out line row, λ w. row-in (w .0) (w .1) ∙ ap some (sym (w .2)))

@@ -12,7 +12,7 @@ use Rattle.lists.specs.Lists.{_∈_, any, all, Distinct, none, more}
 use Rattle.lists.proofs.Membership.{all-out, any-in}
 use Rattle.lists.proofs.Decisions.{Decides, decides-iff}
 use Rattle.model.specs.Bytes.{Bytes, bytes, blank, dash, lineFeed, shown, same}
-use Rattle.model.specs.MapFile.{Table, nodeTable, edgeTable, pairTable, Allowed}
+use Rattle.model.specs.MapFile.{Table, allNames, nodeTable, edgeTable, pairTable, Allowed}
 use Rattle.filerules.proofs.Splits.{Lacks}
 use Rattle.filerules.proofs.Numerals.{Digit, shown-are}
 
@@ -65,12 +65,12 @@ shown-word v c m = ⊎-elim (λ e. inr (inr e)) (λ d. inr (inl d)) (shown-are v
 
 -- ---- the tables of the file
 
--- a table whose names are words, each once, the key first
+-- a table whose names are words, optional or not, each once, the key first
 pub record Regular (t : Table) : Type 0 where
   pub others : List Bytes
   pub keyed : t .names ≡ t .key ∷ others
-  pub words : (n : Bytes) → n ∈ t .names → Word n
-  pub once : Distinct (t .names)
+  pub words : (n : Bytes) → n ∈ allNames t → Word n
+  pub once : Distinct (allNames t)
 
 -- the tests by which names are found to be such
 isLetter : ℕ → Bool
@@ -96,14 +96,14 @@ apart-distinct (n ∷ ns) h =
 -- the node table
 pub node-regular : Regular nodeTable
 unfolding nodeTable bytes all isLetter apart any same
-node-regular = record { others = _; keyed = refl; words = letters-word (nodeTable .names) tt; once = apart-distinct (nodeTable .names) tt }
+node-regular = record { others = _; keyed = refl; words = letters-word (allNames nodeTable) tt; once = apart-distinct (allNames nodeTable) tt }
 
 -- the edge table
 pub edge-regular : Regular edgeTable
 unfolding edgeTable bytes all isLetter apart any same
-edge-regular = record { others = _; keyed = refl; words = letters-word (edgeTable .names) tt; once = apart-distinct (edgeTable .names) tt }
+edge-regular = record { others = _; keyed = refl; words = letters-word (allNames edgeTable) tt; once = apart-distinct (allNames edgeTable) tt }
 
 -- the pair table
 pub pair-regular : Regular pairTable
 unfolding pairTable bytes all isLetter apart any same
-pair-regular = record { others = _; keyed = refl; words = letters-word (pairTable .names) tt; once = apart-distinct (pairTable .names) tt }
+pair-regular = record { others = _; keyed = refl; words = letters-word (allNames pairTable) tt; once = apart-distinct (allNames pairTable) tt }

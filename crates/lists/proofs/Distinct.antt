@@ -1,11 +1,11 @@
 -- Lists in which no element stands twice: what keep, map, append and flatMap leave so, and how long such a list can be.
-use mathlib.Core.Path.{_≡_, refl, sym, _∙_}
+use mathlib.Core.Path.{_≡_, refl, sym, ap, subst, _∙_}
 use mathlib.Core.Bool.{Bool, true, false, cond}
-use mathlib.Core.List.{List, _∷_, _++_, map, flatMap, List·Memᴰ·head, List·Memᴰ·tail, List·Memᴰ·cases-cons, List·Memᴰ·append-cases, Memᴰ·cast}
+use mathlib.Core.List.{List, [], _∷_, _++_, append-assoc, map, flatMap, List·Memᴰ·head, List·Memᴰ·tail, List·Memᴰ·cases-cons, List·Memᴰ·append-cases, Memᴰ·append-left, Memᴰ·append-right, Memᴰ·cast}
 use mathlib.Core.Logic.{_⊎_, inl, inr, ⊎-elim}
 use Prim.Native.Nat.{suc, _≤_}
 use native.Mathlib.Omega.{arith}
-use lib.ListN.{length}
+use lib.ListN.{length, length-append}
 use Rattle.lists.specs.Lists.{_∈_, keep, Distinct, none, more}
 use Rattle.lists.proofs.Membership.{keep-out, map-out, flatMap-out}
 
@@ -38,6 +38,35 @@ module _ {A : Type 0} where
       let k = distinct-length d (w .rest) (λ y m. ⊎-elim (λ q. absurd (new (Memᴰ·cast (sym q) m))) (λ j. j) (w .others y (h y (List·Memᴰ·tail m)))) in
       omega (arith, k, w .shorter)
 
+  -- where the second is no longer either, each has the elements of the other, and no element stands twice in the second
+  module _ {xs : List A} (once : Distinct xs) (ys : List A) (each : (x : A) → x ∈ xs → x ∈ ys) (few : length ys ≤ length xs) where
+    pub distinct-covers : (y : A) → y ∈ ys → y ∈ xs
+    distinct-covers y m = covers once ys each few y m
+      where
+        covers : {xs : List A} → Distinct xs → (ys : List A) → ((x : A) → x ∈ xs → x ∈ ys) → length ys ≤ length xs → (y : A) → y ∈ ys → y ∈ xs
+        covers none [] h k y m = m
+        covers none (z ∷ ys) h k y m = absurd (omega arith)
+        covers (more {x} {l} new d) ys h k y m =
+            let w = removed (h x (List·Memᴰ·head refl)) in
+            let rest : (z : A) → z ∈ l → z ∈ w .rest =
+            λ z j. ⊎-elim (λ q. absurd (new (Memᴰ·cast (sym q) j))) (λ i. i) (w .others z (h z (List·Memᴰ·tail j))) in
+            ⊎-elim (λ q. List·Memᴰ·head q) (λ j. List·Memᴰ·tail (covers d (w .rest) rest (omega (arith, w .shorter)) y j)) (w .others y m)
+
+    pub distinct-covered : Distinct ys
+    distinct-covered = behind [] ys refl
+      where
+        behind : (p q : List A) → p ++ q ≡ ys → Distinct q
+        behind p [] e = none
+        behind p (y ∷ q) e = more (λ m. twice m) (behind (p ++ (y ∷ [])) q (append-assoc p (y ∷ []) q ∙ e))
+          where
+            twice : y ∈ q → ⊥
+            twice m = omega (arith, distinct-length once (p ++ q) still, length-append p q, ap length e, length-append p (y ∷ q))
+              where
+                still : (x : A) → x ∈ xs → x ∈ p ++ q
+                still x k =
+                    ⊎-elim (Memᴰ·append-left q) (λ j. Memᴰ·append-right p (⊎-elim (λ i. Memᴰ·cast i m) (λ i. i) (List·Memᴰ·cases-cons j)))
+                    (List·Memᴰ·append-cases p (subst (λ (z : List A). x ∈ z) (sym e) (each x k)))
+
   -- what a test keeps of a list without repetition
   pub keep-distinct : (f : A → Bool) {l : List A} → Distinct l → Distinct (keep f l)
   unfolding keep
@@ -47,6 +76,11 @@ module _ {A : Type 0} where
       go : (b : Bool) → Distinct (keep f l) → Distinct (cond b (x ∷ keep f l) (keep f l))
       go true k = more (λ m. new (keep-out f l m .0)) k
       go false k = k
+
+  -- the front of a list without repetition
+  pub front-distinct : (xs ys : List A) → Distinct (xs ++ ys) → Distinct xs
+  front-distinct [] ys d = none
+  front-distinct (x ∷ xs) ys (more new d) = more (λ m. new (Memᴰ·append-left ys m)) (front-distinct xs ys d)
 
   -- one of two lists without repetition
   pub cond-distinct : {xs ys : List A} (t : Bool) → Distinct xs → Distinct ys → Distinct (cond t xs ys)

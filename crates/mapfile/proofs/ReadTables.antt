@@ -5,17 +5,18 @@ use mathlib.Core.List.{List, [], _∷_}
 use mathlib.Core.Option.{Option, none, some}
 use Prim.Native.Nat.{ℕ, suc, _-_, _*_, _≤_, _<_}
 use native.Mathlib.Omega.{arith}
-use borrow.Author.Tests.{ne-eqb}
 use lib.IntN.{ℤ}
 use lib.ListN.{length, drop, length-drop}
 use Rattle.filerules.proofs.Options.{none-some}
+use Rattle.filerules.proofs.Words.{Regular, node-regular, edge-regular, pair-regular}
+use Rattle.filerules.proofs.Names.{good-many, names-read}
 use Rattle.model.specs.Limits.{maxNodes, maxEdges, maxPairs}
 use Rattle.model.specs.Bytes.{Bytes}
-use Rattle.model.specs.MapFile.{Table, nodeTable, edgeTable, pairTable, lines}
+use Rattle.model.specs.MapFile.{Table, allNames, nodeTable, edgeTable, pairTable, lines}
 use Rattle.model.specs.Refusals.{Refusal}
 use Rattle.model.specs.Calls.{refused, full, answer}
 use Rattle.model.specs.Answers.{numbered}
-use Rattle.model.specs.Reader.{fieldsOf, columns, Reading, stopped, rows, stop, readValues, readTable, checkText, tablesOf, readThird, readSecond, readFirst, readMap}
+use Rattle.model.specs.Reader.{Layout, fieldsOf, columns, Reading, stopped, rows, stop, readValues, readTable, checkText, tablesOf, readThird, readSecond, readFirst, readMap}
 use Rattle.characters.proofs.Text.{checked}
 use Rattle.cursor.specs.declared.Cursor.{Cursor}
 use Rattle.cursor.specs.Parts.{firstLine, laterLines}
@@ -23,8 +24,8 @@ use Rattle.cursor.specs.Given.{InText, Stands}
 use Rattle.cursor.proofs.Parts.{lines-first}
 use Rattle.cursor.proofs.Lines.{later-behind}
 use Rattle.columns.specs.declared.Columns.{Columns}
-use Rattle.columns.specs.Given.{maxNames, columnList, ColumnsGiven, GoodColumns}
-use Rattle.columns.proofs.ColumnLists.{columns-listed, columns-good}
+use Rattle.columns.specs.Given.{maxNames, layoutIn, isComplete, ColumnsGiven, GoodColumns}
+use Rattle.columns.proofs.ColumnLists.{columns-laid, columns-good}
 use Rattle.sides.specs.Given.{Roomy}
 use Rattle.mapfile.specs.declared.FileTable.{FileTable}
 use Rattle.mapfile.specs.declared.FileTable.the-variants as fileTable
@@ -39,56 +40,66 @@ file-several fileTable.Nodes = omega arith
 file-several fileTable.Edges = omega arith
 file-several fileTable.Pairs = omega arith
 
--- and at most 5
-pub file-few : (f : FileTable) → length (tableOf f .names) ≤ maxNames
+-- and at most 5, optional ones among them
+pub file-few : (f : FileTable) → length (allNames (tableOf f)) ≤ maxNames
 unfolding nodeTable edgeTable pairTable
 file-few fileTable.Nodes = omega arith
 file-few fileTable.Edges = omega arith
 file-few fileTable.Pairs = omega arith
 
 -- and room for whole rows without side or role
-pub file-room : (f : FileTable) → (most : ℕ) × (roomOf f ≡ (length (tableOf f .names) - 1) * most)
+pub file-room : (f : FileTable) → (most : ℕ) × (roomOf f ≡ (length (allNames (tableOf f)) - 1) * most)
 unfolding nodeTable edgeTable pairTable
 file-room fileTable.Nodes = (suc maxNodes, refl)
 file-room fileTable.Edges = (suc maxEdges, refl)
 file-room fileTable.Pairs = (suc maxPairs, refl)
 
+-- each is regular
+pub file-regular : (f : FileTable) → Regular (tableOf f)
+file-regular fileTable.Nodes = node-regular
+file-regular fileTable.Edges = edge-regular
+file-regular fileTable.Pairs = pair-regular
+
 -- ---- a table from its names line on
 
--- an empty line is no names line of a table with several names
-columns-empty : (names : List Bytes) → 2 ≤ length names → columns names [] ≡ none
-unfolding columns fieldsOf
-columns-empty names h = rw (ne-eqb 1 (length names) (λ e. omega arith)) refl
+-- an empty line has one field, and so is no names line of a table with several names
+columns-empty : {t : Table} → Regular t → 2 ≤ length (t .names) → columns t [] ≡ none
+unfolding fieldsOf
+columns-empty {t} regular several = go (columns t []) refl
+  where
+    go : (o : Option Layout) → columns t [] ≡ o → o ≡ none
+    go none e = refl
+    go (some y) e = absurd (omega (arith, good-many regular (names-read regular [] y e .0 .named)))
 
-module _ (last : Bool) (t : Table) (several : 2 ≤ length (t .names)) (n : ℕ) where
-  table-lines : (u : Bytes) {o : Option (List ℕ)} → columns (t .names) (firstLine u) ≡ o
-      → readTable last t n (lines u) ≡ elim o [ none ↦ stop 13 n | some cs ↦ readValues last cs (suc n) (lines (laterLines u)) ]
+module _ (last : Bool) {t : Table} (regular : Regular t) (several : 2 ≤ length (t .names)) (n : ℕ) where
+  table-lines : (u : Bytes) {o : Option Layout} → columns t (firstLine u) ≡ o
+      → readTable last t n (lines u) ≡ elim o [ none ↦ stop 13 n | some y ↦ readValues last y (suc n) (lines (laterLines u)) ]
   unfolding readTable lines firstLine
   table-lines [] {o} e =
-      subst (λ (o : Option (List ℕ)). stop 13 n ≡ elim o [ none ↦ stop 13 n | some cs ↦ readValues last cs (suc n) (lines (laterLines [])) ])
-      (sym (columns-empty (t .names) several) ∙ e) refl
+      subst (λ (o : Option Layout). stop 13 n ≡ elim o [ none ↦ stop 13 n | some y ↦ readValues last y (suc n) (lines (laterLines [])) ])
+      (sym (columns-empty regular several) ∙ e) refl
   table-lines (c ∷ u) {o} e =
       ap (readTable last t n) (lines-first c u)
-      ∙ ap (λ (o : Option (List ℕ)). elim o [ none ↦ stop 13 n | some cs ↦ readValues last cs (suc n) (lines (laterLines (c ∷ u))) ]) e
+      ∙ ap (λ (o : Option Layout). elim o [ none ↦ stop 13 n | some y ↦ readValues last y (suc n) (lines (laterLines (c ∷ u))) ]) e
 
-module _ {t : Table} {text : Bytes} {from : Cursor} {cs : Columns} (several : 2 ≤ length (t .names)) (inText : InText text from)
+module _ {t : Table} {text : Bytes} {from : Cursor} {cs : Columns} (regular : Regular t) (several : 2 ≤ length (t .names)) (inText : InText text from)
     (g : ColumnsGiven t (firstLine (drop (from .at) text)) cs) where
   -- the names line is wrong
-  pub table-wrong : (last : Bool) → cs .found ≡ false → readTable last t (from .line) (lines (drop (from .at) text)) ≡ stopped (numbered 13 6 (from .line))
+  pub table-wrong : (last : Bool) → isComplete cs ≡ false → readTable last t (from .line) (lines (drop (from .at) text)) ≡ stopped (numbered 13 6 (from .line))
   unfolding stop
-  table-wrong last e = table-lines last t several (from .line) (drop (from .at) text) {o = none} (sym (g .names) ∙ rw e refl)
+  table-wrong last e = table-lines last regular several (from .line) (drop (from .at) text) {o = none} (sym (g .names) ∙ rw e refl)
 
-  module _ (all : cs .found ≡ true) {next : Cursor} (s : Stands text (laterLines (drop (from .at) text)) (suc (from .line)) next) where
+  module _ (all : isComplete cs ≡ true) {next : Cursor} (s : Stands text (laterLines (drop (from .at) text)) (suc (from .line)) next) where
     -- the columns are good
-    pub table-good : length (t .names) ≤ maxNames → GoodColumns cs
-    table-good few = columns-good g all several few
+    pub table-good : length (allNames t) ≤ maxNames → GoodColumns cs
+    table-good few = columns-good g all regular several few
 
     table-there : from .at < length text
     unfolding firstLine
-    table-there = go (drop (from .at) text) (length-drop (from .at) text) (columns-listed g all)
+    table-there = go (drop (from .at) text) (length-drop (from .at) text) (columns-laid g all)
       where
-        go : (u : Bytes) → length u ≡ length text - from .at → columns (t .names) (firstLine u) ≡ some (columnList cs) → from .at < length text
-        go [] e q = absurd (none-some (sym (columns-empty (t .names) several) ∙ q))
+        go : (u : Bytes) → length u ≡ length text - from .at → columns t (firstLine u) ≡ some (layoutIn cs) → from .at < length text
+        go [] e q = absurd (none-some (sym (columns-empty regular several) ∙ q))
         go (c ∷ u) e q = omega (arith, e)
 
     -- the value lines follow
@@ -97,11 +108,11 @@ module _ {t : Table} {text : Bytes} {from : Cursor} {cs : Columns} (several : 2 
 
     -- and make up the table
     pub table-values : (last : Bool) → readTable last t (from .line) (lines (drop (from .at) text))
-        ≡ readValues last (columnList cs) (next .line) (lines (drop (next .at) text))
-    table-values last = rw (s .line, s .before) (table-lines last t several (from .line) (drop (from .at) text) (columns-listed g all))
+        ≡ readValues last (layoutIn cs) (next .line) (lines (drop (next .at) text))
+    table-values last = rw (s .line, s .before) (table-lines last regular several (from .line) (drop (from .at) text) (columns-laid g all))
 
     -- a room of whole rows
-    pub table-room : {room : ℕ} → (most : ℕ) × (room ≡ (length (t .names) - 1) * most) → Roomy cs room
+    pub table-room : {room : ℕ} → (most : ℕ) × (room ≡ (length (allNames t) - 1) * most) → Roomy cs room
     table-room w = (w .0, rw (g .count) (w .1))
 
 -- ---- the map file

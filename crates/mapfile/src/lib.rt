@@ -3,34 +3,30 @@ ghost use mathlib.Core.Path.{_≡_};
 ghost use Prim.Native.Nat.{_≤_};
 ghost use lib.ListN.{length, drop};
 ghost use Rattle.model.specs.MapFile.{lines, nodeTable, edgeTable, pairTable};
-ghost use Rattle.model.specs.Reader.{fieldsOf, readTable};
+ghost use Rattle.model.specs.Reader.{readTable};
 ghost use Rattle.cursor.specs.Parts.{firstLine};
 ghost use Rattle.cursor.specs.Given.{InText};
-ghost use Rattle.columns.specs.Given.{ColumnsGiven};
+ghost use Rattle.columns.specs.Given.{lineFields, ColumnsGiven};
 ghost use Rattle.sides.specs.Given.{RowsGiven};
 ghost use Rattle.mapfile.specs.Given.{tableOf, roomOf, isLast, lent, Lent, ReadGiven};
 use columns::Columns;
 use cursor::Cursor;
 use model::Checked;
+use model::EDGE_WIDTH;
 use model::MAX_EDGES;
 use model::MAX_NODES;
 use model::MAX_PAIRS;
+use model::NODE_WIDTH;
+use model::PAIR_WIDTH;
 use model::Reason;
 use sides::Rows;
 
-// Names of each table, of which the first tells the side or role of a row.
-const NODE_NAMES: usize = 5;
+// Numbers that are kept of each table at most: those of one row more than its limit.
+pub const NODE_ROOM: usize = NODE_WIDTH * (MAX_NODES + 1);
 
-const EDGE_NAMES: usize = 4;
+pub const EDGE_ROOM: usize = EDGE_WIDTH * (MAX_EDGES + 1);
 
-const PAIR_NAMES: usize = 3;
-
-// Numbers that are kept of each table at most: those of one row more than its limit, without side or role.
-pub const NODE_ROOM: usize = (NODE_NAMES - 1) * (MAX_NODES + 1);
-
-pub const EDGE_ROOM: usize = (EDGE_NAMES - 1) * (MAX_EDGES + 1);
-
-pub const PAIR_ROOM: usize = (PAIR_NAMES - 1) * (MAX_PAIRS + 1);
+pub const PAIR_ROOM: usize = PAIR_WIDTH * (MAX_PAIRS + 1);
 
 // ---- names lines
 
@@ -43,10 +39,10 @@ enum FileTable {
 
 // The columns of the names of the node table, in a names line with so many fields.
 fn node_columns(text: &[u8], from: usize, fields: usize) -> Columns
-    requires { ⌜ (from ≤ length (now text)) × (fields ≡ length (fieldsOf (firstLine (drop from (now text))))) ⌝ }
+    requires { ⌜ (from ≤ length (now text)) × (fields ≡ length (lineFields (now text) from)) ⌝ }
     ensures { λ r. ⌜ ColumnsGiven nodeTable (firstLine (drop from (now (text .entry)))) r ⌝ }
 {
-    let cs = Columns::none(fields == NODE_NAMES);
+    let cs = Columns::none(fields);
     let cs = columns::with_name(cs, text, from, b"side");
     let cs = columns::with_name(cs, text, from, b"kind");
     let cs = columns::with_name(cs, text, from, b"base");
@@ -56,10 +52,10 @@ fn node_columns(text: &[u8], from: usize, fields: usize) -> Columns
 
 // The columns of the names of the edge table.
 fn edge_columns(text: &[u8], from: usize, fields: usize) -> Columns
-    requires { ⌜ (from ≤ length (now text)) × (fields ≡ length (fieldsOf (firstLine (drop from (now text))))) ⌝ }
+    requires { ⌜ (from ≤ length (now text)) × (fields ≡ length (lineFields (now text) from)) ⌝ }
     ensures { λ r. ⌜ ColumnsGiven edgeTable (firstLine (drop from (now (text .entry)))) r ⌝ }
 {
-    let cs = Columns::none(fields == EDGE_NAMES);
+    let cs = Columns::none(fields);
     let cs = columns::with_name(cs, text, from, b"side");
     let cs = columns::with_name(cs, text, from, b"from");
     let cs = columns::with_name(cs, text, from, b"to");
@@ -68,10 +64,10 @@ fn edge_columns(text: &[u8], from: usize, fields: usize) -> Columns
 
 // The columns of the names of the pair table.
 fn pair_columns(text: &[u8], from: usize, fields: usize) -> Columns
-    requires { ⌜ (from ≤ length (now text)) × (fields ≡ length (fieldsOf (firstLine (drop from (now text))))) ⌝ }
+    requires { ⌜ (from ≤ length (now text)) × (fields ≡ length (lineFields (now text) from)) ⌝ }
     ensures { λ r. ⌜ ColumnsGiven pairTable (firstLine (drop from (now (text .entry)))) r ⌝ }
 {
-    let cs = Columns::none(fields == PAIR_NAMES);
+    let cs = Columns::none(fields);
     let cs = columns::with_name(cs, text, from, b"role");
     let cs = columns::with_name(cs, text, from, b"spec");
     columns::with_name(cs, text, from, b"impl")
@@ -79,7 +75,7 @@ fn pair_columns(text: &[u8], from: usize, fields: usize) -> Columns
 
 // The columns of the names of a table.
 fn table_columns(table: FileTable, text: &[u8], from: usize, fields: usize) -> Columns
-    requires { ⌜ (from ≤ length (now text)) × (fields ≡ length (fieldsOf (firstLine (drop from (now text))))) ⌝ }
+    requires { ⌜ (from ≤ length (now text)) × (fields ≡ length (lineFields (now text) from)) ⌝ }
     ensures { λ r. ⌜ ColumnsGiven (tableOf table) (firstLine (drop from (now (text .entry)))) r ⌝ }
 {
     match table {
@@ -126,7 +122,7 @@ fn read_table(
 {
     let heading = columns::count_fields(text, from);
     let cs = table_columns(table, text, from.at, heading.fields);
-    if !cs.found {
+    if !cs.complete() {
         return Rows::Refused(Reason::Names { line: from.line });
     }
     let last = is_last(table);

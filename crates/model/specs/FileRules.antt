@@ -9,7 +9,7 @@ use Rattle.integers.specs.Integers.{eqZ}
 use Rattle.lists.specs.Lists.{_∈_, keep}
 use Rattle.model.specs.Limits.{maxText, maxDigits}
 use Rattle.model.specs.Bytes.{Bytes, bytes, lineFeed, shown, spaced}
-use Rattle.model.specs.MapFile.{Table, nodeTable, edgeTable, pairTable}
+use Rattle.model.specs.MapFile.{Table, GoodFields, nodeTable, edgeTable, pairTable}
 use Rattle.model.specs.Compare.{Tables}
 
 -- a row of a table of the file gives each name a value
@@ -24,18 +24,22 @@ rowLine fields value = spaced (map (λ n. shown (value n)) fields) ++ (lineFeed 
 unfoldable pub tableLines : List Bytes → List Values → Bytes
 tableLines fields rows = spaced fields ++ lineFeed ∷ flatMap (rowLine fields) rows
 
--- a row that can be written: values of 1 to 18 digits, side or role 0 or 1
-pub record GoodRow (t : Table) (value : Values) : Type 0 where
-  pub short : (n : Bytes) → n ∈ t .names → natAbs (value n) < 10 ^ maxDigits
+-- the row has 0 under each optional name that is not among the fields
+abbrev pub Absent : Table → List Bytes → Values → Type 0
+Absent t fields value = (n : Bytes) → n ∈ t .optional → (n ∈ fields → ⊥) → value n ≡ pos 0
+
+-- a row that can be written below these fields: values of 1 to 18 digits, side or role 0 or 1, and 0 under a name that the names line lacks
+pub record GoodRow (t : Table) (fields : List Bytes) (value : Values) : Type 0 where
+  pub short : (n : Bytes) → n ∈ fields → natAbs (value n) < 10 ^ maxDigits
   pub key : (value (t .key) ≡ pos 0) ⊎ (value (t .key) ≡ pos 1)
+  pub absent : Absent t fields value
 
 -- a table of the file: its names in the order of its names line, and its rows
 pub record TableOf (t : Table) : Type 0 where
   pub fields : List Bytes
-  pub asMany : length fields ≡ length (t .names)
-  pub each : (n : Bytes) → n ∈ t .names → n ∈ fields
+  pub named : GoodFields t fields
   pub rows : List Values
-  pub good : (value : Values) → value ∈ rows → GoodRow t value
+  pub good : (value : Values) → value ∈ rows → GoodRow t fields value
 
 -- the numbers of the rows of one side or role, in row order: of each row those under these names
 unfoldable pub numbersUnder : Bytes → ℤ → List Bytes → List Values → List ℤ

@@ -7,25 +7,30 @@ use Prim.Native.Nat.{ℕ, suc, _<_, _≤_, _^_}
 use lib.Dec.{eqb}
 use lib.IntN.{ℤ, pos, natAbs}
 use lib.ListN.{length}
-use Rattle.lists.specs.Lists.{_∈_}
+use Rattle.lists.specs.Lists.{_∈_, Distinct}
 use Rattle.model.specs.Limits.{maxText, maxDigits}
 use Rattle.model.specs.Bytes.{Bytes, bytes, lineFeed, blank, dash, shown, spaced}
 use Rattle.model.specs.Refusals.{Condition, refuse, _next_}
 
--- a table of the file: its names, of which the key tells the side or role of a row
+-- a table of the file: its names, of which the key tells the side or role of a row, and the names that a names line may have
 pub record Table : Type 0 where
   pub key : Bytes
   pub names : List Bytes
+  pub optional : List Bytes
+
+-- its names, then the optional ones
+abbrev pub allNames : Table → List Bytes
+allNames t = t .names ++ t .optional
 
 -- names of the three tables
 unfoldable pub nodeTable : Table
-nodeTable = record { key = bytes "side"; names = bytes "side" ∷ bytes "kind" ∷ bytes "base" ∷ bytes "range" ∷ bytes "unit" ∷ [] }
+nodeTable = record { key = bytes "side"; names = bytes "side" ∷ bytes "kind" ∷ bytes "base" ∷ bytes "range" ∷ bytes "unit" ∷ []; optional = [] }
 
 unfoldable pub edgeTable : Table
-edgeTable = record { key = bytes "side"; names = bytes "side" ∷ bytes "from" ∷ bytes "to" ∷ bytes "offset" ∷ [] }
+edgeTable = record { key = bytes "side"; names = bytes "side" ∷ bytes "from" ∷ bytes "to" ∷ bytes "offset" ∷ []; optional = [] }
 
 unfoldable pub pairTable : Table
-pairTable = record { key = bytes "role"; names = bytes "role" ∷ bytes "spec" ∷ bytes "impl" ∷ [] }
+pairTable = record { key = bytes "role"; names = bytes "role" ∷ bytes "spec" ∷ bytes "impl" ∷ []; optional = [] }
 
 -- a byte in front of the first line
 unfoldable pub onto : ℕ → List Bytes → List Bytes
@@ -44,11 +49,16 @@ feeds (c ∷ t) = let n = feeds t in cond (eqb c lineFeed) (suc n) n
 
 -- ---- the file rules of a line
 
--- the line has exactly the table's names, in any order, each once, as its fields
+-- the fields are all of the table's names, and of the optional ones any, in any order, each once
+pub record GoodFields (t : Table) (fields : List Bytes) : Type 0 where
+  pub once : Distinct fields
+  pub each : (n : Bytes) → n ∈ t .names → n ∈ fields
+  pub known : (n : Bytes) → n ∈ fields → (n ∈ t .names) ⊎ (n ∈ t .optional)
+
+-- a names line of the table, and its fields
 pub record NamesLine (t : Table) (fields : List Bytes) (line : Bytes) : Type 0 where
   pub writes : line ≡ spaced fields
-  pub asMany : length fields ≡ length (t .names)
-  pub each : (n : Bytes) → n ∈ t .names → n ∈ fields
+  pub named : GoodFields t fields
 
 -- the line has a value for each field of the names line, in that order, each of 1 to 18 digits; side or role is 0 or 1
 pub record ValueLine (t : Table) (fields : List Bytes) (line : Bytes) : Type 0 where

@@ -7,10 +7,10 @@ use lib.Dec.{leb, ltb, eqb}
 use lib.IntN.{ℤ, pos, negsuc}
 use lib.ListN.{length, getD}
 use Rattle.integers.specs.Integers.{eqZ}
-use Rattle.lists.specs.Lists.{all, isNil}
+use Rattle.lists.specs.Lists.{keep, any, all, isNil}
 use Rattle.model.specs.Limits.{maxText, maxDigits}
 use Rattle.model.specs.Bytes.{Bytes, lineFeed, blank, dash, same}
-use Rattle.model.specs.MapFile.{Table, nodeTable, edgeTable, pairTable, onto, lines, feeds}
+use Rattle.model.specs.MapFile.{Table, allNames, nodeTable, edgeTable, pairTable, onto, lines, feeds}
 use Rattle.model.specs.Compare.{Tables}
 use Rattle.model.specs.Refusals.{Refusal}
 use Rattle.model.specs.Checks.{when, _then_}
@@ -83,33 +83,45 @@ valuesOf (f ∷ fs) = consOption (valueOf f) (valuesOf fs)
 
 -- ---- lines
 
--- the column of a name among the fields of a names line, the first of them column i
-unfoldable pub columnOf : Bytes → ℕ → List Bytes → Option ℕ
-columnOf name i [] = none
-columnOf name i (f ∷ fs) = elim (same name f) [ true ↦ some i | false ↦ columnOf name (suc i) fs ]
+-- where a names line has the names of a table: how many fields it has, and the column of each name, then of each optional name
+pub record Layout : Type 0 where
+  pub fields : ℕ
+  pub at : List ℕ
 
--- the columns of all names
-unfoldable pub columnsOf : List Bytes → List Bytes → Option (List ℕ)
-columnsOf [] fs = some []
-columnsOf (n ∷ ns) fs = consOption (columnOf n 0 fs) (columnsOf ns fs)
+-- the column of a name among the fields; as many as there are fields, where none is the name
+unfoldable pub columnOf : Bytes → List Bytes → ℕ
+columnOf name [] = 0
+columnOf name (f ∷ fs) = let later = columnOf name fs in cond (same name f) 0 (suc later)
 
--- the columns of the table's names, if the line has exactly these
-unfoldable pub columns : List Bytes → Bytes → Option (List ℕ)
-columns names line = cond (eqb (length (fieldsOf line)) (length names)) (columnsOf names (fieldsOf line)) none
+-- one of the fields is the name
+unfoldable pub isField : List Bytes → Bytes → Bool
+isField fs name = any (same name) fs
+
+-- the columns of all names of a table among the fields
+unfoldable pub layoutOf : Table → List Bytes → Layout
+layoutOf t fs = record { fields = length fs; at = map (λ n. columnOf n fs) (allNames t) }
+
+-- the fields have all names of the table, and there are as many as names, optional or not, among them: so each is a name, and stands once
+unfoldable pub goodFields : Table → List Bytes → Bool
+goodFields t fs = all (isField fs) (t .names) && eqb (length fs) (length (keep (isField fs) (allNames t)))
+
+-- the columns of all names of a table, if the line is a names line of it
+unfoldable pub columns : Table → Bytes → Option Layout
+columns t line = let fs = fieldsOf line in cond (goodFields t fs) (some (layoutOf t fs)) none
 
 -- a row whose first number, side or role, is 0 or 1
 unfoldable pub keyed : List ℤ → Option (List ℤ)
 keyed [] = none
 keyed (k ∷ r) = cond (eqZ k (pos 0) || eqZ k (pos 1)) (some (k ∷ r)) none
 
--- the values at these columns, where there are as many values as columns
-unfoldable pub arranged : List ℕ → Option (List ℤ) → Option (List ℤ)
-arranged cs none = none
-arranged cs (some vs) = cond (eqb (length vs) (length cs)) (keyed (map (λ c. getD vs c (pos 0)) cs)) none
+-- the values at the columns, where there are as many values as the names line has fields; 0 behind them
+unfoldable pub arranged : Layout → Option (List ℤ) → Option (List ℤ)
+arranged layout none = none
+arranged layout (some vs) = cond (eqb (length vs) (layout .fields)) (keyed (map (λ c. getD vs c (pos 0)) (layout .at))) none
 
 -- the row of a value line, in the order of the table's names
-unfoldable pub rowOf : List ℕ → Bytes → Option (List ℤ)
-rowOf cs line = arranged cs (valuesOf (fieldsOf line))
+unfoldable pub rowOf : Layout → Bytes → Option (List ℤ)
+rowOf layout line = arranged layout (valuesOf (fieldsOf line))
 
 -- ---- tables
 
@@ -128,18 +140,18 @@ unfoldable pub stop : ℕ → ℕ → Reading
 stop number line = stopped (record { number = number; table = 6; row = line })
 
 -- the value lines from line n on; the last table ends with the text, another with an empty line
-unfoldable pub readValues : Bool → List ℕ → ℕ → List Bytes → Reading
-readValues last cs n [] = cond last (rows [] [] n) (stop 13 n)
-readValues last cs n (l ∷ ls) =
+unfoldable pub readValues : Bool → Layout → ℕ → List Bytes → Reading
+readValues last layout n [] = cond last (rows [] [] n) (stop 13 n)
+readValues last layout n (l ∷ ls) =
     elim (isNil l && not last) [
       | true ↦ rows [] ls (suc n)
-      | false ↦ elim (rowOf cs l) [ none ↦ stop 14 n | some r ↦ withRow r (readValues last cs (suc n) ls) ]
+      | false ↦ elim (rowOf layout l) [ none ↦ stop 14 n | some r ↦ withRow r (readValues last layout (suc n) ls) ]
     ]
 
 -- a table from its names line on, which is line n
 unfoldable pub readTable : Bool → Table → ℕ → List Bytes → Reading
 readTable last t n [] = stop 13 n
-readTable last t n (l ∷ ls) = elim (columns (t .names) l) [ none ↦ stop 13 n | some cs ↦ readValues last cs (suc n) ls ]
+readTable last t n (l ∷ ls) = elim (columns t l) [ none ↦ stop 13 n | some layout ↦ readValues last layout (suc n) ls ]
 
 -- the rows of one side or role, without that number, one after the other: rows count per side or role
 unfoldable pub rowsWith : ℤ → List (List ℤ) → List ℤ

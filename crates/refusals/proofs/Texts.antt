@@ -18,7 +18,7 @@ use Rattle.model.specs.Refusals.{Refusal}
 use Rattle.model.specs.Checks.{when, _then_, checkTables, checkOutput}
 use Rattle.model.specs.Calls.{Answer, refused, full, answer, lengthOf}
 use Rattle.model.specs.Report.{report}
-use Rattle.model.specs.Reader.{allowed, checkBytes, brokenOff, checkText, columns, rowOf, Reading, stopped, rows, withRow, stop, readValues, readTable, readThird, readSecond, readFirst, readMap}
+use Rattle.model.specs.Reader.{Layout, allowed, checkBytes, brokenOff, checkText, columns, rowOf, Reading, stopped, rows, withRow, stop, readValues, readTable, readThird, readSecond, readFirst, readMap}
 use Rattle.model.specs.TextCheck.{Reported, reportedOf, checkRead, textAnswer, reportOf, textGives}
 use Rattle.model.proofs.Checks.{then-none}
 use Rattle.refusals.specs.Small.{SmallRefusal, SmallCheck, SmallAnswer}
@@ -96,26 +96,26 @@ module _ (most : ℕ) (low : most < 10000000) where
   unfolding stop
   stop-small number n h i = record { least = h .0; number = h .1; table = omega arith; row = omega arith }
 
-  values-small : (last : Bool) (cs : List ℕ) (n : ℕ) (ls : List Bytes) → n + length ls ≤ most → SmallReading most (readValues last cs n ls)
+  values-small : (last : Bool) (y : Layout) (n : ℕ) (ls : List Bytes) → n + length ls ≤ most → SmallReading most (readValues last y n ls)
   unfolding readValues
-  values-small true cs n [] h = omega arith
-  values-small false cs n [] h = stop-small 13 n (omega arith) (omega arith)
-  values-small last cs n (l ∷ ls) h = go (isNil l && not last) (rowOf cs l) (values-small last cs (suc n) ls (omega arith))
+  values-small true y n [] h = omega arith
+  values-small false y n [] h = stop-small 13 n (omega arith) (omega arith)
+  values-small last y n (l ∷ ls) h = go (isNil l && not last) (rowOf y l) (values-small last y (suc n) ls (omega arith))
     where
-      go : (b : Bool) (o : Option (List ℤ)) → SmallReading most (readValues last cs (suc n) ls)
-          → SmallReading most (elim b [ true ↦ rows [] ls (suc n) | false ↦ elim o [ none ↦ stop 14 n | some r ↦ withRow r (readValues last cs (suc n) ls) ] ])
+      go : (b : Bool) (o : Option (List ℤ)) → SmallReading most (readValues last y (suc n) ls)
+          → SmallReading most (elim b [ true ↦ rows [] ls (suc n) | false ↦ elim o [ none ↦ stop 14 n | some r ↦ withRow r (readValues last y (suc n) ls) ] ])
       go true o later = omega arith
       go false none later = stop-small 14 n (omega arith) (omega arith)
-      go false (some r) later = row-reading most r (readValues last cs (suc n) ls) later
+      go false (some r) later = row-reading most r (readValues last y (suc n) ls) later
 
   table-small : (last : Bool) (t : Table) (n : ℕ) (ls : List Bytes) → n + length ls ≤ most → SmallReading most (readTable last t n ls)
   unfolding readTable
   table-small last t n [] h = stop-small 13 n (omega arith) (omega arith)
-  table-small last t n (l ∷ ls) h = go (columns (t .names) l)
+  table-small last t n (l ∷ ls) h = go (columns t l)
     where
-      go : (o : Option (List ℕ)) → SmallReading most (elim o [ none ↦ stop 13 n | some cs ↦ readValues last cs (suc n) ls ])
+      go : (o : Option Layout) → SmallReading most (elim o [ none ↦ stop 13 n | some y ↦ readValues last y (suc n) ls ])
       go none = stop-small 13 n (omega arith) (omega arith)
-      go (some cs) = values-small last cs (suc n) ls (omega arith)
+      go (some y) = values-small last y (suc n) ls (omega arith)
 
   third-small : (ns es : List (List ℤ)) (reading : Reading) → SmallReading most reading → SmallAnswer (readThird ns es reading)
   unfolding readThird

@@ -8,37 +8,42 @@ use Prim.Native.Nat.{ℕ, suc, _+_, _-_, _≤_, _<_}
 use native.Mathlib.Numerals.{add-one}
 use native.Mathlib.Omega.{arith}
 use borrow.Author.Tests.{eq-eqb, le-leb, lt-leb}
-use lib.Dec.{eqb}
+use lib.Dec.{ltb, eqb}
 use lib.IntN.{ℤ, pos}
-use lib.ListN.{length, take, drop, set, getD, length-map, length-drop}
+use lib.ListN.{length, take, drop, set, getD, length-map, length-take, length-drop, List·getD-eq-default}
 use lib.Seq.{drop-cons, getD-take, getD-drop, length-take-le, take-length, paste, paste-suc}
 use Rattle.integers.specs.Integers.{eqZ}
-use Rattle.integers.proofs.Tests.{is-false, eqZ→eq}
+use Rattle.integers.proofs.Tests.{Test, passed, failed, ltb?, is-false, eqZ→eq}
 use Rattle.lists.proofs.Places.{map-at}
 use Rattle.model.specs.Bytes.{Bytes}
-use Rattle.model.specs.Reader.{fieldsOf, valuesOf, keyed, arranged, rowOf}
+use Rattle.model.specs.Reader.{Layout, fieldsOf, valuesOf, keyed, arranged, rowOf}
 use Rattle.cursor.specs.Parts.{firstLine, exactly, lineValues}
 use Rattle.columns.specs.declared.Columns.{Columns}
-use Rattle.columns.specs.Given.{maxNames, columnList, GoodColumns}
-use Rattle.sides.specs.Given.{numbersAt, rowNumbers, Appended}
+use Rattle.columns.specs.Given.{columnList, layoutIn, GoodColumns}
+use Rattle.sides.specs.Given.{rowRoom, Clear, numbersAt, rowNumbers, Appended}
 
 -- ---- the values at the columns
 
--- columns below n do not look behind n values
-numbers-take : (n : ℕ) (cs : List ℕ) (row : List ℤ) → ((j : ℕ) → j < length cs → getD cs j 0 < n) → numbersAt cs (take n row) ≡ numbersAt cs row
-numbers-take n [] row h = refl
-numbers-take n (c ∷ cs) row h =
-    let here : getD (take n row) c (pos 0) ≡ getD row c (pos 0) = getD-take n row c (pos 0) (h 0 (omega arith)) in
-    cc (here, numbers-take n cs row (λ j k. h (suc j) (omega arith)))
-
--- only as many values as there are columns make a row
-arranged-exactly : (cs : List ℕ) (o : Option (List ℤ)) → arranged cs (exactly (length cs) o) ≡ arranged cs o
-unfolding arranged exactly
-arranged-exactly cs none = refl
-arranged-exactly cs (some vs) = go (eqb (length vs) (length cs)) refl
+-- columns up to n, behind n values of which the row has 0, find nothing else in these n values
+numbers-take : (n : ℕ) (cs : List ℕ) (row : List ℤ) → getD row n (pos 0) ≡ pos 0 → ((j : ℕ) → j < length cs → getD cs j 0 ≤ n)
+    → numbersAt cs (take n row) ≡ numbersAt cs row
+numbers-take n [] row e h = refl
+numbers-take n (c ∷ cs) row e h = cc (go (ltb c n) (ltb? c n), numbers-take n cs row e (λ j k. h (suc j) (omega arith)))
   where
-    go : (b : Bool) → eqb (length vs) (length cs) ≡ b
-        → arranged cs (cond b (some vs) none) ≡ cond b (keyed (map (λ c. getD vs c (pos 0)) cs)) none
+    go : (b : Bool) → Test (c < n) (n ≤ c) b → getD (take n row) c (pos 0) ≡ getD row c (pos 0)
+    go true (passed k) = getD-take n row c (pos 0) k
+    go false (failed k) =
+        let last : c ≡ n = omega (arith, h 0 (omega arith)) in
+        List·getD-eq-default (take n row) (pos 0) (omega (arith, length-take n row)) ∙ sym (rw last e)
+
+-- only as many values as the names line has fields make a row
+arranged-exactly : (y : Layout) (o : Option (List ℤ)) → arranged y (exactly (y .fields) o) ≡ arranged y o
+unfolding arranged exactly
+arranged-exactly y none = refl
+arranged-exactly y (some vs) = go (eqb (length vs) (y .fields)) refl
+  where
+    go : (b : Bool) → eqb (length vs) (y .fields) ≡ b
+        → arranged y (cond b (some vs) none) ≡ cond b (keyed (map (λ c. getD vs c (pos 0)) (y .at))) none
     go true e = rw e refl
     go false e = refl
 
@@ -52,46 +57,52 @@ keyed-none k r p q = rw (is-false (eqZ k (pos 0)) (λ t. p (eqZ→eq k (pos 0) t
 abbrev pub rowKey : Columns → List ℤ → ℤ
 rowKey cs row = getD row (getD (cs .at) 0 0) (pos 0)
 
+-- the place behind the values of a line stays 0 where what lies behind them stays
+pub clear-kept : (cs : Columns) (before row : List ℤ) → Clear cs before → drop (cs .fields) row ≡ drop (cs .fields) before → Clear cs row
+clear-kept cs before row clear e = sym (first row) ∙ ap (λ (l : List ℤ). getD l 0 (pos 0)) e ∙ first before ∙ clear
+  where
+    first : (l : List ℤ) → getD (drop (cs .fields) l) 0 (pos 0) ≡ getD l (cs .fields) (pos 0)
+    first l = getD-drop (cs .fields) l 0 (pos 0) ∙ ap (λ (k : ℕ). getD l k (pos 0)) (omega arith)
+
 module _ {cs : Columns} (g : GoodColumns cs) (t : Bytes) where
-  row-values : rowOf (columnList cs) (firstLine t) ≡ arranged (columnList cs) (lineValues (cs .count) t)
+  row-values : rowOf (layoutIn cs) (firstLine t) ≡ arranged (layoutIn cs) (lineValues (cs .fields) t)
   unfolding rowOf
-  row-values = sym (arranged-exactly (columnList cs) (valuesOf (fieldsOf (firstLine t)))) ∙ rw (g .whole) refl
+  row-values = sym (arranged-exactly (layoutIn cs) (valuesOf (fieldsOf (firstLine t))))
 
   -- a line that breaks the rules of values
-  pub row-broken : lineValues (cs .count) t ≡ none → rowOf (columnList cs) (firstLine t) ≡ none
+  pub row-broken : lineValues (cs .fields) t ≡ none → rowOf (layoutIn cs) (firstLine t) ≡ none
   unfolding arranged
   row-broken e = row-values ∙ rw e refl
 
-  module _ (row : List ℤ) (room : maxNames ≤ length row) where
+  module _ (row : List ℤ) (room : rowRoom ≤ length row) (clear : Clear cs row) where
     numbers-key : numbersAt (columnList cs) row ≡ rowKey cs row ∷ rowNumbers cs row
     numbers-key =
         let first : columnList cs ≡ getD (columnList cs) 0 0 ∷ drop 1 (columnList cs) = drop-cons (columnList cs) 0 0 (omega (arith, g .whole, g .several)) in
         ap (λ (l : List ℕ). numbersAt l row) first
         ∙ rw (getD-take (cs .count) (cs .at) 0 0 (omega (arith, g .several))) refl
 
-    module _ (values : lineValues (cs .count) t ≡ some (take (cs .count) row)) where
-      row-keyed : rowOf (columnList cs) (firstLine t) ≡ keyed (rowKey cs row ∷ rowNumbers cs row)
+    module _ (values : lineValues (cs .fields) t ≡ some (take (cs .fields) row)) where
+      row-keyed : rowOf (layoutIn cs) (firstLine t) ≡ keyed (rowKey cs row ∷ rowNumbers cs row)
       unfolding arranged
       row-keyed =
-          let many : length (take (cs .count) row) ≡ length (columnList cs) =
-          length-take-le (cs .count) row (omega (arith, g .few)) ∙ sym (g .whole) in
-          let below : (j : ℕ) → j < length (columnList cs) → getD (columnList cs) j 0 < cs .count =
+          let many : length (take (cs .fields) row) ≡ cs .fields = length-take-le (cs .fields) row (omega (arith, g .fewFields)) in
+          let most : (j : ℕ) → j < length (columnList cs) → getD (columnList cs) j 0 ≤ cs .fields =
           λ j h. let k : j < cs .count = omega (arith, g .whole) in rw (getD-take (cs .count) (cs .at) j 0 k) (g .within j k) in
-          row-values ∙ rw (values, eq-eqb (length (take (cs .count) row)) (length (columnList cs)) many)
-          (ap keyed (numbers-take (cs .count) (columnList cs) row below ∙ numbers-key))
+          row-values ∙ rw (values, eq-eqb (length (take (cs .fields) row)) (cs .fields) many)
+          (ap keyed (numbers-take (cs .fields) (columnList cs) row clear most ∙ numbers-key))
 
       -- side or role 0
-      pub row-first : rowKey cs row ≡ pos 0 → rowOf (columnList cs) (firstLine t) ≡ some (pos 0 ∷ rowNumbers cs row)
+      pub row-first : rowKey cs row ≡ pos 0 → rowOf (layoutIn cs) (firstLine t) ≡ some (pos 0 ∷ rowNumbers cs row)
       unfolding keyed
       row-first e = row-keyed ∙ rw e refl
 
       -- side or role 1
-      pub row-second : rowKey cs row ≡ pos 1 → rowOf (columnList cs) (firstLine t) ≡ some (pos 1 ∷ rowNumbers cs row)
+      pub row-second : rowKey cs row ≡ pos 1 → rowOf (layoutIn cs) (firstLine t) ≡ some (pos 1 ∷ rowNumbers cs row)
       unfolding keyed
       row-second e = row-keyed ∙ rw e refl
 
       -- another
-      pub row-keyless : rowKey cs row ≢ pos 0 → rowKey cs row ≢ pos 1 → rowOf (columnList cs) (firstLine t) ≡ none
+      pub row-keyless : rowKey cs row ≢ pos 0 → rowKey cs row ≢ pos 1 → rowOf (layoutIn cs) (firstLine t) ≡ none
       row-keyless p q = row-keyed ∙ keyed-none (rowKey cs row) (rowNumbers cs row) p q
 
 -- ---- the numbers of a row, appended

@@ -16,13 +16,13 @@ use Rattle.lists.specs.Lists.{isNil}
 use Rattle.model.specs.Bytes.{Bytes}
 use Rattle.model.specs.MapFile.{lines}
 use Rattle.model.specs.Answers.{numbered}
-use Rattle.model.specs.Reader.{rowOf, Reading, stopped, rows, withRow, stop, readValues, rowsWith}
+use Rattle.model.specs.Reader.{Layout, rowOf, Reading, stopped, rows, withRow, stop, readValues, rowsWith}
 use Rattle.cursor.specs.declared.Cursor.{Cursor}
 use Rattle.cursor.specs.Parts.{firstLine, laterLines}
 use Rattle.cursor.specs.Given.{InText, Stands}
 use Rattle.cursor.proofs.Lines.{lines-none, lines-more, later-behind, later-empty}
 use Rattle.columns.specs.declared.Columns.{Columns}
-use Rattle.columns.specs.Given.{columnList}
+use Rattle.columns.specs.Given.{layoutIn}
 use Rattle.sides.specs.Given.{Stored, Appended, RowsRead}
 
 -- ---- numbers of a side or role
@@ -128,24 +128,24 @@ unfolding withRow
 with-more done r (stopped f) = refl
 with-more done r (rows rs rest n) = ap (λ (l : List (List ℤ)). rows l rest n) (sym (append-assoc done (r ∷ []) rs))
 
-module _ (last : Bool) (cs : List ℕ) (n : ℕ) (l : Bytes) (ls : List Bytes) where
-  value-line : {b : Bool} → (isNil l && not last) ≡ b → readValues last cs n (l ∷ ls)
-      ≡ elim b [ true ↦ rows [] ls (suc n) | false ↦ elim (rowOf cs l) [ none ↦ stop 14 n | some r ↦ withRow r (readValues last cs (suc n) ls) ] ]
+module _ (last : Bool) (y : Layout) (n : ℕ) (l : Bytes) (ls : List Bytes) where
+  value-line : {b : Bool} → (isNil l && not last) ≡ b → readValues last y n (l ∷ ls)
+      ≡ elim b [ true ↦ rows [] ls (suc n) | false ↦ elim (rowOf y l) [ none ↦ stop 14 n | some r ↦ withRow r (readValues last y (suc n) ls) ] ]
   unfolding readValues
   value-line e =
-      subst (λ (b : Bool). readValues last cs n (l ∷ ls)
-      ≡ elim b [ true ↦ rows [] ls (suc n) | false ↦ elim (rowOf cs l) [ none ↦ stop 14 n | some r ↦ withRow r (readValues last cs (suc n) ls) ] ]) e refl
+      subst (λ (b : Bool). readValues last y n (l ∷ ls)
+      ≡ elim b [ true ↦ rows [] ls (suc n) | false ↦ elim (rowOf y l) [ none ↦ stop 14 n | some r ↦ withRow r (readValues last y (suc n) ls) ] ]) e refl
 
-  value-row : {o : Option (List ℤ)} → (isNil l && not last) ≡ false → rowOf cs l ≡ o
-      → readValues last cs n (l ∷ ls) ≡ elim o [ none ↦ stop 14 n | some r ↦ withRow r (readValues last cs (suc n) ls) ]
-  value-row e q = value-line e ∙ ap (λ (o : Option (List ℤ)). elim o [ none ↦ stop 14 n | some r ↦ withRow r (readValues last cs (suc n) ls) ]) q
+  value-row : {o : Option (List ℤ)} → (isNil l && not last) ≡ false → rowOf y l ≡ o
+      → readValues last y n (l ∷ ls) ≡ elim o [ none ↦ stop 14 n | some r ↦ withRow r (readValues last y (suc n) ls) ]
+  value-row e q = value-line e ∙ ap (λ (o : Option (List ℤ)). elim o [ none ↦ stop 14 n | some r ↦ withRow r (readValues last y (suc n) ls) ]) q
 
 -- rows of the table from c₀ on are read, and the cursor c stands before the other lines
 pub record RowsLeft (text : Bytes) (cs : Columns) (last : Bool) (room : ℕ) (first₀ second₀ : List ℤ) (c₀ : Cursor)
     (first second : List ℤ) (c : Cursor) (n m : ℕ) : Type 0 where
   pub done : List (List ℤ)
-  pub same : readValues last (columnList cs) (c₀ .line) (lines (drop (c₀ .at) text))
-      ≡ withRows done (readValues last (columnList cs) (c .line) (lines (drop (c .at) text)))
+  pub same : readValues last (layoutIn cs) (c₀ .line) (lines (drop (c₀ .at) text))
+      ≡ withRows done (readValues last (layoutIn cs) (c .line) (lines (drop (c .at) text)))
   pub inText : InText text c
   pub inFirst : Held room (cs .count - 1) (rowsWith (pos 0) done) first₀ first n
   pub inSecond : Held room (cs .count - 1) (rowsWith (pos 1) done) second₀ second m
@@ -157,7 +157,7 @@ unfolding rowsWith
 rows-start {text} {c} cs last {room} most first second p e =
     record {
       done = [];
-      same = sym (with-none (readValues last (columnList cs) (c .line) (lines (drop (c .at) text))));
+      same = sym (with-none (readValues last (layoutIn cs) (c .line) (lines (drop (c .at) text))));
       inText = p;
       inFirst = held-none room (cs .count - 1) most first e;
       inSecond = held-none room (cs .count - 1) most second e;
@@ -167,7 +167,7 @@ module _ {text : Bytes} {cs : Columns} {last : Bool} {room : ℕ} {first₀ seco
     (l : RowsLeft text cs last room first₀ second₀ c₀ first second c n m) where
   -- what is read from c₀ on
   abbrev pub readFrom : Reading
-  readFrom = readValues last (columnList cs) (c₀ .line) (lines (drop (c₀ .at) text))
+  readFrom = readValues last (layoutIn cs) (c₀ .line) (lines (drop (c₀ .at) text))
 
   -- no line is left
   module _ (end : length text ≤ c .at) where
@@ -199,7 +199,7 @@ module _ {text : Bytes} {cs : Columns} {last : Bool} {room : ℕ} {first₀ seco
           read = l .same
               ∙ rw (
                 lines-more text (c .at) more,
-                value-line last (columnList cs) (c .line) (firstLine (drop (c .at) text)) (lines (laterLines (drop (c .at) text))) e,
+                value-line last (layoutIn cs) (c .line) (firstLine (drop (c .at) text)) (lines (laterLines (drop (c .at) text))) e,
                 later-empty text (c .at) more empty,
                 append-nil (l .done),
                 add-one (c .line),
@@ -214,15 +214,15 @@ module _ {text : Bytes} {cs : Columns} {last : Bool} {room : ℕ} {first₀ seco
         both-first false e = e
 
     module _ (goes : (isNil (firstLine (drop (c .at) text)) && not last) ≡ false) where
-      left-row : {o : Option (List ℤ)} → rowOf (columnList cs) (firstLine (drop (c .at) text)) ≡ o
-          → readValues last (columnList cs) (c .line) (lines (drop (c .at) text))
-          ≡ elim o [ none ↦ stop 14 (c .line) | some r ↦ withRow r (readValues last (columnList cs) (suc (c .line)) (lines (laterLines (drop (c .at) text)))) ]
+      left-row : {o : Option (List ℤ)} → rowOf (layoutIn cs) (firstLine (drop (c .at) text)) ≡ o
+          → readValues last (layoutIn cs) (c .line) (lines (drop (c .at) text))
+          ≡ elim o [ none ↦ stop 14 (c .line) | some r ↦ withRow r (readValues last (layoutIn cs) (suc (c .line)) (lines (laterLines (drop (c .at) text)))) ]
       left-row e =
-          ap (readValues last (columnList cs) (c .line)) (lines-more text (c .at) more)
-          ∙ value-row last (columnList cs) (c .line) (firstLine (drop (c .at) text)) (lines (laterLines (drop (c .at) text))) goes e
+          ap (readValues last (layoutIn cs) (c .line)) (lines-more text (c .at) more)
+          ∙ value-row last (layoutIn cs) (c .line) (firstLine (drop (c .at) text)) (lines (laterLines (drop (c .at) text))) goes e
 
       -- a line that is no row
-      pub rows-bad : rowOf (columnList cs) (firstLine (drop (c .at) text)) ≡ none → readFrom ≡ stopped (numbered 14 6 (c .line))
+      pub rows-bad : rowOf (layoutIn cs) (firstLine (drop (c .at) text)) ≡ none → readFrom ≡ stopped (numbered 14 6 (c .line))
       unfolding stop
       rows-bad e = l .same ∙ rw (left-row e) refl
 
@@ -231,15 +231,15 @@ module _ {text : Bytes} {cs : Columns} {last : Bool} {room : ℕ} {first₀ seco
         pub rows-onward : c .at < d .at
         rows-onward = later-behind text (c .at) more s
 
-        left-more : {r : List ℤ} → rowOf (columnList cs) (firstLine (drop (c .at) text)) ≡ some r
-            → readFrom ≡ withRows (l .done ++ (r ∷ [])) (readValues last (columnList cs) (d .line) (lines (drop (d .at) text)))
+        left-more : {r : List ℤ} → rowOf (layoutIn cs) (firstLine (drop (c .at) text)) ≡ some r
+            → readFrom ≡ withRows (l .done ++ (r ∷ [])) (readValues last (layoutIn cs) (d .line) (lines (drop (d .at) text)))
         left-more {r} e = l .same ∙ rw (left-row e, s .line, s .before) (with-more (l .done) r _)
 
         left-in-text : InText text d
         left-in-text = record { within = s .within; low = omega (arith, l .inText .low, s .line, rows-onward) }
 
         -- a row of side or role 0
-        pub rows-first : {r next : List ℤ} {k : ℕ} → rowOf (columnList cs) (firstLine (drop (c .at) text)) ≡ some (pos 0 ∷ r)
+        pub rows-first : {r next : List ℤ} {k : ℕ} → rowOf (layoutIn cs) (firstLine (drop (c .at) text)) ≡ some (pos 0 ∷ r)
             → length r ≡ cs .count - 1 → 2 ≤ cs .count → room ≤ length first₀ → Appended room r first next n k
             → RowsLeft text cs last room first₀ second₀ c₀ next second d k m
         rows-first {r} e long several space a =
@@ -252,7 +252,7 @@ module _ {text : Bytes} {cs : Columns} {last : Bool} {room : ℕ} {first₀ seco
             }
 
         -- a row of side or role 1
-        pub rows-second : {r next : List ℤ} {k : ℕ} → rowOf (columnList cs) (firstLine (drop (c .at) text)) ≡ some (pos 1 ∷ r)
+        pub rows-second : {r next : List ℤ} {k : ℕ} → rowOf (layoutIn cs) (firstLine (drop (c .at) text)) ≡ some (pos 1 ∷ r)
             → length r ≡ cs .count - 1 → 2 ≤ cs .count → room ≤ length second₀ → Appended room r second next m k
             → RowsLeft text cs last room first₀ second₀ c₀ first next d n k
         rows-second {r} e long several space a =

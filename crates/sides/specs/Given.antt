@@ -15,11 +15,19 @@ use Rattle.cursor.specs.declared.Cursor.{Cursor}
 use Rattle.cursor.specs.Parts.{firstLine, laterLines}
 use Rattle.cursor.specs.Given.{InText, Stands}
 use Rattle.columns.specs.declared.Columns.{Columns}
-use Rattle.columns.specs.Given.{columnList}
+use Rattle.columns.specs.Given.{maxNames, columnList, layoutIn}
 use Rattle.sides.specs.declared.Row.{Row}
 use Rattle.sides.specs.declared.Rows.{Rows}
 use Rattle.sides.specs.declared.Row.the-variants as rowRead
 use Rattle.sides.specs.declared.Rows.the-variants as rowsRead
+
+-- numbers of a row at most, and a place behind them
+abbrev pub rowRoom : ℕ
+rowRoom = suc maxNames
+
+-- behind the values of a line the row has 0
+abbrev pub Clear : Columns → List ℤ → Type 0
+Clear cs row = getD row (cs .fields) (pos 0) ≡ pos 0
 
 -- the room of a table is that of whole rows, without their side or role
 abbrev pub Roomy : Columns → ℕ → Type 0
@@ -36,12 +44,12 @@ rowNumbers cs row = numbersAt (drop 1 (columnList cs)) row
 -- a row of side or role 0 or 1, with the cursor before the next line
 abbrev pub RowGiven : Bytes → Cursor → Columns → List ℤ → Row → Type 0
 RowGiven text c cs row (rowRead.First d) =
-    (rowOf (columnList cs) (firstLine (drop (c .at) text)) ≡ some (pos 0 ∷ rowNumbers cs row))
+    (rowOf (layoutIn cs) (firstLine (drop (c .at) text)) ≡ some (pos 0 ∷ rowNumbers cs row))
     × Stands text (laterLines (drop (c .at) text)) (suc (c .line)) d
 RowGiven text c cs row (rowRead.Second d) =
-    (rowOf (columnList cs) (firstLine (drop (c .at) text)) ≡ some (pos 1 ∷ rowNumbers cs row))
+    (rowOf (layoutIn cs) (firstLine (drop (c .at) text)) ≡ some (pos 1 ∷ rowNumbers cs row))
     × Stands text (laterLines (drop (c .at) text)) (suc (c .line)) d
-RowGiven text c cs row rowRead.Bad = rowOf (columnList cs) (firstLine (drop (c .at) text)) ≡ none
+RowGiven text c cs row rowRead.Bad = rowOf (layoutIn cs) (firstLine (drop (c .at) text)) ≡ none
 
 -- numbers appended behind n numbers of a table, where the room lasts for them
 pub record Appended (room : ℕ) (numbers before after : List ℤ) (n m : ℕ) : Type 0 where

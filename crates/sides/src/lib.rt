@@ -8,13 +8,16 @@ ghost use Rattle.model.specs.MapFile.{lines};
 ghost use Rattle.model.specs.Reader.{readValues};
 ghost use Rattle.cursor.specs.Parts.{firstLine};
 ghost use Rattle.cursor.specs.Given.{InText};
-ghost use Rattle.columns.specs.Given.{maxNames, columnList, GoodColumns};
-ghost use Rattle.sides.specs.Given.{Roomy, rowNumbers, RowGiven, Appended, RowsGiven};
+ghost use Rattle.columns.specs.Given.{layoutIn, GoodColumns};
+ghost use Rattle.sides.specs.Given.{rowRoom, Clear, Roomy, rowNumbers, RowGiven, Appended, RowsGiven};
 use columns::Columns;
 use columns::MAX_NAMES;
 use cursor::Cursor;
 use cursor::Line;
 use model::Reason;
+
+// Numbers of a row at most, and a place behind them, which no line writes and which stays 0: the value under a name that the names line lacks.
+const ROW_ROOM: usize = MAX_NAMES + 1;
 
 // A row that was read, of side or role 0 or 1, with the cursor before the next line.
 enum Row {
@@ -25,10 +28,11 @@ enum Row {
 
 // Reads a value line, of which `row` holds the values afterwards, and tells its side or role.
 fn read_row(text: &[u8], from: Cursor, cs: Columns, row: &mut [i64]) -> Row
-    requires { ⌜ InText (now text) from × GoodColumns cs × (maxNames ≤ length (now row)) ⌝ }
-    ensures { λ r. ⌜ RowGiven (now (text .entry)) from cs (now (row .exit)) r ⌝ }
+    requires { ⌜ InText (now text) from × GoodColumns cs × (rowRoom ≤ length (now row)) × Clear cs (now row) ⌝ }
+    ensures row { λ r. ⌜ RowGiven (now (text .entry)) from cs (now (row .exit)) r ⌝ }
+    ensures clear { λ r. ⌜ Clear cs (now (row .exit)) ⌝ }
 {
-    let line = cursor::read_line(text, from, cs.count, row);
+    let line = cursor::read_line(text, from, cs.fields, row);
     let Line::Values(next) = line else {
         return Row::Bad;
     };
@@ -45,7 +49,7 @@ fn read_row(text: &[u8], from: Cursor, cs: Columns, row: &mut [i64]) -> Row
 
 // Appends the numbers of a row, in the order of the table's names, behind n numbers of a table, where the room lasts for them.
 fn store(table: &mut [i64], n: usize, room: usize, row: &[i64], cs: Columns) -> usize
-    requires { ⌜ (room ≤ length (now table)) × (n ≤ room) × GoodColumns cs × (maxNames ≤ length (now row)) ⌝ }
+    requires { ⌜ (room ≤ length (now table)) × (n ≤ room) × GoodColumns cs × (rowRoom ≤ length (now row)) ⌝ }
     ensures { λ r. ⌜ Appended room (rowNumbers cs (now (row .entry))) (now (table .entry)) (now (table .exit)) n r ⌝ }
 {
     let width = cs.count - 1;
@@ -96,9 +100,9 @@ pub fn read_rows(
     second: &mut [i64],
 ) -> Rows
     requires { ⌜ InText (now text) from × GoodColumns cs × Roomy cs room × (room ≤ length (now first)) × (room ≤ length (now second)) ⌝ }
-    ensures { λ r. ⌜ RowsGiven (readValues last (columnList cs) (from .line) (lines (drop (from .at) (now (text .entry))))) (now (text .entry)) room (now (first .entry)) (now (first .exit)) (now (second .entry)) (now (second .exit)) r ⌝ }
+    ensures { λ r. ⌜ RowsGiven (readValues last (layoutIn cs) (from .line) (lines (drop (from .at) (now (text .entry))))) (now (text .entry)) room (now (first .entry)) (now (first .exit)) (now (second .entry)) (now (second .exit)) r ⌝ }
 {
-    let mut row = [0i64; MAX_NAMES];
+    let mut row = [0i64; ROW_ROOM];
     let mut c = from;
     let mut n: usize = 0;
     let mut m: usize = 0;

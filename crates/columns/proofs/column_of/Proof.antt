@@ -1,8 +1,7 @@
-use mathlib.Core.Path.{_≡_, refl, sym, ap, subst, _∙_}
+use mathlib.Core.Path.{_≡_, sym, ap, subst, _∙_}
 use mathlib.Core.Bool.{true, false}
 use mathlib.Core.List.{List}
-use Prim.Native.Nat.{ℕ, _-_, _≤_, _<_}
-use native.Mathlib.Numerals.{add-one}
+use Prim.Native.Nat.{ℕ, _+_, _-_, _≤_, _<_}
 use native.Mathlib.Omega.{arith}
 use borrow.Author.Needs.{needs}
 use borrow.Author.Tests.{not-true, not-false}
@@ -14,11 +13,11 @@ use Rattle.columns.proofs.Names.{column-here, column-goes, column-none}
 use Rattle.columns.proofs.column_of.Statement.{statement}
 use Rattle.columns.proofs.column_of.Tie as tie
 
--- Invariant: the column of the name is that among the fields from `at` on, the first of which is column `i`. The measure is what is left of the length.
+-- Invariant: the column of the name is that among the fields from `at` on, and the `i` fields before them. The measure is what is left of the length.
 
 abbrev Inv-loop : tie.InvT-loop
 Inv-loop text from name at₀ i₀ at i =
-    (at ≤ length text) × (i ≤ at) × (columnOf name 0 (fieldsOf (firstLine (drop from text))) ≡ columnOf name i (fieldsOf (firstLine (drop at text))))
+    (at ≤ length text) × (i ≤ at) × (columnOf name (fieldsOf (firstLine (drop from text))) ≡ i + columnOf name (fieldsOf (firstLine (drop at text))))
 
 abbrev μ-loop : tie.MeasureT-loop
 μ-loop text from name at₀ i₀ at i = length text - at
@@ -54,7 +53,7 @@ next-within c =
     (sym (c .before .is-blank .ensures) ∙ not-false _ (c .if2 .left))
 
 loop-holds : tie.Need-loop-holds Inv-loop μ-loop
-loop-holds c = (omega arith, omega arith, refl)
+loop-holds c = (omega arith, omega arith, omega arith)
 
 field-end-requires : tie.Need-field-end-requires Inv-loop μ-loop
 field-end-requires c κs = omega arith
@@ -74,7 +73,10 @@ returns : tie.Need-returns Inv-loop μ-loop
 returns c =
     let l = c .before .before .before .before in
     let s = l .before .before .before .args in
-    sym (l .loop .inv .2 ∙ column-here (s .name .now) (drop (l .loop .at) (s .text .now)) (l .loop .i) (tested (c .before)) (c .if1 .taken))
+    omega (arith, l .loop .inv .2, column-here (s .name .now) (drop (l .loop .at) (s .text .now)) (tested (c .before)) (c .if1 .taken))
+
+is-blank-requires : tie.Need-is-blank-requires Inv-loop μ-loop
+is-blank-requires c κs = search needs
 
 returns-2 : tie.Need-returns-2 Inv-loop μ-loop
 returns-2 c =
@@ -82,7 +84,7 @@ returns-2 c =
     let l = e .before .before .before .before in
     let s = l .before .before .before .args in
     let gone : followed (drop (l .loop .at) (s .text .now)) ≡ false = follows (c .before) ∙ not-true _ (c .if2 .taken) in
-    sym (l .loop .inv .2 ∙ column-none (s .name .now) (drop (l .loop .at) (s .text .now)) (l .loop .i) (tested (e .before)) (e .if1 .left) gone)
+    omega (arith, l .loop .inv .2, column-none (s .name .now) (drop (l .loop .at) (s .text .now)) (tested (e .before)) (e .if1 .left) gone)
 
 add-at : tie.Need-add-at Inv-loop μ-loop
 add-at c = omega (arith, next-within c)
@@ -101,10 +103,13 @@ loop-again c =
     let s = l .before .before .before .args in (
       omega (arith, next-within c),
       omega (arith, l .loop .inv .1, f .field-end .ensures),
-      rw (add-one (l .loop .i), end-rest (s .text .now) (l .loop .at) (f .field-end .result) (l .loop .inv .0) (f .field-end .ensures))
-          (l .loop .inv .2
-          ∙ column-goes (s .name .now) (drop (l .loop .at) (s .text .now)) (l .loop .i) (tested (e .before)) (e .if1 .left)
-          (follows (c .before) ∙ not-false _ (c .if2 .left))),
+      rw (end-rest (s .text .now) (l .loop .at) (f .field-end .result) (l .loop .inv .0) (f .field-end .ensures))
+          (omega (
+            arith,
+            l .loop .inv .2,
+            column-goes (s .name .now) (drop (l .loop .at) (s .text .now)) (tested (e .before)) (e .if1 .left)
+                (follows (c .before) ∙ not-false _ (c .if2 .left)),
+          )),
     )
 
 pub column-of-spec : {M : Type 1} → statement M
@@ -120,7 +125,8 @@ column-of-spec =
     part-same-end
     (λ c κs. search needs)
     returns
-    (λ c κs. search needs)
+    is-blank-requires
+    (λ c. search needs)
     returns-2
     add-at
     add-i

@@ -9,7 +9,7 @@ use mir.Facts.{toZ-ofZ}
 use Rattle.cursor.specs.declared.Num.{Num}
 use Rattle.cursor.specs.Parts.{laterLines, restOf, innerValue, lastValue}
 use Rattle.cursor.specs.Given.{NumGiven}
-use Rattle.cursor.proofs.ValueLines.{LineLeft, left-all, left-stops, left-goes, left-fails, left-ends}
+use Rattle.cursor.proofs.ValueLines.{LineLeft, left-all, left-rest, left-stops, left-goes, left-fails, left-ends}
 use Rattle.cursor.proofs.read_line.Statement.{statement}
 use Rattle.cursor.proofs.read_line.Tie as tie
 
@@ -50,7 +50,7 @@ returns : tie.Need-returns Inv-loop μ-loop
 returns c =
     let k = c .before .before in
     let l = k .before .before in
-    left-stops (l .loop .inv) (k .before .loop-test .taken) (subst (Inner l) (c .enum-told .given .1) (k .value .ensures))
+    (left-stops (l .loop .inv) (k .before .loop-test .taken) (subst (Inner l) (c .enum-told .given .1) (k .value .ensures)), l .loop .inv .rest)
 
 mul-v : tie.Need-mul-v Inv-loop μ-loop
 mul-v c = let l = c .before .before .before .before .before in omega (arith, l .loop .inv .short, l .before .before .pre .2, l .before .before .good)
@@ -83,7 +83,7 @@ returns-2 : tie.Need-returns-2 Inv-loop μ-loop
 returns-2 c =
     let k = c .before .before in
     let l = k .before .before in
-    left-fails (l .loop .inv) (k .before .loop-test .left) (subst (Last l) (c .enum-told2 .given .1) (k .last-value .ensures))
+    (left-fails (l .loop .inv) (k .before .loop-test .left) (subst (Last l) (c .enum-told2 .given .1) (k .last-value .ensures)), l .loop .inv .rest)
 
 mul-v-2 : tie.Need-mul-v-2 Inv-loop μ-loop
 mul-v-2 c = let l = c .before .before .before .before .before in omega (arith, l .loop .inv .short, l .before .before .pre .2, l .before .before .good)
@@ -101,7 +101,7 @@ returns-3 c =
     let s = l .before .before in
     let given = subst (Last l) (c .before .n2 .given .1) (k .last-value .ensures) in
     let fits : SFits w64 (c .before .n2 .given .0 .0) = search needs in
-    rw (toZ-ofZ fits) (left-ends (l .loop .inv) (k .before .loop-test .left) (s .pre .2) (given .0) (given .1))
+    rw (toZ-ofZ fits) (left-ends (l .loop .inv) (k .before .loop-test .left) (s .pre .2) (given .0) (given .1), left-rest (l .loop .inv) _)
 
 pub read-line-spec : {M : Type 1} → statement M
 read-line-spec =

@@ -1,34 +1,32 @@
 -- The names are looked for one after the other.
-use mathlib.Core.Path.{_≡_, sym, ap, subst}
-use mathlib.Core.Bool.{Bool}
-use Prim.Native.Nat.{ℕ}
+use mathlib.Core.List.{List, [], _∷_}
+use native.Mathlib.Omega.{arith}
 use borrow.Author.Needs.{needs}
-use lib.Dec.{eqb}
-use lib.ListN.{length, drop}
-use Rattle.model.specs.Bytes.{bytes}
+use Rattle.model.specs.Bytes.{Bytes, bytes}
 use Rattle.model.specs.MapFile.{pairTable}
-use Rattle.model.specs.Reader.{fieldsOf}
-use Rattle.cursor.specs.Parts.{firstLine}
-use Rattle.columns.proofs.ColumnLists.{Reached, reached-none, reached-more, reached-all}
+use Rattle.columns.specs.declared.Columns.{Columns}
+use Rattle.columns.proofs.ColumnLists.{Sought, sought-none, sought-name, sought-seeking, sought-all}
 use Rattle.mapfile.proofs.pair_columns.Statement.{statement}
 use Rattle.mapfile.proofs.pair_columns.Tie as tie
 
+-- the columns of these names, all of which the line must have
+abbrev After : tie.After-none → List Bytes → Columns → Type 0
+After e ns cs = let s = e .before .before .args in Sought (s .text .now) (s .from) ns ns cs
+
+none-sought : (e : tie.After-none) → After e [] (e .none .result)
+none-sought e = sought-none (e .before .before .pre) (e .none .ensures)
+
+role-sought : (w : tie.After-with-name) → After (w .before .before) (bytes "role" ∷ []) (w .with-name .result)
+unfolding bytes
+role-sought w = sought-name (none-sought (w .before .before)) (bytes "role") (w .with-name .ensures)
+
+spec-sought : (w : tie.After-with-name2) → After (w .before .before .before .before) (bytes "role" ∷ bytes "spec" ∷ []) (w .with-name2 .result)
+unfolding bytes
+spec-sought w = sought-name (role-sought (w .before .before)) (bytes "spec") (w .with-name2 .ensures)
+
 returns : tie.Need-returns
 unfolding bytes pairTable
-returns c =
-    let w2 = c .before .before in
-    let w1 = w2 .before .before in
-    let e = w1 .before .before in
-    let s = e .before .before in
-    let line = firstLine (drop (s .args .from) (s .args .text .now)) in
-    let right : eqb (length (fieldsOf line)) 3 ≡ eqb (s .args .fields) 3 = ap (λ (k : ℕ). eqb k 3) (sym (s .pre .1)) in
-    reached-all pairTable line
-    (subst (λ (b : Bool). Reached b (pairTable .names) (fieldsOf line) (c .with-name3 .result)) (sym right)
-    (reached-more (bytes "impl")
-    (reached-more (bytes "spec")
-    (reached-more (bytes "role") (reached-none (fieldsOf line) (e .none .ensures)) (w1 .with-name .ensures))
-    (w2 .with-name2 .ensures))
-    (c .with-name3 .ensures)))
+returns c = sought-all pairTable (sought-name (spec-sought (c .before .before)) (bytes "impl") (c .with-name3 .ensures))
 
 pub pair-columns-spec : {M : Type 1} → statement M
 pair-columns-spec =
@@ -36,9 +34,9 @@ pair-columns-spec =
     (tie.spec
     (λ c κs. search needs)
     (λ c. search needs)
-    (λ c κs. search needs)
+    (λ c κs. sought-seeking (none-sought (c .before)) (omega arith))
     (λ c. search needs)
-    (λ c κs. search needs)
+    (λ c κs. sought-seeking (role-sought (c .before)) (omega arith))
     (λ c. search needs)
-    (λ c κs. search needs)
+    (λ c κs. sought-seeking (spec-sought (c .before)) (omega arith))
     returns)

@@ -1,8 +1,9 @@
 -- A wrong names line is told; else the value lines are read.
+use mathlib.Core.Path.{sym, _∙_}
 use borrow.Author.Needs.{needs}
 use borrow.Author.Tests.{not-true, not-false}
 use Rattle.mapfile.specs.Given.{isLast}
-use Rattle.mapfile.proofs.ReadTables.{file-several, file-few, file-room, table-wrong, table-good, table-in-text, table-values, table-room}
+use Rattle.mapfile.proofs.ReadTables.{file-regular, file-several, file-few, file-room, table-wrong, table-good, table-in-text, table-values, table-room}
 use Rattle.mapfile.proofs.read_table.Statement.{statement}
 use Rattle.mapfile.proofs.read_table.Tie as tie
 
@@ -11,7 +12,7 @@ returns c =
     let k = c .before .before in
     let s = k .before .before .before in
     let f = s .args .table in
-    table-wrong (file-several f) (s .pre .0) (k .table-columns .ensures) (isLast f) (not-true _ (c .if1 .taken))
+    table-wrong (file-regular f) (file-several f) (s .pre .0) (k .table-columns .ensures) (isLast f) (sym (c .before .complete .ensures) ∙ not-true _ (c .if1 .taken))
 
 read-rows-requires : tie.Need-read-rows-requires
 read-rows-requires c κs =
@@ -20,13 +21,13 @@ read-rows-requires c κs =
     let k = e .before .before in
     let s = k .before .before .before in
     let f = s .args .table in
-    let all = not-false _ (e .if1 .left) in
+    let all = sym (e .before .complete .ensures) ∙ not-false _ (e .if1 .left) in
     let next = k .before .count-fields .ensures .1 in
     let given = k .table-columns .ensures in
     rw (m .room-of .ensures) (
-      table-in-text (file-several f) (s .pre .0) given all next,
-      table-good (file-several f) (s .pre .0) given all next (file-few f),
-      table-room (file-several f) (s .pre .0) given all next (file-room f),
+      table-in-text (file-regular f) (file-several f) (s .pre .0) given all next,
+      table-good (file-regular f) (file-several f) (s .pre .0) given all next (file-few f),
+      table-room (file-regular f) (file-several f) (s .pre .0) given all next (file-room f),
       s .pre .1,
       s .pre .2,
     )
@@ -39,13 +40,15 @@ returns-2 c =
     let k = e .before .before in
     let s = k .before .before .before in
     let f = s .args .table in
-    let values = table-values (file-several f) (s .pre .0) (k .table-columns .ensures) (not-false _ (e .if1 .left)) (k .before .count-fields .ensures .1) in
+    let all = sym (e .before .complete .ensures) ∙ not-false _ (e .if1 .left) in
+    let values = table-values (file-regular f) (file-several f) (s .pre .0) (k .table-columns .ensures) all (k .before .count-fields .ensures .1) in
     rw (values (isLast f), ← m .before .is-last .ensures, ← m .room-of .ensures) (r .read-rows .ensures)
 
 pub read-table-spec : {M : Type 1} → statement M
 read-table-spec =
     tie.close
     (tie.spec
+    (λ c κs. search needs)
     (λ c κs. search needs)
     (λ c κs. search needs)
     returns

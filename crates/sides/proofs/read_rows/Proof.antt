@@ -5,12 +5,12 @@ use mathlib.Core.List.{List}
 use Prim.Native.Nat.{_-_}
 use native.Mathlib.Omega.{arith}
 use borrow.Author.Needs.{needs}
-use lib.IntN.{ℤ}
-use lib.ListN.{drop, length}
+use lib.IntN.{ℤ, pos}
+use lib.ListN.{drop, length, getD-replicate}
 use Rattle.lists.specs.Lists.{isNil}
 use Rattle.cursor.specs.Parts.{firstLine}
 use Rattle.sides.specs.declared.Row.{Row}
-use Rattle.sides.specs.Given.{RowGiven}
+use Rattle.sides.specs.Given.{Clear, RowGiven}
 use Rattle.sides.proofs.RowLines.{numbers-length}
 use Rattle.sides.proofs.TableRows.{RowsLeft, held-within, held-length, rows-start, rows-short, rows-all, rows-ended, rows-bad, rows-onward, rows-first, rows-second}
 use Rattle.sides.proofs.read_rows.Statement.{statement}
@@ -18,7 +18,7 @@ use Rattle.sides.proofs.read_rows.Tie as tie
 
 abbrev Inv-loop : tie.InvT-loop
 Inv-loop text cs last room first₀ second₀ row₀ c₀ n₀ m₀ first second row c n m =
-    (length row ≡ 5) × RowsLeft text cs last room first₀ second₀ c₀ first second c n m
+    (length row ≡ 6) × Clear cs row × RowsLeft text cs last room first₀ second₀ c₀ first second c n m
 
 abbrev μ-loop : tie.MeasureT-loop
 μ-loop text cs last room first₀ second₀ row₀ c₀ n₀ m₀ first second row c n m = length text - c .at
@@ -36,7 +36,7 @@ goes e = sym (e .before .is-table-end .ensures) ∙ e .if2 .left
 abbrev rowAfter : tie.After-read-row Inv-loop μ-loop → List ℤ
 rowAfter k = k .read-row .last .1 .1 .1 .0
 
-wide : (k : tie.After-read-row Inv-loop μ-loop) → length (rowAfter k) ≡ 5
+wide : (k : tie.After-read-row Inv-loop μ-loop) → length (rowAfter k) ≡ 6
 wide k = k .read-row .kept .1 .1 .1 .0 ∙ At (k .before .before) .loop .inv .0
 
 -- what reading the line gives
@@ -46,7 +46,7 @@ Given k = let l = At (k .before .before) in let s = l .before .before .args in R
 loop-holds : tie.Need-loop-holds Inv-loop μ-loop
 loop-holds c =
     let s = c .before in
-    (refl, rows-start (s .args .cs) (s .args .last) (s .pre .2 .0) (s .args .first .now) (s .args .second .now) (s .pre .0) (s .pre .2 .1))
+    (refl, getD-replicate 6 (s .args .cs .fields) (pos 0) (pos 0) (omega (arith, s .pre .1 .fewFields)), rows-start (s .args .cs) (s .args .last) (s .pre .2 .0) (s .args .first .now) (s .args .second .now) (s .pre .0) (s .pre .2 .1))
 
 is-table-end-requires : tie.Need-is-table-end-requires Inv-loop μ-loop
 is-table-end-requires c κs = c .if1 .taken
@@ -58,26 +58,26 @@ add-t19 : tie.Need-add-t19 Inv-loop μ-loop
 add-t19 c =
     let t = c .before .before .before .before in
     let l = t .before .before in
-    omega (arith, t .if1 .taken, l .loop .inv .1 .inText .low, l .before .before .good)
+    omega (arith, t .if1 .taken, l .loop .inv .2 .inText .low, l .before .before .good)
 
 same-length : tie.Need-same-length Inv-loop μ-loop
-same-length c = let l = c .before .before .before .before .before .before in held-length (l .loop .inv .1 .inFirst) (l .before .before .pre .3)
+same-length c = let l = c .before .before .before .before .before .before in held-length (l .loop .inv .2 .inFirst) (l .before .before .pre .3)
 
 same-length-2 : tie.Need-same-length-2 Inv-loop μ-loop
-same-length-2 c = let l = c .before .before .before .before .before .before in held-length (l .loop .inv .1 .inSecond) (l .before .before .pre .4)
+same-length-2 c = let l = c .before .before .before .before .before .before in held-length (l .loop .inv .2 .inSecond) (l .before .before .pre .4)
 
 returns : tie.Need-returns Inv-loop μ-loop
 returns c =
     let t = c .before .before in
     let e = t .before in
     let l = e .before .before .before in
-    rows-ended (l .loop .inv .1) (e .before .if1 .taken) (sym (e .is-table-end .ensures) ∙ t .if2 .taken)
+    rows-ended (l .loop .inv .2) (e .before .if1 .taken) (sym (e .is-table-end .ensures) ∙ t .if2 .taken)
 
 slice-aggregate-read-row : tie.Need-slice-aggregate-read-row Inv-loop μ-loop
 slice-aggregate-read-row c = sym (At (c .before) .loop .inv .0)
 
 read-row-requires : tie.Need-read-row-requires Inv-loop μ-loop
-read-row-requires c κs = let l = At (c .before) in (l .loop .inv .1 .inText, l .before .before .pre .1, omega (arith, l .loop .inv .0))
+read-row-requires c κs = let l = At (c .before) in (l .loop .inv .2 .inText, l .before .before .pre .1, omega (arith, l .loop .inv .0), l .loop .inv .1)
 
 slice-aggregate-store : tie.Need-slice-aggregate-store Inv-loop μ-loop
 slice-aggregate-store c = sym (wide (c .before .before .before .before .before .before))
@@ -87,8 +87,8 @@ store-requires c κs =
     let rr = c .before .before .before .before .before .before in
     let l = At (rr .before .before) in
     let s = l .before .before in (
-      rw (held-length (l .loop .inv .1 .inFirst) (s .pre .3)) (s .pre .3),
-      held-within (l .loop .inv .1 .inFirst) (s .pre .3),
+      rw (held-length (l .loop .inv .2 .inFirst) (s .pre .3)) (s .pre .3),
+      held-within (l .loop .inv .2 .inFirst) (s .pre .3),
       s .pre .1,
       omega (arith, wide rr),
     )
@@ -101,8 +101,8 @@ loop-less c =
     let e = rr .before .before in
     let l = At e in
     let s = l .before .before in
-    let given = subst (Given rr) (k .r .given .1) (rr .read-row .ensures) in
-    omega (arith, rows-onward (l .loop .inv .1) (e .before .before .if1 .taken) (goes e) (given .1), e .before .before .if1 .taken)
+    let given = subst (Given rr) (k .r .given .1) (rr .read-row .ensures .0) in
+    omega (arith, rows-onward (l .loop .inv .2) (e .before .before .if1 .taken) (goes e) (given .1), e .before .before .if1 .taken)
 
 loop-again : tie.Need-loop-again Inv-loop μ-loop
 loop-again c =
@@ -112,9 +112,10 @@ loop-again c =
     let e = rr .before .before in
     let l = At e in
     let s = l .before .before in
-    let given = subst (Given rr) (k .r .given .1) (rr .read-row .ensures) in (
+    let given = subst (Given rr) (k .r .given .1) (rr .read-row .ensures .0) in (
       wide rr,
-      rows-first (l .loop .inv .1) (e .before .before .if1 .taken) (goes e) (given .1) (given .0) (numbers-length (s .pre .1) (rowAfter rr))
+      rr .read-row .ensures .1,
+      rows-first (l .loop .inv .2) (e .before .before .if1 .taken) (goes e) (given .1) (given .0) (numbers-length (s .pre .1) (rowAfter rr))
           (s .pre .1 .several) (s .pre .3) (st .store .ensures),
     )
 
@@ -126,8 +127,8 @@ store-requires-2 c κs =
     let rr = c .before .before .before .before .before .before in
     let l = At (rr .before .before) in
     let s = l .before .before in (
-      rw (held-length (l .loop .inv .1 .inSecond) (s .pre .4)) (s .pre .4),
-      held-within (l .loop .inv .1 .inSecond) (s .pre .4),
+      rw (held-length (l .loop .inv .2 .inSecond) (s .pre .4)) (s .pre .4),
+      held-within (l .loop .inv .2 .inSecond) (s .pre .4),
       s .pre .1,
       omega (arith, wide rr),
     )
@@ -140,8 +141,8 @@ loop-less-2 c =
     let e = rr .before .before in
     let l = At e in
     let s = l .before .before in
-    let given = subst (Given rr) (k .r2 .given .1) (rr .read-row .ensures) in
-    omega (arith, rows-onward (l .loop .inv .1) (e .before .before .if1 .taken) (goes e) (given .1), e .before .before .if1 .taken)
+    let given = subst (Given rr) (k .r2 .given .1) (rr .read-row .ensures .0) in
+    omega (arith, rows-onward (l .loop .inv .2) (e .before .before .if1 .taken) (goes e) (given .1), e .before .before .if1 .taken)
 
 loop-again-2 : tie.Need-loop-again-2 Inv-loop μ-loop
 loop-again-2 c =
@@ -151,41 +152,42 @@ loop-again-2 c =
     let e = rr .before .before in
     let l = At e in
     let s = l .before .before in
-    let given = subst (Given rr) (k .r2 .given .1) (rr .read-row .ensures) in (
+    let given = subst (Given rr) (k .r2 .given .1) (rr .read-row .ensures .0) in (
       wide rr,
-      rows-second (l .loop .inv .1) (e .before .before .if1 .taken) (goes e) (given .1) (given .0) (numbers-length (s .pre .1) (rowAfter rr))
+      rr .read-row .ensures .1,
+      rows-second (l .loop .inv .2) (e .before .before .if1 .taken) (goes e) (given .1) (given .0) (numbers-length (s .pre .1) (rowAfter rr))
           (s .pre .1 .several) (s .pre .4) (st .store2 .ensures),
     )
 
 same-length-3 : tie.Need-same-length-3 Inv-loop μ-loop
-same-length-3 c = let l = At (c .before .before .before .before .before) in held-length (l .loop .inv .1 .inFirst) (l .before .before .pre .3)
+same-length-3 c = let l = At (c .before .before .before .before .before) in held-length (l .loop .inv .2 .inFirst) (l .before .before .pre .3)
 
 same-length-4 : tie.Need-same-length-4 Inv-loop μ-loop
-same-length-4 c = let l = At (c .before .before .before .before .before) in held-length (l .loop .inv .1 .inSecond) (l .before .before .pre .4)
+same-length-4 c = let l = At (c .before .before .before .before .before) in held-length (l .loop .inv .2 .inSecond) (l .before .before .pre .4)
 
 returns-2 : tie.Need-returns-2 Inv-loop μ-loop
 returns-2 c =
     let rr = c .before .before .before in
     let e = rr .before .before in
-    rows-bad (At e .loop .inv .1) (e .before .before .if1 .taken) (goes e) (subst (Given rr) (c .enum-told .given .1) (rr .read-row .ensures))
+    rows-bad (At e .loop .inv .2) (e .before .before .if1 .taken) (goes e) (subst (Given rr) (c .enum-told .given .1) (rr .read-row .ensures .0))
 
 same-length-5 : tie.Need-same-length-5 Inv-loop μ-loop
-same-length-5 c = let l = c .before .before .before in held-length (l .loop .inv .1 .inFirst) (l .before .before .pre .3)
+same-length-5 c = let l = c .before .before .before in held-length (l .loop .inv .2 .inFirst) (l .before .before .pre .3)
 
 same-length-6 : tie.Need-same-length-6 Inv-loop μ-loop
-same-length-6 c = let l = c .before .before .before in held-length (l .loop .inv .1 .inSecond) (l .before .before .pre .4)
+same-length-6 c = let l = c .before .before .before in held-length (l .loop .inv .2 .inSecond) (l .before .before .pre .4)
 
 returns-3 : tie.Need-returns-3 Inv-loop μ-loop
-returns-3 c = let l = c .before .before .before in rows-all (l .loop .inv .1) (c .before .if1 .left) (c .if3 .taken)
+returns-3 c = let l = c .before .before .before in rows-all (l .loop .inv .2) (c .before .if1 .left) (c .if3 .taken)
 
 same-length-7 : tie.Need-same-length-7 Inv-loop μ-loop
-same-length-7 c = let l = c .before .before .before in held-length (l .loop .inv .1 .inFirst) (l .before .before .pre .3)
+same-length-7 c = let l = c .before .before .before in held-length (l .loop .inv .2 .inFirst) (l .before .before .pre .3)
 
 same-length-8 : tie.Need-same-length-8 Inv-loop μ-loop
-same-length-8 c = let l = c .before .before .before in held-length (l .loop .inv .1 .inSecond) (l .before .before .pre .4)
+same-length-8 c = let l = c .before .before .before in held-length (l .loop .inv .2 .inSecond) (l .before .before .pre .4)
 
 returns-4 : tie.Need-returns-4 Inv-loop μ-loop
-returns-4 c = let l = c .before .before .before in rows-short (l .loop .inv .1) (c .before .if1 .left) (c .if3 .left)
+returns-4 c = let l = c .before .before .before in rows-short (l .loop .inv .2) (c .before .if1 .left) (c .if3 .left)
 
 pub read-rows-spec : {M : Type 1} → statement M
 read-rows-spec =

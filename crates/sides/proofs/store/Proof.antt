@@ -23,8 +23,8 @@ inner : (c : tie.In-loop Inv-loop μ-loop) → c .before .loop .j + 1 < 5
 inner c = let s = c .before .before .before in omega (arith, s .pre .2 .few, s .pre .2 .several)
 
 -- the column of the next number
-column : (c : tie.In-loop Inv-loop μ-loop) → let s = c .before .before .before in getD (s .args .t5 .at) (c .before .loop .j + 1) 0 < 5
-column c = let s = c .before .before .before in omega (arith, s .pre .2 .within (c .before .loop .j + 1) (omega (arith, s .pre .2 .several)), s .pre .2 .few)
+column : (c : tie.In-loop Inv-loop μ-loop) → let s = c .before .before .before in getD (s .args .t5 .at) (c .before .loop .j + 1) 0 < 6
+column c = let s = c .before .before .before in omega (arith, s .pre .2 .within (c .before .loop .j + 1) (omega (arith, s .pre .2 .several)), s .pre .2 .fewFields)
 
 -- the next number has its place
 within : (c : tie.In-loop Inv-loop μ-loop) → let s = c .before .before .before in s .args .n + c .before .loop .j < length (s .args .table .now)

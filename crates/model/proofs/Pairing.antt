@@ -2,7 +2,7 @@
 use mathlib.Core.Path.{_≡_}
 use mathlib.Core.Bool.{Bool, not, _&&_}
 use mathlib.Core.Logic.{_≢_, _⊎_, ⊎-elim}
-use mathlib.Core.List.{List, [], flatMap}
+use mathlib.Core.List.{List, [], _∷_, flatMap}
 use mathlib.Core.Option.{Option}
 use Prim.Native.Nat.{ℕ, _+_, _*_, _<_}
 use lib.IntN.{ℤ}
@@ -21,7 +21,7 @@ use Rattle.model.proofs.Settled.{Settled, settled-next, settled-when, s
 use Rattle.model.proofs.GraphChecks.{shape-settled, isRoot?, isLeaf?, graph-settled}
 use Rattle.model.specs.Taken.{Taken}
 use Rattle.model.proofs.Taken.{graph-taken}
-use Rattle.model.proofs.SingleChecks.{manyPaths?}
+use Rattle.model.proofs.SingleChecks.{manyPathsOne?}
 use Rattle.model.proofs.Visits.{visits-in}
 
 -- ---- pair rows
@@ -77,11 +77,11 @@ pub visit-settled : {s i : Graph} (v : Visit) → Taken s → Taken i → Leaf s
 unfolding checkVisit visitConditions
 visit-settled {s} {i} v k j f d =
     let place = v .root .row * rootStride + v .leaf .row in
-    settled-next (when (manyPaths s (v .root .spec) (v .leaf .spec)) 10 1 place) (when (manyPaths i (v .root .impl) (v .leaf .impl)) 10 3 place)
-    (refuse 10 1 place (ManyPaths s (v .root .spec) (v .leaf .spec)))
-    (refuse 10 3 place (ManyPaths i (v .root .impl) (v .leaf .impl)))
-    (settled-when 10 1 place (manyPaths? k f))
-    (λ n. settled-when 10 3 place (manyPaths? j d))
+    settled-next (when (manyPaths s (v .root .spec) (v .leaf .spec ∷ [])) 10 1 place) (when (manyPaths i (v .root .impl) (v .leaf .impl ∷ [])) 10 3 place)
+    (refuse 10 1 place (ManyPaths s (v .root .spec) (v .leaf .spec ∷ [])))
+    (refuse 10 3 place (ManyPaths i (v .root .impl) (v .leaf .impl ∷ [])))
+    (settled-when 10 1 place (manyPathsOne? k f))
+    (λ n. settled-when 10 3 place (manyPathsOne? j d))
 
 -- ---- the pairing
 
@@ -95,7 +95,7 @@ pub record Paired (t : Tables) : Type 0 where
   pub rootOnce : (p : Pair) → p ∈ rootRows t → PairedBefore (rootRows t) p → ⊥
   pub leafOnce : (p : Pair) → p ∈ leafRows t → PairedBefore (leafRows t) p → ⊥
   pub fewPaths : (v : Visit) → v ∈ visits (rootRows t) (leafRows t)
-      → (ManyPaths (specGraph t) (v .root .spec) (v .leaf .spec) → ⊥) × (ManyPaths (implGraph t) (v .root .impl) (v .leaf .impl) → ⊥)
+      → (ManyPaths (specGraph t) (v .root .spec) (v .leaf .spec ∷ []) → ⊥) × (ManyPaths (implGraph t) (v .root .impl) (v .leaf .impl ∷ []) → ⊥)
 
 module _ (t : Tables) where
   -- the conditions of the root rows, of the leaf rows and of the visits, and their checks

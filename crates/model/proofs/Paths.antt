@@ -1,7 +1,7 @@
 -- The listed paths are exactly the ways from root to leaf, each listed once; there are more than 1,024 of them exactly where more are listed.
 use mathlib.Core.Path.{_≡_, refl, sym, ap, subst}
 use mathlib.Core.Bool.{Bool, true, false}
-use mathlib.Core.List.{List, [], _∷_, map, flatMap, List·Memᴰ·head, List·Memᴰ·not-nil, List·Memᴰ·eq-of-singleton, List·Memᴰ·cases-cons}
+use mathlib.Core.List.{List, [], _∷_, map, flatMap, List·Memᴰ·head, List·Memᴰ·not-nil, List·Memᴰ·eq-of-singleton, List·Memᴰ·cases-cons, append-nil}
 use mathlib.Core.Logic.{_≢_, _↔_, _⊎_, inl, inr, ⊎-elim}
 use Prim.Native.Nat.{ℕ, zero, suc, _≤_, _<_}
 use native.Mathlib.Nat.{lt-irrefl, le-of-lt}
@@ -18,6 +18,7 @@ use Rattle.model.specs.Rows.{Edge, edgesFrom, edgeRows}
 use Rattle.model.specs.Graph.{Graph}
 use Rattle.model.specs.Paths.{Way, stay, over, ManyPaths, LongChain}
 use Rattle.model.specs.Runs.{leaving, pathsWithin, paths}
+use Rattle.model.specs.Checks.{manyPaths}
 use Rattle.lists.proofs.Distinct.{distinct-length, keep-distinct, cond-distinct, map-distinct, flatMap-distinct}
 
 -- what a graph that meets no condition for a refusal and a leaf of it have: no long chain, and no edge that leaves the leaf
@@ -140,9 +141,33 @@ pub paths-distinct : (g : Graph) (r l : ℤ) → Distinct (g .edges) → Distinc
 unfolding paths
 paths-distinct g r l d = within-distinct maxChain g r l d
 
--- there are more than 1,024 paths exactly where more than 1,024 are listed
-pub many-paths : {g : Graph} {r l : ℤ} → Fit g l → Distinct (g .edges) → ManyPaths g r l ↔ (maxPaths < length (paths g r l))
-many-paths {g} {r} {l} f d = (
-  λ m. let k = distinct-length (m .distinct) (paths g r l) (λ p n. paths-complete f (m .each p n)) in omega (arith, k, m .many),
-  λ h. record { paths = paths g r l; many = h; distinct = paths-distinct g r l d; each = λ p n. paths-sound n },
+-- edges from a node lead to one node
+way-end : {g : Graph} {v l m : ℤ} {p : List Edge} → Way g v p l → Way g v p m → l ≡ m
+way-end stay stay = refl
+way-end (over e i q w) (over d j s x) = way-end w x
+
+-- there are more than 1,024 paths to some leaves exactly where more than 1,024 are listed for each of them together
+pub many-paths : {g : Graph} {r : ℤ} {ls : List ℤ} → ((l : ℤ) → l ∈ ls → Fit g l) → Distinct ls → Distinct (g .edges)
+    → ManyPaths g r ls ↔ (maxPaths < length (flatMap (paths g r) ls))
+many-paths {g} {r} {ls} f once d = (
+  λ m.
+      let k = distinct-length (m .distinct) (flatMap (paths g r) ls) (λ p n.
+      let (l, i, w) = m .each p n in flatMap-in (paths g r) i (paths-complete (f l i) w)) in
+      omega (arith, k, m .many),
+  λ h. record {
+    paths = flatMap (paths g r) ls;
+    many = h;
+    distinct = flatMap-distinct (paths g r) (λ l. paths-distinct g r l d) (λ l m p i j. way-end (paths-sound i) (paths-sound j)) once;
+    each = λ p n. let (l, i, k) = flatMap-out (paths g r) ls n in (l, i, paths-sound k);
+  },
 )
+
+-- to one leaf
+pub paths-one : (g : Graph) (r l : ℤ) → flatMap (paths g r) (l ∷ []) ≡ paths g r l
+unfolding flatMap
+paths-one g r l = append-nil (paths g r l)
+
+-- there are more than 1,024 exactly where the test says so
+pub many-one : (g : Graph) (r l : ℤ) → manyPaths g r (l ∷ []) ≡ ltb maxPaths (length (paths g r l))
+unfolding manyPaths
+many-one g r l = ap (λ ps. ltb maxPaths (length ps)) (paths-one g r l)

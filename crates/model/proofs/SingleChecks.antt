@@ -1,7 +1,8 @@
 -- The checks of walk and list settle their conditions: a graph, a root and a leaf of it, and the room for the output.
+use mathlib.Core.Path.{sym, subst}
 use mathlib.Core.Bool.{not}
 use mathlib.Core.Logic.{Iff·symm}
-use mathlib.Core.List.{List}
+use mathlib.Core.List.{List, [], _∷_, flatMap, List·Memᴰ·not-nil, List·Memᴰ·eq-of-singleton}
 use Prim.Native.Nat.{ℕ}
 use lib.IntN.{ℤ}
 use lib.ListN.{length}
@@ -12,6 +13,7 @@ use Rattle.model.specs.Runs.{paths, listOf}
 use Rattle.model.specs.Refusals.{refuse, _next_, graphConditions, namedConditions, outputConditions, singleConditions}
 use Rattle.model.specs.Checks.{when, _then_, isRoot, isLeaf, manyPaths, checkGraph, checkNamed, checkOutput, checkSingle}
 use Rattle.model.specs.Calls.{leafBits, numbersOf, walkAnswer, listAnswer}
+use Rattle.lists.specs.Lists.{_∈_, Distinct, none, more}
 use Rattle.lists.proofs.Decisions.{Decides, decides-as, test-stable, decides-not, decides-lt}
 use Rattle.model.proofs.Settled.{Settled, settled-next, settled-when, Exact, answer-exact}
 use Rattle.model.proofs.Paths.{many-paths}
@@ -19,22 +21,27 @@ use Rattle.model.proofs.GraphChecks.{isRoot?, isLeaf?, graph-settled}
 use Rattle.model.specs.Taken.{Taken}
 use Rattle.model.proofs.Taken.{graph-taken, taken-fit}
 
--- the test for more than 1,024 paths to a leaf of a taken graph
-pub manyPaths? : {g : Graph} {r l : ℤ} → Taken g → Leaf g l → Decides (ManyPaths g r l) (manyPaths g r l)
+-- the test for more than 1,024 paths to leaves of a taken graph
+pub manyPaths? : {g : Graph} {r : ℤ} {ls : List ℤ} → Taken g → ((l : ℤ) → l ∈ ls → Leaf g l) → Distinct ls → Decides (ManyPaths g r ls) (manyPaths g r ls)
 unfolding manyPaths
-manyPaths? {g} {r} {l} k f = decides-as (Iff·symm (many-paths (taken-fit k f) (k .distinct))) (decides-lt maxPaths (length (paths g r l)))
+manyPaths? {g} {r} {ls} k f once =
+    decides-as (Iff·symm (many-paths (λ l m. taken-fit k (f l m)) once (k .distinct))) (decides-lt maxPaths (length (flatMap (paths g r) ls)))
+
+-- and to one leaf
+pub manyPathsOne? : {g : Graph} {r l : ℤ} → Taken g → Leaf g l → Decides (ManyPaths g r (l ∷ [])) (manyPaths g r (l ∷ []))
+manyPathsOne? {g} k f = manyPaths? k (λ m i. subst (Leaf g) (sym (List·Memᴰ·eq-of-singleton i)) f) (more List·Memᴰ·not-nil none)
 
 -- the checks of a named root and leaf of a taken graph settle their conditions
 pub named-settled : {g : Graph} (r l : ℤ) → Taken g → Settled (checkNamed g r l) (namedConditions g r l)
 unfolding checkNamed namedConditions
 named-settled {g} r l k =
     let leaf = when (not (isLeaf g l)) 7 5 0 in
-    let many = when (manyPaths g r l) 10 1 0 in
+    let many = when (manyPaths g r (l ∷ [])) 10 1 0 in
     let Leafless = refuse 7 5 0 (Leaf g l → ⊥) in
-    let Many = refuse 10 1 0 (ManyPaths g r l) in
+    let Many = refuse 10 1 0 (ManyPaths g r (l ∷ [])) in
     let noRoot = settled-when 7 4 0 (decides-not (isRoot? g r)) in
     let noLeaf = settled-when 7 5 0 (decides-not (isLeaf? g l)) in
-    let fromLeaf = settled-next leaf many Leafless Many noLeaf (λ h. settled-when 10 1 0 (manyPaths? k (test-stable (isLeaf? g l) (h .0)))) in
+    let fromLeaf = settled-next leaf many Leafless Many noLeaf (λ h. settled-when 10 1 0 (manyPathsOne? k (test-stable (isLeaf? g l) (h .0)))) in
     settled-next (when (not (isRoot g r)) 7 4 0) (leaf then many) (refuse 7 4 0 (Root g r → ⊥)) (Leafless next Many) noRoot (λ h. fromLeaf)
 
 -- the check of the output's length settles its condition

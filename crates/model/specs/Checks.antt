@@ -1,7 +1,7 @@
 -- The checks, computed: for each call the first refusal in the order of its conditions, or none. Assumes nothing.
 -- Each check stands beside a list of conditions of the module Refusals and follows its shape.
 use mathlib.Core.Bool.{Bool, true, false, not, cond, _&&_, _||_}
-use mathlib.Core.List.{List, [], _∷_, map}
+use mathlib.Core.List.{List, [], _∷_, map, flatMap}
 use mathlib.Core.Option.{Option, none, some}
 use Prim.Native.Nat.{ℕ, zero, suc, _+_, _*_, _%_}
 use lib.Dec.{eqb, ltb}
@@ -131,13 +131,13 @@ isRoot g v =
 unfoldable pub isLeaf : Graph → ℤ → Bool
 isLeaf g v = isRow g v && eqZ (node g v .kind) block
 
--- more than 1,024 paths lead from r to l
-unfoldable pub manyPaths : Graph → ℤ → ℤ → Bool
-manyPaths g r l = ltb maxPaths (length (paths g r l))
+-- more than 1,024 paths lead from r to these leaves, none of which stands twice
+unfoldable pub manyPaths : Graph → ℤ → List ℤ → Bool
+manyPaths g r ls = ltb maxPaths (length (flatMap (paths g r) ls))
 
 -- 7 for the root, 7 for the leaf, 10
 unfoldable pub checkNamed : Graph → ℤ → ℤ → Option Refusal
-checkNamed g r l = when (not (isRoot g r)) 7 4 0 then when (not (isLeaf g l)) 7 5 0 then when (manyPaths g r l) 10 1 0
+checkNamed g r l = when (not (isRoot g r)) 7 4 0 then when (not (isLeaf g l)) 7 5 0 then when (manyPaths g r (l ∷ [])) 10 1 0
 
 -- ---- 11: the output is longer than its buffer
 
@@ -158,8 +158,8 @@ checkPair t spec impl rows p = when (not (spec (p .spec) && impl (p .impl))) 7 t
 -- 10 for one pair, specification first
 unfoldable pub checkVisit : Graph → Graph → Visit → Option Refusal
 checkVisit s i v =
-    when (manyPaths s (v .root .spec) (v .leaf .spec)) 10 1 (v .root .row * rootStride + v .leaf .row)
-    then when (manyPaths i (v .root .impl) (v .leaf .impl)) 10 3 (v .root .row * rootStride + v .leaf .row)
+    when (manyPaths s (v .root .spec) (v .leaf .spec ∷ [])) 10 1 (v .root .row * rootStride + v .leaf .row)
+    then when (manyPaths i (v .root .impl) (v .leaf .impl ∷ [])) 10 3 (v .root .row * rootStride + v .leaf .row)
 
 -- shapes of 4 and 5, 9 for 4 and for 5, rows of 4, rows of 5, then 10
 unfoldable pub checkPairing : Tables → Option Refusal

@@ -27,12 +27,13 @@ pub data Way (g : Graph) : ℤ → List Edge → ℤ → Type 0 where
   over : {v w : ℤ} {p : List Edge} (e : Edge) → e ∈ g .edges → e .from ≡ v → Way g (e .to) p w → Way g v (e ∷ p) w
 
 -- a path is a way from a root to a leaf (000, 2.14). An edge row has its place in the table, so parallel edges make distinct paths.
--- There are more than 1,024 paths from r to l: more than 1,024 distinct lists of edge rows, each of them a path. Clipped paths count
-pub record ManyPaths (g : Graph) (r l : ℤ) : Type 0 where
+-- There are more than 1,024 paths from r to these leaves: more than 1,024 distinct lists of edge rows, each of them a path to one of the leaves. Clipped
+-- paths count
+pub record ManyPaths (g : Graph) (r : ℤ) (ls : List ℤ) : Type 0 where
   pub paths : List (List Edge)
   pub many : maxPaths < length paths
   pub distinct : Distinct paths
-  pub each : (p : List Edge) → p ∈ paths → Way g r p l
+  pub each : (p : List Edge) → p ∈ paths → (l : ℤ) × (l ∈ ls) × Way g r p l
 
 -- a cycle: a way of at least one edge that ends where it starts (000, 2.4.4)
 pub record Cycle (g : Graph) : Type 0 where

@@ -114,7 +114,7 @@ graphConditions t ns es =
 -- ---- a root and a leaf of a single graph: 7 the named node is no root, or no leaf; 10 more than 1,024 paths
 
 unfoldable pub namedConditions : Graph → ℤ → ℤ → List Condition
-namedConditions g r l = refuse 7 4 0 (Root g r → ⊥) next refuse 7 5 0 (Leaf g l → ⊥) next refuse 10 1 0 (ManyPaths g r l)
+namedConditions g r l = refuse 7 4 0 (Root g r → ⊥) next refuse 7 5 0 (Leaf g l → ⊥) next refuse 10 1 0 (ManyPaths g r (l ∷ []))
 
 -- ---- 11: the output is longer than its buffer
 
@@ -139,8 +139,8 @@ pairConditions t Spec Impl rows p = refuse 7 t (p .row) (NotPaired Spec Impl p) 
 -- 10 in visiting order, specification first
 unfoldable pub visitConditions : Graph → Graph → Visit → List Condition
 visitConditions s i v =
-    refuse 10 1 (v .root .row * rootStride + v .leaf .row) (ManyPaths s (v .root .spec) (v .leaf .spec))
-    next refuse 10 3 (v .root .row * rootStride + v .leaf .row) (ManyPaths i (v .root .impl) (v .leaf .impl))
+    refuse 10 1 (v .root .row * rootStride + v .leaf .row) (ManyPaths s (v .root .spec) (v .leaf .spec ∷ []))
+    next refuse 10 3 (v .root .row * rootStride + v .leaf .row) (ManyPaths i (v .root .impl) (v .leaf .impl ∷ []))
 
 -- shape of 4, of 5, 9 for 4, 9 for 5 (no root pair, no leaf pair), rows of 4, rows of 5 (7 before 8), then 10
 unfoldable pub pairingConditions : Tables → List Condition

@@ -1,7 +1,7 @@
 -- The answer to a named root and leaf: what each test of them gives, and what they are where they are taken.
-use mathlib.Core.Path.{_≡_, refl, _∙_}
+use mathlib.Core.Path.{_≡_, refl, sym, _∙_}
 use mathlib.Core.Bool.{Bool, true, false, not}
-use mathlib.Core.List.{List, map}
+use mathlib.Core.List.{List, [], _∷_, map}
 use mathlib.Core.Option.{Option, none, some}
 use Prim.Native.Nat.{ℕ, _≤_, _<_}
 use native.Mathlib.Omega.{arith}
@@ -19,6 +19,7 @@ use Rattle.model.specs.Checks.{when, _then_, isRoot, isLeaf, manyPaths, checkGr
 use Rattle.model.specs.Calls.{refused, full, answer}
 use Rattle.model.specs.Answers.{numbered}
 use Rattle.model.proofs.GraphChecks.{isRoot?, isLeaf?}
+use Rattle.model.proofs.Paths.{many-one}
 use Rattle.tables.proofs.Rows.{nodes-length}
 use Rattle.tables.proofs.Checks.{checked}
 use Rattle.depth.specs.Order.{edgeOrder}
@@ -56,13 +57,13 @@ module _ (g : Graph) (r l : ℤ) where
 
   -- more paths than the limit are refused
   pub named-many : isRoot g r ≡ true → isLeaf g l ≡ true → maxPaths < length (paths g r l) → refused (numbered 10 1 0) ≡ checked (checkNamed g r l)
-  unfolding answer when _then_ checkNamed manyPaths
-  named-many e f h = rw (e, f, lt-ltb maxPaths (length (paths g r l)) h)
+  unfolding answer when _then_ checkNamed
+  named-many e f h = rw (e, f, many-one g r l, lt-ltb maxPaths (length (paths g r l)) h)
 
   -- a root and a leaf with no more paths than the limit are taken
   pub named-taken : isRoot g r ≡ true → isLeaf g l ≡ true → length (paths g r l) ≤ maxPaths → full tt ≡ checked (checkNamed g r l)
-  unfolding answer when _then_ checkNamed manyPaths
-  named-taken e f h = rw (e, f, le-ltb maxPaths (length (paths g r l)) h)
+  unfolding answer when _then_ checkNamed
+  named-taken e f h = rw (e, f, many-one g r l, le-ltb maxPaths (length (paths g r l)) h)
 
 -- ---- checks that give no refusal
 
@@ -81,17 +82,17 @@ then-both (some r) b e = let z : _≡_ {A = ℕ} 0 1 = cc in absurd (omega arith
 -- ---- a root and a leaf that are taken
 
 module _ (g : Graph) (r l : ℤ) (taken : full tt ≡ checked (checkNamed g r l)) where
-  named-parts : (isRoot g r ≡ true) × (isLeaf g l ≡ true) × (manyPaths g r l ≡ false)
+  named-parts : (isRoot g r ≡ true) × (isLeaf g l ≡ true) × (manyPaths g r (l ∷ []) ≡ false)
   unfolding checkNamed
   named-parts =
       let root = when (not (isRoot g r)) 7 4 0 in
       let leaf = when (not (isLeaf g l)) 7 5 0 in
-      let many = when (manyPaths g r l) 10 1 0 in
+      let many = when (manyPaths g r (l ∷ [])) 10 1 0 in
       let a = then-both root (leaf then many) taken in
       let b = then-both leaf many (a .1) in (
         not-false (isRoot g r) (when-none (not (isRoot g r)) 7 4 0 (a .0)),
         not-false (isLeaf g l) (when-none (not (isLeaf g l)) 7 5 0 (b .0)),
-        when-none (manyPaths g r l) 10 1 0 (b .1),
+        when-none (manyPaths g r (l ∷ [])) 10 1 0 (b .1),
       )
 
   -- the named root is one
@@ -104,5 +105,4 @@ module _ (g : Graph) (r l : ℤ) (taken : full tt ≡ checked (checkNamed g r l)
 
   -- there are no more paths than the limit
   pub named-few : length (paths g r l) ≤ maxPaths
-  unfolding manyPaths
-  named-few = ltb-false maxPaths (length (paths g r l)) (named-parts .2)
+  named-few = ltb-false maxPaths (length (paths g r l)) (sym (many-one g r l) ∙ named-parts .2)

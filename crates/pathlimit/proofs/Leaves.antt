@@ -1,7 +1,7 @@
 -- Refusal 10 of a root row, leaf row by leaf row: the counts of the paths from its roots give the refusal that its paths have.
 use mathlib.Core.Path.{_≡_, sym, ap, subst, _∙_}
 use mathlib.Core.Bool.{Bool, true, false}
-use mathlib.Core.List.{List, []}
+use mathlib.Core.List.{List, [], _∷_}
 use Prim.Native.Nat.{ℕ, _+_, _*_, _/_, _≤_, _<_}
 use native.Mathlib.Omega.{arith}
 use borrow.Author.Tests.{lt-ltb, le-ltb}
@@ -16,6 +16,7 @@ use Rattle.model.specs.Rows.{Pair}
 use Rattle.model.specs.Graph.{graphOf, NodeRow}
 use Rattle.model.specs.Paths.{Way, stay}
 use Rattle.model.specs.Checks.{manyPaths}
+use Rattle.model.proofs.Paths.{many-one}
 use Rattle.reach.specs.Counting.{pathCount, stopped}
 use Rattle.reach.specs.Links.{countAt}
 use Rattle.depth.specs.Passes.{Within}
@@ -63,9 +64,10 @@ module _ {ns es : List ℤ} {plan : List ℕ} {ls : List ℤ} (leading : Leading
 
   -- so that its count is past the limit exactly where it has too many paths
   pub leaf-many : {counts : List ℕ} {root : ℕ} → Counted ns es plan root counts → (l : ℤ) → l ∈ ls → NodeRow (graphOf ns es) l
-      → ltb maxPaths (countAt counts l) ≡ manyPaths (graphOf ns es) (pos root) l
-  unfolding countAt manyPaths pathCount graphOf
+      → ltb maxPaths (countAt counts l) ≡ manyPaths (graphOf ns es) (pos root) (l ∷ [])
+  unfolding countAt pathCount graphOf
   leaf-many {root = root} counted (pos v) m r =
       ap (ltb maxPaths) (counted .each v (omega (arith, ints, r .high)) (leaf-entering (pos v) m))
       ∙ stopped-test (pathCount (graphOf ns es) (pos root) (pos v))
+      ∙ sym (many-one (graphOf ns es) (pos root) (pos v))
   leaf-many counted (negsuc v) m r = absurd (omega (arith, ints, r .low))

@@ -19,6 +19,7 @@ use Rattle.model.specs.Compare.{Tables, specGraph, implGraph, rootRows, leafRow
 use Rattle.model.specs.Checks.{when, _then_, manyPaths, checkVisit}
 use Rattle.model.proofs.Checks.{first-none}
 use Rattle.model.proofs.Visits.{visits-in}
+use Rattle.model.proofs.Paths.{many-one}
 use Rattle.tables.specs.Tables.{edgeAt}
 use Rattle.reach.specs.Counting.{pathCount}
 use Rattle.entering.specs.Entering.{Covered, entering}
@@ -50,7 +51,7 @@ unplanned-paths {ns} {es} plan {r} {l} k root leaf covered bare =
 
 -- where neither plan has an edge no pair is refused
 pub unplanned-taken : {t : Tables} {sp mp : List ℕ} → Plans t sp mp → plannedCount sp + plannedCount mp ≡ 0 → checkPaths t ≡ none
-unfolding when _then_ checkVisit manyPaths
+unfolding when _then_ checkVisit
 unplanned-taken {t} {sp} {mp} k bare =
     first-none (checkVisit (specGraph t) (implGraph t)) (visits (rootRows t) (leafRows t))
     (λ v m.
@@ -60,6 +61,8 @@ unplanned-taken {t} {sp} {mp} k bare =
     let spec = leaf-entering (k .specLeading) (v .leaf .spec) (map-in (λ (x : Pair). x .spec) (w .1)) in
     let impl = leaf-entering (k .implLeading) (v .leaf .impl) (map-in (λ (x : Pair). x .impl) (w .1)) in
     rw (
+      many-one (specGraph t) (v .root .spec) (v .leaf .spec),
+      many-one (implGraph t) (v .root .impl) (v .leaf .impl),
       unplanned-paths sp (k .inputs .spec) (root .0) (leaf .0) spec (omega (arith, bare)),
       unplanned-paths mp (k .inputs .impl) (root .1) (leaf .1) impl (omega (arith, bare)),
     ) refl)

@@ -1,7 +1,7 @@
 -- Tables that the checks take: shapes, pairs and paths.
 use mathlib.Core.Path.{_≡_, subst}
 use mathlib.Core.Bool.{Bool, true, false}
-use mathlib.Core.List.{List, flatMap}
+use mathlib.Core.List.{List, [], _∷_, flatMap}
 use mathlib.Core.Option.{none}
 use Prim.Native.Nat.{ℕ, _≤_, _<_}
 use native.Mathlib.Omega.{arith}
@@ -23,6 +23,7 @@ use Rattle.model.proofs.Settled.{Settled}
 use Rattle.model.proofs.GraphChecks.{isRoot?, isLeaf?}
 use Rattle.model.proofs.Pairing.{pairs-settled, pairs-paired}
 use Rattle.model.proofs.Taken.{shape-taken}
+use Rattle.model.proofs.Paths.{many-one}
 use Rattle.pairing.specs.Pairs.{checkPairs, checkSizes, checkPairingRows}
 use Rattle.pathlimit.specs.Checks.{checkPaths}
 use Rattle.pathlimit.specs.Inputs.{Inputs, AllFew}
@@ -65,10 +66,12 @@ when-few count n t r = go (ltb maxPaths count) (ltb? maxPaths count)
 
 -- where no pair is refused, each has few paths in both graphs
 pub paths-few : (t : Tables) → checkPaths t ≡ none → AllFew t
-unfolding checkVisit manyPaths
+unfolding checkVisit
 paths-few t e v m =
     let q = first-each (checkVisit (specGraph t) (implGraph t)) (visits (rootRows t) (leafRows t)) e v m in
-    let p = then-none (when (manyPaths (specGraph t) (v .root .spec) (v .leaf .spec)) 10 1 _) _ q in
+    let p = then-none (when (manyPaths (specGraph t) (v .root .spec) (v .leaf .spec ∷ [])) 10 1 _) _ q in
     let spec = length (paths (specGraph t) (v .root .spec) (v .leaf .spec)) in
-    let impl = length (paths (implGraph t) (v .root .impl) (v .leaf .impl)) in
-    (when-few spec 10 1 _ (p .0), when-few impl 10 3 _ (p .1))
+    let impl = length (paths (implGraph t) (v .root .impl) (v .leaf .impl)) in (
+      when-few spec 10 1 _ (rw (many-one (specGraph t) (v .root .spec) (v .leaf .spec)) at (p .0)),
+      when-few impl 10 3 _ (rw (many-one (implGraph t) (v .root .impl) (v .leaf .impl)) at (p .1)),
+    )

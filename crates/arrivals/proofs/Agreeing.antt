@@ -1,12 +1,12 @@
 -- A sweep's state depends on the numbers before the free part of the arena alone.
 use mathlib.Core.Path.{_≡_, refl, sym, ap, _∙_, subst}
 use mathlib.Core.List.{List, _++_, map}
-use Prim.Native.Nat.{ℕ, zero, suc, _+_, _*_, _≤_, _<_}
+use Prim.Native.Nat.{ℕ, zero, suc, _+_, _-_, _*_, _≤_, _<_}
 use native.Mathlib.Omega.{arith}
 use lib.IntN.{ℤ, pos, natAbs}
 use lib.Signed.{leZ}
 use lib.ListN.{length, getD, take, drop}
-use lib.Seq.{getD-take, getD-drop, length-take-le}
+use lib.Seq.{getD-take, getD-drop, drop-at, length-take-le}
 use lib.ListN.{List·getD-append}
 use Rattle.integers.proofs.Linear.{ints}
 use Rattle.model.specs.Limits.{maxNodes}
@@ -16,11 +16,12 @@ use Rattle.model.specs.Taken.{TakenTables}
 use Rattle.tables.proofs.Rows.{nodes-length}
 use Rattle.sorting.specs.declared.Row.{Row}
 use Rattle.sorting.specs.Rows.{rowWidth, rowsOf, numbersOf}
-use Rattle.normalisation.specs.Merging.{ofDisplacement}
+use Rattle.sorting.proofs.Tables.{rowsOf-written}
+use Rattle.normalisation.specs.Merging.{ofDisplacement, displacedOf}
 use Rattle.listing.specs.Listing.{Appended}
 use Rattle.listing.proofs.Appending.{append-length}
 use Rattle.references.specs.References.{recordsAt}
-use Rattle.arrivals.specs.State.{markWidth, usedAt, arenaRow, markNumber, isMet, referenceAt, isListed, listRow, countOf, usedIn, rootIn, Agree}
+use Rattle.arrivals.specs.State.{markWidth, freeAt, arenaRow, markNumber, isMet, referenceAt, isListed, listRow, countOf, freeRow, rootIn, Agree}
 use Rattle.arrivals.specs.Sweep.{Listed, Sweeping}
 use Rattle.arrivals.proofs.Relisting.{listed-moved, relisted-sweeping}
 
@@ -44,8 +45,8 @@ agree-front n {s} {t} long front =
 pub agree-root : {n : ℕ} {s t : List ℤ} → arenaRow ≤ n → Agree n s t → rootIn t ≡ rootIn s
 agree-root h a = a .same 12001 (omega (arith, h))
 
-pub agree-used : {n : ℕ} {s t : List ℤ} → arenaRow ≤ n → Agree n s t → usedIn t ≡ usedIn s
-agree-used h a = ap natAbs (a .same 12000 (omega (arith, h)))
+pub agree-free : {n : ℕ} {s t : List ℤ} → arenaRow ≤ n → Agree n s t → freeRow t ≡ freeRow s
+agree-free h a = ap natAbs (a .same 12000 (omega (arith, h)))
 
 -- rows that have the same numbers are the same
 rows-agree : (n : ℕ) (s t : List ℤ) → ((j : ℕ) → j < rowWidth * n → getD t j (pos 0) ≡ getD s j (pos 0)) → rowsOf t n ≡ rowsOf s n
@@ -77,6 +78,14 @@ appended-agrees {rows} {s} {t} {n} k a =
           ∙ getD-take (rowWidth * n) s j (pos 0) h;
     }
 
+-- and are the rows from there on
+pub appended-records : {rows : List Row} {s t : List ℤ} {n m : ℕ} → rowWidth * n ≤ length s → Appended rows s t n m
+    → recordsAt t n (m - n) ≡ map ofDisplacement rows
+appended-records {rows} {s} {t} {n} {m} k a =
+    let behind = drop (rowWidth * (n + length rows)) s in
+    let part = ap (drop (rowWidth * n)) (a .numbers) ∙ drop-at (take (rowWidth * n) s) (numbersOf rows ++ behind) (rowWidth * n) (length-take-le (rowWidth * n) s k) in
+    ap (λ l. displacedOf l (m - n)) part ∙ ap (map ofDisplacement) (rowsOf-written rows behind (m - n) (omega (arith, a .count)))
+
 -- ---- the facts of a sweep
 
 module _ {n : ℕ} {s t : List ℤ} (low : arenaRow ≤ n) (a : Agree n s t) where
@@ -98,9 +107,9 @@ module _ {n : ℕ} {s t : List ℤ} (low : arenaRow ≤ n) (a : Agree n s t) whe
   listRow-agrees v h = ap natAbs (mark-agrees v 4 h (omega arith))
 
   -- so is its list, where it lies in front of the row
-  list-agrees : {g : Graph} {r : ℤ} (v : ℕ) → v < maxNodes → usedIn s ≤ n → Listed g r s v → Listed g r t v
+  list-agrees : {g : Graph} {r : ℤ} (v : ℕ) → v < maxNodes → freeRow s ≤ n → Listed g r s v → Listed g r t v
   list-agrees v h u l =
-      listed-moved (listRow-agrees v h) (mark-agrees v 5 h (omega arith)) (omega (arith, agree-used low a))
+      listed-moved (listRow-agrees v h) (mark-agrees v 5 h (omega arith)) (omega (arith, agree-free low a))
       (agree-records (listRow s v) (countOf s v) (omega (arith, l .within, u)) a) l
 
 -- a node row of taken tables is one of 2,000
@@ -112,19 +121,19 @@ pub rows-few : {ns es : List ℤ} {v : ℕ} → TakenTables ns es → v < length
 rows-few {ns} {es} {v} w r = let h = w .nodes .few in omega (arith, r, nodes-length ns)
 
 -- a state that agrees in front of the free part is swept as far
-pub sweeping-agrees : {ns es : List ℤ} {plan : List ℕ} {i : ℕ} {s t : List ℤ} → Sweeping ns es plan i s → Agree (usedIn s) s t → Sweeping ns es plan i t
+pub sweeping-agrees : {ns es : List ℤ} {plan : List ℕ} {i : ℕ} {s t : List ℤ} → Sweeping ns es plan i s → Agree (freeRow s) s t → Sweeping ns es plan i t
 sweeping-agrees {ns} {es} {s} {t} w a =
-    let low = w .usedLow in
-    let used = agree-used low a in
+    let low = w .freeLow in
+    let used = agree-free low a in
     let few : (v : ℕ) → v < length (nodeRows ns) → v < maxNodes = λ v h. rows-few (w .tables) h in
     relisted-sweeping
     (record {
       long = a .long;
       root = agree-root low a;
       references = λ v h. reference-agrees low a v (few v h);
-      usedNumber = ap pos used ∙ w .usedNumber ∙ sym (a .same usedAt (omega (arith, low)));
-      usedLow = omega (arith, low, used);
-      usedHigh = omega (arith, w .usedHigh, used);
+      freeNumber = ap pos used ∙ w .freeNumber ∙ sym (a .same freeAt (omega (arith, low)));
+      freeLow = omega (arith, low, used);
+      freeHigh = omega (arith, w .freeHigh, used);
       rootListed = λ r q.
           listed-agrees low a r (row-few (w .tables) (subst (NodeRow (graphOf ns es)) (sym q) (w .root .row))) ∙ w .rootListed r q;
       listed = λ v h m l.

@@ -48,7 +48,7 @@ use Rattle.references.proofs.Cutting.{cut-rows-brings, cut-rows-full, cut-rows-
 use Rattle.arrivals.specs.State.{markWidth, arenaRow, markNumber, isMet, referenceAt, isListed, listRow, countOf, rootIn, Agree}
 use Rattle.arrivals.specs.Sweep.{HasSome, doneOf, Listed, RightMark, Sweeping, Gatherable, Gathered}
 use Rattle.arrivals.specs.Moves.{Crossable, crossing}
-use Rattle.arrivals.proofs.Agreeing.{agree-root, agree-used, agree-less, appended-agrees, sweeping-agrees, row-few}
+use Rattle.arrivals.proofs.Agreeing.{agree-root, agree-free, agree-less, appended-agrees, sweeping-agrees, row-few}
 use Rattle.arrivals.proofs.Settled.{not-both, done-closed, covered-way, settled}
 
 -- ---- rows of two lists
@@ -252,7 +252,7 @@ module _ {ns es : List ℤ} {plan : List ℕ} {f : Reference} {left : ℕ} {s : 
     through-sweeping = sweeping-agrees (k .sweeping) (agree-less (k .behind) through-agrees)
 
     low : arenaRow ≤ n
-    low = omega (arith, k .sweeping .usedLow, k .behind)
+    low = omega (arith, k .sweeping .freeLow, k .behind)
 
     pub through-root : rootIn t ≡ rootIn s
     through-root = agree-root low through-agrees
@@ -468,7 +468,7 @@ module _ {ns es : List ℤ} {plan : List ℕ} {f : Reference} {left : ℕ} {s : 
               met = source-mark .owner met;
               covered = covered-way through-sweeping (source-way .1) (done-closed through-sweeping edge turn-done);
               deep = λ p y. deeper p (subst (λ (r : ℤ). Way (graphOf ns es) r p (part .owner)) through-root y);
-              behind = omega (arith, k .behind, w .written .count, agree-used low through-agrees);
+              behind = omega (arith, k .behind, w .written .count, agree-free low through-agrees);
               room = subst (λ (r : ℤ). rowWidth * (m + pathCount (graphOf ns es) r (part .owner)) ≤ length t) (sym through-root)
                   (omega (arith, k .room, w .few, w .written .count, turn-paths, part-paths, through-agrees .long));
             }

@@ -6,5 +6,6 @@ pub mod Settled
 pub mod Gathering
 pub mod Passing
 pub mod Making
-pub mod Keeping
-pub mod Answering
+pub mod Storing
+pub mod LeafRows
+pub mod Swept

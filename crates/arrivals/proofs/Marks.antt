@@ -16,7 +16,7 @@ use Rattle.integers.proofs.Range.{leZ-true}
 use Rattle.integers.proofs.Tests.{Test, passed, failed, eq?}
 use Rattle.model.specs.Limits.{maxNodes}
 use Rattle.references.specs.References.{Reference}
-use Rattle.arrivals.specs.State.{markWidth, Mark, markNumber, markAt, setMark, marked, isMet, referenceAt, isListed, listRow, usedAt, usedIn, rootIn}
+use Rattle.arrivals.specs.State.{markWidth, Mark, markNumber, markAt, setMark, marked, isMet, referenceAt, isListed, listRow, freeAt, freeRow, rootIn}
 use Rattle.arrivals.specs.Moves.{Blank}
 
 -- the owner is the first number of a mark
@@ -51,14 +51,14 @@ mark-elsewhere s v j m n =
     rw (getD-set-other, getD-set-other, getD-set-other, getD-set-other, getD-set-other, getD-set-other)
 
 -- such as those behind the marks
-pub mark-behind : (s : List ℤ) (v j : ℕ) (m : Mark) → v < maxNodes → usedAt ≤ j → getD (setMark s v m) j (pos 0) ≡ getD s j (pos 0)
+pub mark-behind : (s : List ℤ) (v j : ℕ) (m : Mark) → v < maxNodes → freeAt ≤ j → getD (setMark s v m) j (pos 0) ≡ getD s j (pos 0)
 mark-behind s v j m h k = mark-elsewhere s v j m (λ n l e. omega arith)
 
-pub mark-used : (s : List ℤ) (v : ℕ) (m : Mark) → v < maxNodes → usedIn (setMark s v m) ≡ usedIn s
-mark-used s v m h = ap natAbs (mark-behind s v usedAt m h (omega arith))
+pub mark-free : (s : List ℤ) (v : ℕ) (m : Mark) → v < maxNodes → freeRow (setMark s v m) ≡ freeRow s
+mark-free s v m h = ap natAbs (mark-behind s v freeAt m h (omega arith))
 
 pub mark-root : (s : List ℤ) (v : ℕ) (m : Mark) → v < maxNodes → rootIn (setMark s v m) ≡ rootIn s
-mark-root s v m h = mark-behind s v (usedAt + 1) m h (omega arith)
+mark-root s v m h = mark-behind s v (freeAt + 1) m h (omega arith)
 
 -- ---- the mark of another node
 

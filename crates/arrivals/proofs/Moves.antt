@@ -15,7 +15,7 @@ use Rattle.steps.specs.Steps.{GoodRow}
 use Rattle.steps.proofs.Rows.{node-good, edge-in}
 use Rattle.references.specs.declared.Reference.{Reference as Held}
 use Rattle.references.specs.References.{Reference, referenceOf, own, through, unlessNone, sameReference}
-use Rattle.arrivals.specs.State.{markWidth, arenaRow, arenaRows, usedAt, rootAt, setMark, marked, isMet, referenceAt, notListed, noRoom}
+use Rattle.arrivals.specs.State.{markWidth, arenaRow, arenaRows, freeAt, rootAt, setMark, marked, isMet, referenceAt, notListed, noRoom}
 use Rattle.arrivals.specs.Moves.{Crossable, crossing, meeting, storing, begun}
 
 -- the owner of all that arrives at v is v
@@ -48,7 +48,7 @@ module _ {ns es : List ℤ} {e : ℕ} {f : Reference} {s : List ℤ} (x : Crossa
 -- ---- a reference met
 
 module _ (s : List ℤ) (v : ℕ) (all f : Reference) (rows : ℤ) where
-  -- at a node where nothing had arrived it is kept
+  -- at a node where nothing had arrived it is stored
   pub meeting-first : isMet s v ≡ false → meeting s v all f rows ≡ setMark s v (marked f notListed rows)
   meeting-first n = rw n
 
@@ -60,22 +60,22 @@ module _ (s : List ℤ) (v : ℕ) (all f : Reference) (rows : ℤ) where
   pub meeting-other : isMet s v ≡ true → sameReference (referenceAt s v) f ≡ false → meeting s v all f rows ≡ setMark s v (marked all notListed rows)
   meeting-other y n = rw (y, n)
 
--- ---- rows kept
+-- ---- rows stored
 
 module _ (all : Reference) (v used k : ℕ) (s : List ℤ) where
-  -- rows that do not fit are not kept
+  -- rows that do not fit are not stored
   pub storing-full : arenaRow + arenaRows < used + k → storing all v used k s ≡ setMark s v (marked all noRoom (pos 0))
   storing-full h = rw (lt-ltb (arenaRow + arenaRows) (used + k) h)
 
   -- rows that fit are
-  pub storing-kept : used + k ≤ arenaRow + arenaRows
-      → storing all v used k s ≡ set (setMark s v (marked all (pos used) (pos k))) usedAt (pos (used + k))
-  storing-kept h = rw (le-ltb (arenaRow + arenaRows) (used + k) h)
+  pub storing-done : used + k ≤ arenaRow + arenaRows
+      → storing all v used k s ≡ set (setMark s v (marked all (pos used) (pos k))) freeAt (pos (used + k))
+  storing-done h = rw (le-ltb (arenaRow + arenaRows) (used + k) h)
 
   -- as they are stored number by number
   pub rows-stored : {t : List ℤ} {held : Reference} {row count behind : ℤ} → t ≡ setMark s v (marked held row count) → held ≡ all → row ≡ pos used
-      → count ≡ pos k → behind ≡ pos (used + k) → used + k ≤ arenaRow + arenaRows → set t usedAt behind ≡ storing all v used k s
-  rows-stored m a p c b h = cc (storing-kept h)
+      → count ≡ pos k → behind ≡ pos (used + k) → used + k ≤ arenaRow + arenaRows → set t freeAt behind ≡ storing all v used k s
+  rows-stored m a p c b h = cc (storing-done h)
 
 -- ---- the root
 
@@ -83,5 +83,5 @@ module _ (all : Reference) (v used k : ℕ) (s : List ℤ) where
 pub root-stored : (all : Reference) (root : ℕ) (s : List ℤ) {t u : List ℤ} {held : Reference} {row low high used last : ℤ} {r : ℕ}
     → t ≡ setMark s root (marked held row (pos 1)) → held ≡ all → row ≡ pos arenaRow → low ≡ all .low → high ≡ all .high
     → Appended (record { first = pos 0; second = low; third = high } ∷ []) t u arenaRow r → used ≡ pos (arenaRow + 1) → last ≡ pos root
-    → set (set u usedAt used) rootAt last ≡ begun all root s
+    → set (set u freeAt used) rootAt last ≡ begun all root s
 root-stored all root s m a p f e b n l = let numbers = b .numbers in cc

@@ -39,10 +39,10 @@ use Rattle.entering.proofs.Ways.{way-onward, way-back}
 use Rattle.forward.specs.Forward.{plannedCount, plannedOf}
 use Rattle.references.specs.References.{Reference, own, Brings, through, isNone, unlessNone, InOwner, SmallReference, sameReference, recordsAt}
 use Rattle.references.proofs.Bringing.{through-brings, none-brings, through-lying, through-inside, own-lying, lying-small, same-reference-is}
-use Rattle.arrivals.specs.State.{markWidth, Mark, markNumber, markAt, setMark, marked, usedAt, rootAt, arenaRow, stateRoom, isMet, referenceAt, listRow, countOf, usedIn, rootIn, notListed}
+use Rattle.arrivals.specs.State.{markWidth, Mark, markNumber, markAt, setMark, marked, freeAt, rootAt, arenaRow, stateRoom, isMet, referenceAt, listRow, countOf, freeRow, rootIn, notListed}
 use Rattle.arrivals.specs.Sweep.{doneOf, Came, HasSome, Listed, RightMark, Sweeping, Sweepable}
 use Rattle.arrivals.specs.Moves.{Crossable, crossing, meeting, Ownable, Blank, begun}
-use Rattle.arrivals.proofs.Marks.{mark-same, mark-other, mark-behind, mark-length, mark-used, mark-root, met-other, reference-other, listed-other, listRow-other, number-other, met-same, reference-same, listed-same}
+use Rattle.arrivals.proofs.Marks.{mark-same, mark-other, mark-behind, mark-length, mark-free, mark-root, met-other, reference-other, listed-other, listRow-other, number-other, met-same, reference-same, listed-same}
 use Rattle.arrivals.proofs.Agreeing.{row-few, rows-few}
 use Rattle.arrivals.proofs.Relisting.{listed-moved}
 use Rattle.arrivals.proofs.Settled.{not-both, front-in, next-covered, done-next, settled}
@@ -149,7 +149,7 @@ module _ (s : List ℤ) (to : ℕ) (m : Mark) (low : to < maxNodes) (room : leng
           other = λ z q x b. rw same (k .other (met z) (λ j. q (same-owner ∙ j)) x b);
           listed = λ z q.
               let l = k .listed (met z) (sym (listed-other s to v m n) ∙ q) in
-              listed-moved (listRow-other s to v m n) (number-other s to v m n 5 (omega arith)) (omega (arith, mark-used s to m low))
+              listed-moved (listRow-other s to v m n) (number-other s to v m n 5 (omega arith)) (omega (arith, mark-free s to m low))
               (records-stay (listRow s v) (countOf s v) (l .behind)) l;
         }
 
@@ -239,9 +239,9 @@ module _ {ns es : List ℤ} {plan : List ℕ} {i : ℕ} {s : List ℤ} (w : Swee
         tables = w .tables;
         planned = w .planned;
         room = w .room;
-        usedNumber = w .usedNumber;
-        usedLow = w .usedLow;
-        usedHigh = w .usedHigh;
+        freeNumber = w .freeNumber;
+        freeLow = w .freeLow;
+        freeHigh = w .freeHigh;
         root = w .root;
         rootMet = w .rootMet;
         rootOwn = w .rootOwn;
@@ -270,7 +270,7 @@ module _ {ns es : List ℤ} {plan : List ℕ} {i : ℕ} {s : List ℤ} (w : Swee
       let g = graphOf ns es in
       let t = setMark s to m in
       let low = row-few (w .tables) (next-to enters) in
-      let used : usedIn t ≡ usedIn s = mark-used s to m low in
+      let used : freeRow t ≡ freeRow s = mark-free s to m low in
       let root : rootIn t ≡ rootIn s = mark-root s to m low in
       let apart : (r : ℕ) → pos r ≡ rootIn t → r ≢ to = λ r q e.
       w .root .unentered (nextEdge es plan i) next-in (sym enters ∙ ap pos (sym e) ∙ q ∙ root) in
@@ -279,9 +279,9 @@ module _ {ns es : List ℤ} {plan : List ℕ} {i : ℕ} {s : List ℤ} (w : Swee
         tables = w .tables;
         planned = w .planned;
         room = mark-length s to m ∙ w .room;
-        usedNumber = ap pos used ∙ w .usedNumber ∙ sym (mark-behind s to usedAt m low (omega arith));
-        usedLow = omega (arith, used, w .usedLow);
-        usedHigh = omega (arith, used, w .usedHigh);
+        freeNumber = ap pos used ∙ w .freeNumber ∙ sym (mark-behind s to freeAt m low (omega arith));
+        freeLow = omega (arith, used, w .freeLow);
+        freeHigh = omega (arith, used, w .freeHigh);
         root = rw root (w .root);
         rootMet = λ r q. ap (λ (k : Mark). leZ (pos 0) (k .owner)) (stays r q) ∙ w .rootMet r (q ∙ root);
         rootOwn = λ r q. ap (λ (k : Mark). k .owner) (stays r q) ∙ w .rootOwn r (q ∙ root);
@@ -560,28 +560,28 @@ module _ (all : Reference) (root : ℕ) (s : List ℤ) (low : root < maxNodes) (
   -- the length stays
   begun-length : length (begun all root s) ≡ stateRoom
   begun-length =
-      length-set (set (rootWritten all root s) usedAt (pos (arenaRow + 1))) rootAt (pos root)
-      ∙ length-set (rootWritten all root s) usedAt (pos (arenaRow + 1))
+      length-set (set (rootWritten all root s) freeAt (pos (arenaRow + 1))) rootAt (pos root)
+      ∙ length-set (rootWritten all root s) freeAt (pos (arenaRow + 1))
       ∙ written-length
 
   -- the root is stored
   begun-root : rootIn (begun all root s) ≡ pos root
   begun-root =
-      getD-set-same (set (rootWritten all root s) usedAt (pos (arenaRow + 1))) rootAt (pos root) (pos 0)
-      (omega (arith, length-set (rootWritten all root s) usedAt (pos (arenaRow + 1)), written-length))
+      getD-set-same (set (rootWritten all root s) freeAt (pos (arenaRow + 1))) rootAt (pos root) (pos 0)
+      (omega (arith, length-set (rootWritten all root s) freeAt (pos (arenaRow + 1)), written-length))
 
   -- one row of the arena is used
-  begun-used : getD (begun all root s) usedAt (pos 0) ≡ pos (arenaRow + 1)
-  begun-used =
-      getD-set-other (set (rootWritten all root s) usedAt (pos (arenaRow + 1))) rootAt usedAt (pos root) (pos 0) (λ e. omega arith)
-      ∙ getD-set-same (rootWritten all root s) usedAt (pos (arenaRow + 1)) (pos 0) (omega (arith, written-length))
+  begun-free : getD (begun all root s) freeAt (pos 0) ≡ pos (arenaRow + 1)
+  begun-free =
+      getD-set-other (set (rootWritten all root s) freeAt (pos (arenaRow + 1))) rootAt freeAt (pos root) (pos 0) (λ e. omega arith)
+      ∙ getD-set-same (rootWritten all root s) freeAt (pos (arenaRow + 1)) (pos 0) (omega (arith, written-length))
 
   -- the marks are those with the root's
-  begun-number : (j : ℕ) → j < usedAt → getD (begun all root s) j (pos 0) ≡ getD (rootMarked all root s) j (pos 0)
+  begun-number : (j : ℕ) → j < freeAt → getD (begun all root s) j (pos 0) ≡ getD (rootMarked all root s) j (pos 0)
   begun-number j h =
       let t = rootMarked all root s in
-      getD-set-other (set (rootWritten all root s) usedAt (pos (arenaRow + 1))) rootAt j (pos root) (pos 0) (λ e. omega arith)
-      ∙ getD-set-other (rootWritten all root s) usedAt j (pos (arenaRow + 1)) (pos 0) (λ e. omega arith)
+      getD-set-other (set (rootWritten all root s) freeAt (pos (arenaRow + 1))) rootAt j (pos root) (pos 0) (λ e. omega arith)
+      ∙ getD-set-other (rootWritten all root s) freeAt j (pos (arenaRow + 1)) (pos 0) (λ e. omega arith)
       ∙ List·getD-append (take (rowWidth * arenaRow) t) (numbersOf (rootRow all ∷ []) ++ drop (rowWidth * arenaRow + rowWidth) t) (pos 0) j (omega (arith, front-length))
       ∙ getD-take (rowWidth * arenaRow) t j (pos 0) (omega arith)
 
@@ -603,8 +603,8 @@ module _ (all : Reference) (root : ℕ) (s : List ℤ) (low : root < maxNodes) (
       let t = rootMarked all root s in
       let rest = drop (rowWidth * arenaRow + rowWidth) t in
       let part : drop (rowWidth * arenaRow) (begun all root s) ≡ numbersOf (rootRow all ∷ []) ++ rest =
-      drop-set-lt (rowWidth * arenaRow) (set (rootWritten all root s) usedAt (pos (arenaRow + 1))) rootAt (pos root) (omega arith)
-      ∙ drop-set-lt (rowWidth * arenaRow) (rootWritten all root s) usedAt (pos (arenaRow + 1)) (omega arith)
+      drop-set-lt (rowWidth * arenaRow) (set (rootWritten all root s) freeAt (pos (arenaRow + 1))) rootAt (pos root) (omega arith)
+      ∙ drop-set-lt (rowWidth * arenaRow) (rootWritten all root s) freeAt (pos (arenaRow + 1)) (omega arith)
       ∙ drop-at (take (rowWidth * arenaRow) t) (numbersOf (rootRow all ∷ []) ++ rest) (rowWidth * arenaRow) front-length in
       ap (λ (l : List ℤ). displacedOf l 1) part ∙ ap (map ofDisplacement) (rowsOf-written (rootRow all ∷ []) rest 1 refl)
 
@@ -656,7 +656,7 @@ module _ {ns es : List ℤ} {plan : List ℕ} {root : ℕ} {old spare : List ℤ
         let t = begun all root s in
         let row : listRow t root ≡ arenaRow = ap (λ (q : Mark). natAbs (q .row)) root-mark in
         let count : countOf t root ≡ 1 = ap (λ (q : Mark). natAbs (q .count)) root-mark in
-        let used : usedIn t ≡ arenaRow + 1 = ap natAbs (begun-used all root s root-low room) in
+        let used : freeRow t ≡ arenaRow + 1 = ap natAbs (begun-free all root s root-low room) in
         let records : recordsAt t (listRow t root) (countOf t root) ≡ ofDisplacement (rootRow all) ∷ [] =
         ap (λ (p : ℕ). recordsAt t p (countOf t root)) row ∙ ap (recordsAt t arenaRow) count ∙ begun-records all root s root-low room in
         let number : markNumber t root 5 ≡ pos 1 = ap (λ (q : Mark). q .count) root-mark in
@@ -715,16 +715,16 @@ module _ {ns es : List ℤ} {plan : List ℕ} {root : ℕ} {old spare : List ℤ
         let g = graphOf ns es in
         let all = own g (pos root) in
         let t = begun all root s in
-        let number : getD t usedAt (pos 0) ≡ pos (arenaRow + 1) = begun-used all root s root-low room in
-        let used : usedIn t ≡ arenaRow + 1 = ap natAbs number in
+        let number : getD t freeAt (pos 0) ≡ pos (arenaRow + 1) = begun-free all root s root-low room in
+        let used : freeRow t ≡ arenaRow + 1 = ap natAbs number in
         let is-root : (r : ℕ) → pos r ≡ rootIn t → r ≡ root = λ r q. let e : pos r ≡ pos root = q ∙ start-root in cc in
         record {
           tables = a .tables;
           planned = a .planned;
           room = begun-length all root s root-low room;
-          usedNumber = ap pos used ∙ sym number;
-          usedLow = omega (arith, used);
-          usedHigh = omega (arith, used);
+          freeNumber = ap pos used ∙ sym number;
+          freeLow = omega (arith, used);
+          freeHigh = omega (arith, used);
           root = rw start-root (a .start);
           rootMet = λ r q. rw (is-root r q) root-met;
           rootOwn = λ r q. rw (is-root r q) (ap (λ (f : Reference). f .owner) root-reference);

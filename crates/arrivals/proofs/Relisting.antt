@@ -20,7 +20,7 @@ use Rattle.reach.specs.Counting.{pathCount}
 use Rattle.sorting.specs.Rows.{Ascending}
 use Rattle.normalisation.specs.Merging.{byDisplacement}
 use Rattle.references.specs.References.{Reference, Brings, InOwner, recordsAt}
-use Rattle.arrivals.specs.State.{markNumber, isMet, referenceAt, isListed, listRow, countOf, usedAt, arenaRow, arenaRows, usedIn, rootIn}
+use Rattle.arrivals.specs.State.{markNumber, isMet, referenceAt, isListed, listRow, countOf, freeAt, arenaRow, arenaRows, freeRow, rootIn}
 use Rattle.arrivals.specs.Sweep.{HasSome, doneOf, Came, Listed, RightMark, Sweeping}
 
 -- ---- node rows
@@ -37,7 +37,7 @@ number-row ns es {v} h = record { low = omega (arith, ints); high = omega (arith
 -- ---- other lists
 
 -- a list stays that of its node where its row, its number of records and the records stay
-pub listed-moved : {g : Graph} {r : ℤ} {s t : List ℤ} {v : ℕ} → listRow t v ≡ listRow s v → markNumber t v 5 ≡ markNumber s v 5 → usedIn s ≤ usedIn t
+pub listed-moved : {g : Graph} {r : ℤ} {s t : List ℤ} {v : ℕ} → listRow t v ≡ listRow s v → markNumber t v 5 ≡ markNumber s v 5 → freeRow s ≤ freeRow t
     → recordsAt t (listRow s v) (countOf s v) ≡ recordsAt s (listRow s v) (countOf s v) → Listed g r s v → Listed g r t v
 listed-moved {g} {r} {s} {t} {v} row number more same h =
     record {
@@ -61,9 +61,9 @@ pub record Relisted (ns es : List ℤ) (s t : List ℤ) : Type 0 where
   pub long : length t ≡ length s
   pub root : rootIn t ≡ rootIn s
   pub references : (v : ℕ) → v < length (nodeRows ns) → referenceAt t v ≡ referenceAt s v
-  pub usedNumber : pos (usedIn t) ≡ getD t usedAt (pos 0)
-  pub usedLow : arenaRow ≤ usedIn t
-  pub usedHigh : usedIn t ≤ arenaRow + arenaRows
+  pub freeNumber : pos (freeRow t) ≡ getD t freeAt (pos 0)
+  pub freeLow : arenaRow ≤ freeRow t
+  pub freeHigh : freeRow t ≤ arenaRow + arenaRows
   pub rootListed : (r : ℕ) → pos r ≡ rootIn s → isListed t r ≡ true
   pub listed : (v : ℕ) → v < length (nodeRows ns) → isMet s v ≡ true → isListed t v ≡ true → Listed (graphOf ns es) (rootIn s) t v
 
@@ -105,9 +105,9 @@ module _ {ns es s t : List ℤ} (c : Relisted ns es s t) where
         tables = w .tables;
         planned = w .planned;
         room = c .long ∙ w .room;
-        usedNumber = c .usedNumber;
-        usedLow = c .usedLow;
-        usedHigh = c .usedHigh;
+        freeNumber = c .freeNumber;
+        freeLow = c .freeLow;
+        freeHigh = c .freeHigh;
         root = subst (Root g) root (w .root);
         rootMet = λ r p. relisted-met r (number r (start r p)) ∙ w .rootMet r (start r p);
         rootOwn = λ r p. ap (λ (f : Reference). f .owner) (c .references r (number r (start r p))) ∙ w .rootOwn r (start r p);

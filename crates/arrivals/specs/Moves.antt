@@ -18,7 +18,7 @@ use Rattle.sorting.specs.Rows.{rowWidth, numbersOf}
 use Rattle.entering.specs.Entering.{Covered}
 use Rattle.forward.specs.Forward.{plannedCount}
 use Rattle.references.specs.References.{Reference, through, unlessNone, SmallReference, sameReference}
-use Rattle.arrivals.specs.State.{markWidth, usedAt, rootAt, arenaRow, arenaRows, stateRoom, setMark, marked, isMet, referenceAt, rootIn, notListed, noRoom}
+use Rattle.arrivals.specs.State.{markWidth, freeAt, rootAt, arenaRow, arenaRows, stateRoom, setMark, marked, isMet, referenceAt, rootIn, notListed, noRoom}
 use Rattle.arrivals.specs.Sweep.{doneOf, Sweeping}
 
 -- ---- over an edge
@@ -55,7 +55,7 @@ pub record Storable (ns : List ℤ) (v used k : ℕ) (s : List ℤ) : Type 0 whe
 abbrev pub storing : Reference → ℕ → ℕ → ℕ → List ℤ → List ℤ
 storing all v used k s =
     cond (ltb (arenaRow + arenaRows) (used + k)) (setMark s v (marked all noRoom (pos 0)))
-    (set (setMark s v (marked all (pos used) (pos k))) usedAt (pos (used + k)))
+    (set (setMark s v (marked all (pos used) (pos k))) freeAt (pos (used + k)))
 
 -- a marked node all of whose entering edges are passed, with at most 1,024 paths to it, and room for a list
 pub record Ownable (ns es : List ℤ) (plan : List ℕ) (v : ℕ) (s spare : List ℤ) : Type 0 where
@@ -88,4 +88,4 @@ abbrev pub begun : Reference → ℕ → List ℤ → List ℤ
 begun all root s =
     let t = setMark s root (marked all (pos arenaRow) (pos 1)) in
     set (set (take (rowWidth * arenaRow) t ++ (numbersOf (record { first = pos 0; second = all .low; third = all .high } ∷ []) ++ drop (rowWidth * arenaRow + rowWidth) t))
-    usedAt (pos (arenaRow + 1))) rootAt (pos root)
+    freeAt (pos (arenaRow + 1))) rootAt (pos root)

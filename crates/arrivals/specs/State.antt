@@ -15,8 +15,8 @@ abbrev pub markWidth : ℕ
 markWidth = 6
 
 -- behind the marks: from which row on the arena is free, and the root
-abbrev pub usedAt : ℕ
-usedAt = markWidth * maxNodes
+abbrev pub freeAt : ℕ
+freeAt = markWidth * maxNodes
 
 abbrev pub rootAt : ℕ
 rootAt = markWidth * maxNodes + 1
@@ -26,7 +26,7 @@ abbrev pub arenaRow : ℕ
 arenaRow = rootAt / rowWidth + 1
 
 abbrev pub arenaRows : ℕ
-arenaRows = 2560
+arenaRows = 1536
 
 abbrev pub stateRoom : ℕ
 stateRoom = rowWidth * (arenaRow + arenaRows + maxPaths)
@@ -95,8 +95,8 @@ abbrev pub countOf : List ℤ → ℕ → ℕ
 countOf s v = natAbs (markNumber s v 5)
 
 -- the row from which on the arena is free
-abbrev pub usedIn : List ℤ → ℕ
-usedIn s = natAbs (getD s usedAt (pos 0))
+abbrev pub freeRow : List ℤ → ℕ
+freeRow s = natAbs (getD s freeAt (pos 0))
 
 -- the root
 abbrev pub rootIn : List ℤ → ℤ

@@ -1,9 +1,9 @@
--- What a sweep from a root leaves, edge by edge, and the list at a leaf. Assumes nothing.
+-- What a sweep from a root leaves, edge by edge, and the rows of a leaf. Assumes nothing.
 use mathlib.Core.Path.{_≡_}
 use mathlib.Core.Bool.{true, false}
 use mathlib.Core.List.{List, map}
 use mathlib.Core.Logic.{_↔_}
-use Prim.Native.Nat.{ℕ, _+_, _*_, _≤_, _<_}
+use Prim.Native.Nat.{ℕ, _+_, _-_, _*_, _≤_, _<_}
 use lib.IntN.{ℤ, pos, _+ℤ_}
 use lib.Signed.{_≤ℤ_}
 use lib.ListN.{length, getD, take}
@@ -11,21 +11,21 @@ use Rattle.lists.specs.Lists.{_∈_}
 use Rattle.model.specs.Limits.{maxChain, maxPaths}
 use Rattle.model.specs.Rows.{Edge, nodeRows}
 use Rattle.model.specs.Graph.{Graph, graphOf, node, firstBit, lastBit, bitOffset}
-use Rattle.model.specs.Walk.{StandsOn, Walk}
+use Rattle.model.specs.Walk.{StandsOn, Walk, Reached}
 use Rattle.model.specs.Paths.{Root, Leaf, Way}
 use Rattle.model.specs.Bitmapping.{Record, Has}
-use Rattle.model.specs.Runs.{normal, listOf}
+use Rattle.model.specs.Runs.{normal}
 use Rattle.model.specs.Taken.{TakenTables}
 use Rattle.reach.specs.Counting.{pathCount}
 use Rattle.sorting.specs.declared.Row.{Row}
 use Rattle.sorting.specs.Rows.{rowWidth, Ascending}
-use Rattle.normalisation.specs.Merging.{byDisplacement, ofDisplacement, sortedByDisplacement}
+use Rattle.normalisation.specs.Merging.{AllSmallLast, byDisplacement, ofDisplacement, sortedByDisplacement}
 use Rattle.listing.specs.Listing.{Appended}
 use Rattle.entering.specs.Entering.{Covered}
 use Rattle.forward.specs.Forward.{plannedCount, plannedOf, Planned}
 use Rattle.references.specs.References.{Reference, own, Brings, InOwner, recordsAt}
 use Rattle.arrivals.specs.declared.ListRows.{ListRows}
-use Rattle.arrivals.specs.State.{stateRoom, usedAt, arenaRow, arenaRows, isMet, referenceAt, isListed, listRow, countOf, usedIn, rootIn, markNumber, Agree}
+use Rattle.arrivals.specs.State.{stateRoom, freeAt, arenaRow, arenaRows, isMet, referenceAt, isListed, listRow, countOf, freeRow, rootIn, markNumber, Agree}
 
 -- some record of the list has x with y
 abbrev pub HasSome : List Record → ℤ → ℤ → Type 0
@@ -48,7 +48,7 @@ pub record Came (g : Graph) (r : ℤ) (done : List Edge) (v x b : ℤ) : Type 0 
 pub record Listed (g : Graph) (r : ℤ) (s : List ℤ) (v : ℕ) : Type 0 where
   pub counted : pos (countOf s v) ≡ markNumber s v 5
   pub behind : arenaRow ≤ listRow s v
-  pub within : listRow s v + countOf s v ≤ usedIn s
+  pub within : listRow s v + countOf s v ≤ freeRow s
   pub exact : (x b : ℤ) → HasSome (recordsAt s (listRow s v) (countOf s v)) x b ↔ Walk g r x (pos v) b
   pub full : (q : Record) → q ∈ recordsAt s (listRow s v) (countOf s v) → q .first ≤ℤ q .last
   pub few : countOf s v ≤ pathCount g r (pos v)
@@ -72,9 +72,9 @@ pub record Sweeping (ns es : List ℤ) (plan : List ℕ) (i : ℕ) (s : List ℤ
   pub tables : TakenTables ns es
   pub planned : Planned ns es plan
   pub room : length s ≡ stateRoom
-  pub usedNumber : pos (usedIn s) ≡ getD s usedAt (pos 0)
-  pub usedLow : arenaRow ≤ usedIn s
-  pub usedHigh : usedIn s ≤ arenaRow + arenaRows
+  pub freeNumber : pos (freeRow s) ≡ getD s freeAt (pos 0)
+  pub freeLow : arenaRow ≤ freeRow s
+  pub freeHigh : freeRow s ≤ arenaRow + arenaRows
   pub root : Root (graphOf ns es) (rootIn s)
   pub rootMet : (r : ℕ) → pos r ≡ rootIn s → isMet s r ≡ true
   pub rootOwn : (r : ℕ) → pos r ≡ rootIn s → referenceAt s r .owner ≡ pos r
@@ -93,7 +93,7 @@ pub record Gatherable (ns es : List ℤ) (plan : List ℕ) (f : Reference) (left
   pub met : (k : ℕ) → pos k ≡ f .owner → isMet s k ≡ true
   pub covered : Covered es (doneOf es plan passed) (f .owner)
   pub deep : (p : List Edge) → Way (graphOf ns es) (rootIn s) p (f .owner) → length p ≤ left
-  pub behind : usedIn s ≤ n
+  pub behind : freeRow s ≤ n
   pub room : rowWidth * (n + pathCount (graphOf ns es) (rootIn s) (f .owner)) ≤ length s
 
 -- rows behind the first n: their records have exactly what the reference brings, none is empty, and they are no more than paths lead to the owner
@@ -104,16 +104,32 @@ pub record Gathered (g : Graph) (r : ℤ) (f : Reference) (old new : List ℤ) (
   pub full : (q : Record) → q ∈ map ofDisplacement rows → q .first ≤ℤ q .last
   pub few : length rows ≤ pathCount g r (f .owner)
 
+-- ---- rows made a list
+
+-- rows n to m of a state: no record of them is empty, their bits lie below 2^62, and there is room to sort them
+pub record Normalisable (s spare : List ℤ) (n m : ℕ) : Type 0 where
+  pub order : n ≤ m
+  pub within : rowWidth * m ≤ length s
+  pub spareRoom : rowWidth * (m - n) ≤ length spare
+  pub small : AllSmallLast (recordsAt s n (m - n))
+
+-- from row n on stands the list of the records of rows n to m, sorted by displacement, and in front of it what stood there
+pub record Normalised (old new : List ℤ) (n m : ℕ) (p : ListRows) : Type 0 where
+  pub at : p .row ≡ n
+  pub agrees : Agree n old new
+  pub count : p .count ≡ length (normal (recordsAt old n (m - n)))
+  pub records : recordsAt new (p .row) (p .count) ≡ sortedByDisplacement (normal (recordsAt old n (m - n)))
+
 -- what the list of a reference is made from: its rows can be gathered behind the used part of the arena, there are at most 1,024, and room to sort them
 pub record Makeable (ns es : List ℤ) (plan : List ℕ) (f : Reference) (s spare : List ℤ) : Type 0 where
-  pub gatherable : Gatherable ns es plan f maxChain s (usedIn s)
+  pub gatherable : Gatherable ns es plan f maxChain s (freeRow s)
   pub few : pathCount (graphOf ns es) (rootIn s) (f .owner) ≤ maxPaths
   pub spareRoom : rowWidth * maxPaths ≤ length spare
 
 -- behind the used part of the arena stands the normal list, as rows by displacement, sorted, of records that have exactly what the reference brings, none
 -- empty, and no more than paths lead to the owner
 pub record Made (g : Graph) (r : ℤ) (f : Reference) (old new : List ℤ) (p : ListRows) : Type 0 where
-  pub at : p .row ≡ usedIn old
+  pub at : p .row ≡ freeRow old
   pub agrees : Agree (p .row) old new
   pub made : List Record
   pub exact : (x b : ℤ) → HasSome made x b ↔ Brings g r f x b
@@ -122,7 +138,7 @@ pub record Made (g : Graph) (r : ℤ) (f : Reference) (old new : List ℤ) (p : 
   pub count : p .count ≡ length (normal made)
   pub records : recordsAt new (p .row) (p .count) ≡ sortedByDisplacement (normal made)
 
--- ---- the sweep and its lists
+-- ---- the sweep
 
 -- what a sweep starts from: taken tables and their plan, a root of the graph, at most 1,024 paths from it to each node that the plan's edges enter, and room
 pub record Sweepable (ns es : List ℤ) (plan : List ℕ) (root : ℕ) (s spare : List ℤ) : Type 0 where
@@ -138,18 +154,22 @@ pub record Swept (ns es : List ℤ) (plan : List ℕ) (root : ℕ) (s : List ℤ
   pub from : rootIn s ≡ pos root
   pub state : Sweeping ns es plan (plannedCount plan) s
 
--- what the list of a leaf starts from: a state swept from a root, a leaf all of whose entering edges the plan has, at most 1,024 paths to it, and room
-pub record Askable (ns es : List ℤ) (plan : List ℕ) (leaf : ℕ) (s spare : List ℤ) : Type 0 where
+-- ---- the rows of a leaf
+
+-- what the rows of a leaf are appended to: a state swept from a root, a leaf all of whose entering edges the plan has, and behind the free row, from row n on,
+-- room for a row a path
+pub record Appendable (ns es : List ℤ) (plan : List ℕ) (leaf : ℕ) (s : List ℤ) (n : ℕ) : Type 0 where
   pub root : ℕ
   pub state : Swept ns es plan root s
   pub block : Leaf (graphOf ns es) (pos leaf)
   pub covered : Covered es (plannedOf es plan) (pos leaf)
-  pub few : pathCount (graphOf ns es) (pos root) (pos leaf) ≤ maxPaths
-  pub spareRoom : rowWidth * maxPaths ≤ length spare
+  pub behind : freeRow s ≤ n
+  pub room : rowWidth * (n + pathCount (graphOf ns es) (pos root) (pos leaf)) ≤ length s
 
--- the bitmapping list of the root and a leaf stands in the state, as rows by displacement, sorted. From its first row on the state is free to be worked in
-pub record Answered (ns es : List ℤ) (plan : List ℕ) (root leaf : ℕ) (new : List ℤ) (r : ListRows) : Type 0 where
-  pub free : (s : List ℤ) → length s ≡ length new → take (rowWidth * r .row) s ≡ take (rowWidth * r .row) new → Swept ns es plan root s
-  pub within : rowWidth * (r .row + r .count) ≤ length new
-  pub count : r .count ≡ length (listOf (graphOf ns es) (pos root) (pos leaf))
-  pub rows : recordsAt new (r .row) (r .count) ≡ sortedByDisplacement (listOf (graphOf ns es) (pos root) (pos leaf))
+-- rows behind the first n: their records have exactly what is reached at the leaf, none is empty, and they are no more than paths lead to it
+pub record LeafAppended (g : Graph) (r leaf : ℤ) (old new : List ℤ) (n m : ℕ) : Type 0 where
+  pub rows : List Row
+  pub appended : Appended rows old new n m
+  pub exact : (x y : ℤ) → HasSome (map ofDisplacement rows) x y ↔ Reached g r leaf x y
+  pub full : (q : Record) → q ∈ map ofDisplacement rows → q .first ≤ℤ q .last
+  pub few : length rows ≤ pathCount g r leaf

@@ -13,8 +13,8 @@ ghost use Rattle.model.specs.Graph.{graphOf};
 ghost use Rattle.tables.specs.Tables.{edgeAt};
 ghost use Rattle.steps.specs.Steps.{GoodRow};
 ghost use Rattle.references.specs.References.{referenceOf, own, broughtOf};
-ghost use Rattle.arrivals.specs.State.{markWidth, arenaRow, arenaRows, usedAt, stateRoom, setMark, marked, markNumber, isMet, referenceAt, isListed, usedIn, rootIn};
-ghost use Rattle.arrivals.specs.Sweep.{Sweeping, Gatherable, Gathered, Makeable, Made, Sweepable, Swept, Askable, Answered};
+ghost use Rattle.arrivals.specs.State.{markWidth, arenaRow, arenaRows, freeAt, stateRoom, setMark, marked, markNumber, isMet, referenceAt, isListed, freeRow, rootIn};
+ghost use Rattle.arrivals.specs.Sweep.{Sweeping, Gatherable, Gathered, Normalisable, Normalised, Makeable, Made, Sweepable, Swept, Appendable, LeafAppended};
 ghost use Rattle.arrivals.specs.Moves.{Crossable, crossing, meeting, Storable, storing, Ownable, ListMade, Passable, Blank, begun};
 use forward::first_entering;
 use forward::next_entering;
@@ -24,6 +24,7 @@ use listing::append_row;
 use model::Bits;
 use model::EDGE_WIDTH;
 use model::MAX_CHAIN;
+use model::MAX_NODES;
 use model::MAX_PATHS;
 use model::NODE_WIDTH;
 use normalisation::normalise_rows;
@@ -43,21 +44,21 @@ use tables::edge_to;
 const MARK_WIDTH: usize = 6;
 
 // Behind the marks: from which row on the arena is free, and the root.
-const USED_AT: usize = 12000;
+const FREE_AT: usize = MARK_WIDTH * MAX_NODES;
 
-const ROOT_AT: usize = 12001;
+const ROOT_AT: usize = FREE_AT + 1;
 
 // The first row of the arena; the row up to which any list is stored, and the row up to which those are that take at most a quarter of what is left.
-const ARENA_ROW: usize = 4001;
+const ARENA_ROW: usize = FREE_AT / ROW_WIDTH + 1;
 
-const OPEN_END: usize = 6049;
+const OPEN_END: usize = ARENA_ROW + 1152;
 
-const ARENA_END: usize = 6561;
+const ARENA_END: usize = ARENA_ROW + 1536;
 
 const SHARE: usize = 4;
 
 // The numbers of a state.
-pub const STATE_ROOM: usize = 22755;
+pub const STATE_ROOM: usize = ROW_WIDTH * (ARENA_END + MAX_PATHS);
 
 // Where a list stands in a state: its first row, and how many records it has.
 pub struct ListRows {
@@ -125,6 +126,14 @@ fn number_at(state: &[i64], at: usize) -> usize
     number as usize
 }
 
+// The row from which on the state is free.
+pub fn free_row(state: &[i64]) -> usize
+    requires { ⌜ (freeAt < length (now state)) × (pos 0 ≤ℤ getD (now state) freeAt (pos 0)) ⌝ }
+    ensures { λ r. ⌜ r ≡ freeRow (now (state .entry)) ⌝ }
+{
+    number_at(state, FREE_AT)
+}
+
 // Where the list that is stored for node v stands.
 fn stored_at(state: &[i64], v: usize) -> ListRows
     requires { ⌜
@@ -169,9 +178,9 @@ fn rows_met(state: &[i64], v: usize, owner: usize) -> i64
 // nodes that need lists follow each other, the small lists among them are still stored, and what is gathered through edges comes from few lists.
 fn crowded(state: &[i64], v: usize) -> bool
     requires { ⌜
-        (length (now state) ≡ stateRoom) × (v < maxNodes) × (pos 0 ≤ℤ getD (now state) usedAt (pos 0)) × (usedIn (now state) ≤ arenaRow + arenaRows) ⌝ }
+        (length (now state) ≡ stateRoom) × (v < maxNodes) × (pos 0 ≤ℤ getD (now state) freeAt (pos 0)) × (freeRow (now state) ≤ arenaRow + arenaRows) ⌝ }
 {
-    let used = number_at(state, USED_AT);
+    let used = free_row(state);
     let rows = rows_at(state, v);
     if used + rows <= OPEN_END {
         return false;
@@ -248,6 +257,17 @@ fn gather(
     m
 }
 
+// Makes the list of the records in rows `from` to `to`, where they stand. What stands behind it and in `spare` afterwards is space that was worked in.
+pub fn normalise_between(state: &mut [i64], from: usize, to: usize, spare: &mut [i64]) -> ListRows
+    requires { ⌜ Normalisable (now state) (now spare) from to ⌝ }
+    ensures { λ r. ⌜ Normalised (now (state .entry)) (now (state .exit)) from to r ⌝ }
+{
+    ListRows {
+        row: from,
+        count: normalise_rows(&mut state[ROW_WIDTH * from..], to - from, spare),
+    }
+}
+
 // Makes the list of what a reference brings, in the free part of the state.
 fn make_list(
     nodes: &[i64],
@@ -261,12 +281,9 @@ fn make_list(
     ensures { λ r. ⌜
         Made (graphOf (now (nodes .entry)) (now (edges .entry))) (rootIn (now (state .entry))) (referenceOf f) (now (state .entry)) (now (state .exit)) r ⌝ }
 {
-    let used = number_at(state, USED_AT);
+    let used = free_row(state);
     let n = gather(nodes, edges, plan, f, MAX_CHAIN, state, used);
-    ListRows {
-        row: used,
-        count: normalise_rows(&mut state[ROW_WIDTH * used..], n - used, spare),
-    }
+    normalise_between(state, used, n, spare)
 }
 
 // Stores k rows from row `used` on as the list of node v, where they fit.
@@ -280,7 +297,7 @@ fn store_rows(nodes: &[i64], v: usize, used: usize, k: usize, state: &mut [i64])
         return;
     }
     put_mark(state, v, all, used as i64, k as i64);
-    state[USED_AT] = (used + k) as i64;
+    state[FREE_AT] = (used + k) as i64;
 }
 
 // Makes the list of a node that is its own owner and has none yet, and stores it where there is room.
@@ -383,7 +400,7 @@ fn start_root(nodes: &[i64], root: usize, state: &mut [i64])
             third: high.0,
         },
     );
-    state[USED_AT] = used as i64;
+    state[FREE_AT] = used as i64;
     state[ROOT_AT] = root as i64;
 }
 
@@ -409,28 +426,25 @@ pub fn sweep_root(
     }
 }
 
-// Lists the bitmapping list of the root that the state is swept from and a leaf: rows by displacement, sorted, in the free part of the state. What stands
-// in `spare` afterwards is space that was worked in.
-pub fn list_at(
+// Appends a row for each record of what arrives at a leaf, behind the first n rows of the state: leaf bits count from the leaf's first bit. Nothing is normalised.
+// Returns how many rows stand there then.
+pub fn append_rows(
     nodes: &[i64],
     edges: &[i64],
     plan: &[usize],
     leaf: usize,
     state: &mut [i64],
-    spare: &mut [i64],
-) -> ListRows
-    requires { ⌜ Askable (now nodes) (now edges) (now plan) leaf (now state) (now spare) ⌝ }
+    n: usize,
+) -> usize
+    requires { ⌜ Appendable (now nodes) (now edges) (now plan) leaf (now state) n ⌝ }
     ensures { λ r. ⌜
         ((root : ℕ) → Swept (now (nodes .entry)) (now (edges .entry)) (now (plan .entry)) root (now (state .entry))
-        → Answered (now (nodes .entry)) (now (edges .entry)) (now (plan .entry)) root leaf (now (state .exit)) r) ⌝ }
+        → LeafAppended (graphOf (now (nodes .entry)) (now (edges .entry))) (pos root) (pos leaf) (now (state .entry)) (now (state .exit)) n r) ⌝ }
 {
     if !is_met(state, leaf) {
-        return ListRows {
-            row: number_at(state, USED_AT),
-            count: 0,
-        };
+        return n;
     }
     let all = own_reference(nodes, leaf);
     let part = shifted(reference_at(state, leaf), all.low);
-    make_list(nodes, edges, plan, part, state, spare)
+    gather(nodes, edges, plan, part, MAX_CHAIN, state, n)
 }

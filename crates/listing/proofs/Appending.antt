@@ -30,30 +30,41 @@ pub append-length : {rows : List Row} {old new : List ℤ} {n r : ℕ} → rowWi
 append-length {rows} {old} {n} h a =
     ap length (a .numbers) ∙ simp (length-append, length-drop, length-take) (omega (arith, numbersOf-length rows))
 
+module _ {rows : List Row} {old new : List ℤ} {n r : ℕ} (h : rowWidth * (n + length rows) ≤ length old) (a : Appended rows old new n r) where
+  -- the list up to the rows and with them, and what stands behind
+  parted : new ≡ (take (rowWidth * n) old ++ numbersOf rows) ++ drop (rowWidth * (n + length rows)) old
+  parted = a .numbers ∙ sym (append-assoc (take (rowWidth * n) old) (numbersOf rows) (drop (rowWidth * (n + length rows)) old))
+
+  size : length (take (rowWidth * n) old ++ numbersOf rows) ≡ rowWidth * r
+  size =
+      omega (
+        arith,
+        length-append (take (rowWidth * n) old) (numbersOf rows),
+        length-take-le (rowWidth * n) old (omega (arith, h)),
+        numbersOf-length rows,
+        a .count,
+      )
+
+  append-front : take (rowWidth * r) new ≡ take (rowWidth * n) old ++ numbersOf rows
+  append-front = ap (take (rowWidth * r)) parted ∙ take-at (take (rowWidth * n) old ++ numbersOf rows) (drop (rowWidth * (n + length rows)) old) (rowWidth * r) size
+
+  pub append-behind : drop (rowWidth * r) new ≡ drop (rowWidth * (n + length rows)) old
+  append-behind = ap (drop (rowWidth * r)) parted ∙ drop-at (take (rowWidth * n) old ++ numbersOf rows) (drop (rowWidth * (n + length rows)) old) (rowWidth * r) size
+
 -- rows behind rows
 pub append-append : {first second : List Row} {old mid new : List ℤ} {n m r : ℕ} → rowWidth * (n + length (first ++ second)) ≤ length old
     → Appended first old mid n m → Appended second mid new m r → Appended (first ++ second) old new n r
 append-append {first} {second} {old} {mid} {new} {n} {m} {r} h a b =
-    record { count = omega (arith, a .count, b .count, both); numbers = b .numbers ∙ rw (front, behind, numbersOf-append first second) (simp append-assoc) }
+    record {
+      count = omega (arith, a .count, b .count, both);
+      numbers = b .numbers ∙ rw (append-front room a, behind, numbersOf-append first second) (simp append-assoc);
+    }
   where
     both : length (first ++ second) ≡ length first + length second
     both = length-append first second
 
-    size : length (take (rowWidth * n) old ++ numbersOf first) ≡ rowWidth * m
-    size =
-        omega (
-          arith,
-          length-append (take (rowWidth * n) old) (numbersOf first),
-          length-take-le (rowWidth * n) old (omega (arith, h)),
-          numbersOf-length first,
-          a .count,
-        )
-
-    parted : mid ≡ (take (rowWidth * n) old ++ numbersOf first) ++ drop (rowWidth * (n + length first)) old
-    parted = a .numbers ∙ sym (append-assoc (take (rowWidth * n) old) (numbersOf first) (drop (rowWidth * (n + length first)) old))
-
-    front : take (rowWidth * m) mid ≡ take (rowWidth * n) old ++ numbersOf first
-    front = ap (take (rowWidth * m)) parted ∙ take-at (take (rowWidth * n) old ++ numbersOf first) (drop (rowWidth * (n + length first)) old) (rowWidth * m) size
+    room : rowWidth * (n + length first) ≤ length old
+    room = omega (arith, h, both)
 
     behind : drop (rowWidth * (m + length second)) mid ≡ drop (rowWidth * (n + length (first ++ second))) old
     behind =
@@ -61,8 +72,7 @@ append-append {first} {second} {old} {mid} {new} {n} {m} {r} h a b =
         let q : rowWidth * (n + length (first ++ second)) ≡ rowWidth * (n + length first) + rowWidth * length second = omega (arith, both) in
         rw (p, q)
         (sym (drop-drop (rowWidth * length second) (rowWidth * m) mid)
-        ∙ ap (drop (rowWidth * length second))
-        (ap (drop (rowWidth * m)) parted ∙ drop-at (take (rowWidth * n) old ++ numbersOf first) (drop (rowWidth * (n + length first)) old) (rowWidth * m) size)
+        ∙ ap (drop (rowWidth * length second)) (append-behind room a)
         ∙ drop-drop (rowWidth * length second) (rowWidth * (n + length first)) old)
 
 -- rows appended to none are the first rows

@@ -15,7 +15,7 @@ use Rattle.model.specs.Runs.{leaving}
 use Rattle.tables.specs.Tables.{edgeAt}
 use Rattle.tables.proofs.Rows.{nodes-length, edges-length, edges-at}
 use Rattle.steps.proofs.Rows.{to-row}
-use Rattle.model.specs.Limits.{edgeWidth}
+use Rattle.model.specs.Limits.{nodeWidth, edgeWidth}
 use Rattle.sorting.specs.Rows.{rowWidth}
 use Rattle.sorting.specs.declared.Row.{Row}
 use Rattle.reach.specs.Counting.{pathCount, countsOver}
@@ -28,7 +28,7 @@ use Rattle.listing.proofs.Appending.{append-none, append-append, append
 
 module _ {ns es : List ℤ} {leaf : ℕ} {head next : List ℕ} (k : LinkedTo ns es leaf head next) where
   -- a link for each node
-  heads-length : length ns / 4 ≤ length head
+  heads-length : length ns / nodeWidth ≤ length head
   unfolding graphOf headsOf
   heads-length =
       let counts = countsOver (graphOf ns es) (pos leaf) (k .counts) in

@@ -10,6 +10,7 @@ pub mod Verdicts
 pub mod Lowest
 pub mod Containment
 pub mod ListLaw
+pub mod Groups
 pub mod Chains
 pub mod Checks
 pub mod Settled

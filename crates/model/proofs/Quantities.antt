@@ -6,7 +6,7 @@ use mir.Syntax.{w64}
 use mir.Val.{SFits}
 use Rattle.integers.proofs.Linear.{ints, neg, diff}
 use Rattle.integers.proofs.Range.{fits64}
-use Rattle.model.specs.Quantities.{Addable, Scalable, Movable}
+use Rattle.model.specs.Quantities.{Addable, Scalable, Movable, Subtractable}
 
 -- the sum lies within ±2^62
 pub addable-fits : {number more : ℤ} → Addable number more → SFits w64 (number +ℤ more)
@@ -20,3 +20,7 @@ scalable-fits s = fits64 (omega (arith, ints, s .low, s .high, neg (pos (2 ^ 62)
 pub movable-fits : {address offset : ℤ} → Movable address offset → SFits w64 (address -ℤ offset)
 movable-fits {address} {offset} m =
     fits64 (omega (arith, ints, m .low, m .high, m .offsetLow, m .offsetHigh, neg (pos (2 ^ 62)), diff address offset))
+
+-- the difference fits, as is asked
+pub subtractable-fits : {number less : ℤ} → Subtractable number less → SFits w64 (number -ℤ less)
+subtractable-fits s = fits64 (omega (arith, ints, s .low, s .high, neg (pos (2 ^ 63))))

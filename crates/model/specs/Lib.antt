@@ -6,6 +6,7 @@ pub mod Walk
 pub mod Paths
 pub mod Bitmapping
 pub mod Runs
+pub mod Groups
 pub mod Verdicts
 pub mod Compare
 pub mod Refusals

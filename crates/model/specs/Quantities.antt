@@ -1,7 +1,7 @@
 -- What is asked of numbers that the code adds, scales and moves, so that the results are numbers of 64 bits. Assumes nothing.
 -- The limits of a taken graph lie far inside: bit addresses up to lastAddress, bit offsets within ±maxBits.
 use Prim.Native.Nat.{_^_}
-use lib.IntN.{ℤ, pos, negℤ, _+ℤ_, _*ℤ_}
+use lib.IntN.{ℤ, pos, negℤ, _+ℤ_, _-ℤ_, _*ℤ_}
 use lib.Signed.{_≤ℤ_, _<ℤ_}
 use Rattle.model.specs.Limits.{addressRoom}
 
@@ -21,3 +21,8 @@ pub record Movable (address offset : ℤ) : Type 0 where
   pub high : address <ℤ pos addressRoom
   pub offsetLow : negℤ (pos addressRoom) ≤ℤ offset
   pub offsetHigh : offset ≤ℤ pos addressRoom
+
+-- number − less is a number of 64 bits
+pub record Subtractable (number less : ℤ) : Type 0 where
+  pub low : negℤ (pos (2 ^ 63)) ≤ℤ (number -ℤ less)
+  pub high : (number -ℤ less) <ℤ pos (2 ^ 63)

@@ -4,7 +4,7 @@ ghost use Prim.Native.Nat.{_+_, _≤_};
 ghost use lib.IntN.{pos, _+ℤ_, _-ℤ_, _*ℤ_};
 ghost use Rattle.integers.specs.Integers.{minZ, maxZ};
 ghost use Rattle.model.specs.Answers.{verdictNumber};
-ghost use Rattle.model.specs.Quantities.{Addable, Scalable, Movable};
+ghost use Rattle.model.specs.Quantities.{Addable, Scalable, Movable, Subtractable};
 
 // Numbers of a node row, of an edge row and of a pair.
 pub const NODE_WIDTH: usize = 4;
@@ -122,6 +122,14 @@ impl Bits {
         ensures { λ r. ⌜ r .0 ≡ self .0 -ℤ offset .0 ⌝ }
     {
         Bits(self.0 - offset.0)
+    }
+
+    // The difference of two numbers of bits.
+    pub fn difference(self, less: Bits) -> Bits
+        requires { ⌜ Subtractable (self .0) (less .0) ⌝ }
+        ensures { λ r. ⌜ r .0 ≡ self .0 -ℤ less .0 ⌝ }
+    {
+        Bits(self.0 - less.0)
     }
 
     // The bit address before this one.

@@ -26,7 +26,8 @@ use Rattle.forward.specs.Forward.{plannedOf, LeadingTo}
 use Rattle.pathlimit.specs.Inputs.{FewPaths, Ready}
 use Rattle.arrivals.specs.declared.ListRows.{ListRows}
 use Rattle.entering.specs.Entering.{Covered}
-use Rattle.arrivals.specs.Sweep.{Swept, Askable, Answered}
+use Rattle.arrivals.specs.Sweep.{Swept}
+use Rattle.groups.specs.Banks.{Askable, Answered}
 use Rattle.judging.specs.Judging.{SmallRows}
 use Rattle.pairs.proofs.Lists.{list-few, sorted-small, leaf-normal}
 

@@ -4,7 +4,7 @@ ghost use lib.ListN.{length};
 ghost use Rattle.model.specs.Limits.{pairWidth};
 ghost use Rattle.pairing.specs.Pairs.{tablesOf};
 ghost use Rattle.pairs.specs.Found.{PairReady, PairFound};
-use arrivals::list_at;
+use groups::list_at;
 use judging::judge;
 use pairing::impl_node;
 use pairing::spec_node;

@@ -9,7 +9,7 @@ ghost use Rattle.model.specs.Report.{lineOf, refusalReport};
 ghost use Rattle.report.specs.Put.{Put, fieldAt, maxFields, refusalRoom};
 
 // A number of 64 bits has at most this many digits.
-const MAX_DIGITS: usize = 20;
+const NUMBER_DIGITS: usize = 20;
 
 // The distance of v from 0. That of -2^63 fits no i64, but -1 - v, which is one below it, does.
 pub fn magnitude(v: i64) -> u64
@@ -59,9 +59,9 @@ pub fn put_number(out: &mut [u8], v: i64) -> usize
     let m = magnitude(v);
     if v < 0 {
         out[0] = b'-';
-        return 1 + put_digits(&mut out[1..], m, MAX_DIGITS);
+        return 1 + put_digits(&mut out[1..], m, NUMBER_DIGITS);
     }
-    put_digits(out, m, MAX_DIGITS)
+    put_digits(out, m, NUMBER_DIGITS)
 }
 
 // The length of a number in decimal.
@@ -69,7 +69,7 @@ pub fn number_length(v: i64) -> usize
     ensures { λ r. ⌜ r ≡ length (shown v) ⌝ }
 {
     let m = magnitude(v);
-    let n = digits_length(m, MAX_DIGITS);
+    let n = digits_length(m, NUMBER_DIGITS);
     if v < 0 {
         return n + 1;
     }

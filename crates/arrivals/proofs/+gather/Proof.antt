@@ -76,13 +76,13 @@ abbrev μ-loop : lts.MeasureT-loop
 μ-loop nodes edges plan f left state₀ n owner rows m₀ e₀ state m e = length edges / edgeWidth - e
 
 module _ (t : ℕ) where
-  -- a list of the owner is kept
+  -- a list of the owner is stored
   listed : (c : lts.Then1 (claims t) (at t) reads.Post Inv-loop μ-loop)
       → let s = c .before .before .before .before in
       isListed (s .args .state .now) (s .args .f .owner) ≡ true
   listed c = sym (c .before .is-listed .ensures) ∙ c .if1 .taken
 
-  -- none is kept
+  -- none is stored
   unlisted : (c : lts.Else1 (claims t) (at t) reads.Post Inv-loop μ-loop)
       → let s = c .before .before .before .before in
       isListed (s .args .state .now) (s .args .f .owner) ≡ false

@@ -1,15 +1,13 @@
--- The used part ends at most at the last row that is kept.
-use mathlib.Core.Path.{ap}
+-- The used part ends at most at the last row that is stored.
 use Prim.Native.Nat.{_+_, _≤_}
 use native.Mathlib.Omega.{arith}
 use borrow.Author.Needs.{needs}
-use lib.IntN.{natAbs}
 use Rattle.arrivals.specs.State.{arenaRow, arenaRows}
 use Rattle.arrivals.proofs.crowded.Statement.{statement}
 use Rattle.arrivals.proofs.crowded.Tie as tie
 
-used : (c : tie.After-number-at) → c .number-at .result ≤ arenaRow + arenaRows
-used c = omega (arith, ap natAbs (c .number-at .ensures), c .before .pre .3)
+used : (c : tie.After-free-row) → c .free-row .result ≤ arenaRow + arenaRows
+used c = omega (arith, c .free-row .ensures, c .before .pre .3)
 
 add-if1 : tie.Need-add-if1
 add-if1 c = omega (arith, used (c .before))

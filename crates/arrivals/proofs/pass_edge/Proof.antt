@@ -1,4 +1,4 @@
--- What has arrived at the node that the edge leaves, of which a list may have been kept, comes to the node that it enters.
+-- What has arrived at the node that the edge leaves, of which a list may have been stored, comes to the node that it enters.
 use mathlib.Core.Path.{_≡_, refl, sym, ap, _∙_}
 use mathlib.Core.Bool.{true}
 use native.Mathlib.Omega.{arith}
@@ -27,11 +27,11 @@ leaves k = let s = k .before .before .before in from-read (s .pre .sweeping) (s 
 met : (k : tie.Else1) → let e = k .before .before .before in isMet (e .before .before .before .args .state .now) (e .edge-from .result) ≡ true
 met k = sym (k .before .is-met .ensures) ∙ not-false (k .before .is-met .result) (k .if1 .left)
 
--- the state is swept as far once a list may have been kept
-kept : (k : tie.After-store-list)
+-- the state is swept as far once a list may have been stored
+swept : (k : tie.After-store-list)
     → let s = k .before .before .before .before .before .before .before .before .before in
     Sweeping (s .args .nodes .now) (s .args .edges .now) (s .args .plan .now) (s .args .i) (k .store-list .last .1 .1 .1 .1 .0)
-kept k =
+swept k =
     let s = k .before .before .before .before .before .before .before .before .before in
     k .store-list .ensures .sweeping (s .args .i) (s .pre .sweeping)
 
@@ -57,7 +57,7 @@ came k =
     let l = t .before .before .before in
     let p = l .before .before .before .before .before .before .before in
     let s = p .before .before in
-    crossing-read (kept l) (s .pre .there) (p .planned-row .ensures) (enters t) (o .own-reference .ensures (s .args .edges .now)) (k .brought-over .ensures)
+    crossing-read (swept l) (s .pre .there) (p .planned-row .ensures) (enters t) (o .own-reference .ensures (s .args .edges .now)) (k .brought-over .ensures)
 
 edge-from-requires : tie.Need-edge-from-requires
 edge-from-requires c κs =
@@ -107,7 +107,7 @@ brought-over-requires c κs =
     let l = t .before .before .before in
     let p = l .before .before .before .before .before .before .before in
     let s = p .before .before in
-    next-crossable (kept l) (s .pre .there) (p .planned-row .ensures) (enters t) (o .own-reference .ensures (s .args .edges .now))
+    next-crossable (swept l) (s .pre .there) (p .planned-row .ensures) (enters t) (o .own-reference .ensures (s .args .edges .now))
 
 meet-requires : tie.Need-meet-requires
 meet-requires c κs =
@@ -116,7 +116,7 @@ meet-requires c κs =
     let l = t .before .before .before in
     let e = l .before .before .before .before .before .before in
     let there = e .before .before .before .pre .there in
-    let w = kept l in
+    let w = swept l in
     let row = next-to w there (enters t) in
     let low = row-few (w .tables) row in
     let inOwner =
@@ -134,7 +134,7 @@ returns-2 c =
     let s = e .before .before .before in
     let g = graphOf (s .args .nodes .now) (s .args .edges .now) in
     let there = s .pre .there in
-    let w = kept l in
+    let w = swept l in
     let f = referenceOf (b .brought .given .0 .0) in
     let rows = m .meet .ensures .0 in
     rw (m .meet .ensures .1 (s .args .edges .now)) (
@@ -149,7 +149,7 @@ returns-3 c =
     let x = c .before .before in
     let l = x .before .before .before .before .before .before in
     let e = l .before .before .before .before .before .before in (
-      sweeping-nothing (kept l) (e .before .before .before .pre .there) (e .edge-from .result) (leaves e) (l .store-list .ensures .met)
+      sweeping-nothing (swept l) (e .before .before .before .pre .there) (e .edge-from .result) (leaves e) (l .store-list .ensures .met)
           (came x ∙ ap broughtOf (c .enum-told .given .1)),
       l .store-list .ensures .root,
     )

@@ -1,4 +1,4 @@
--- The rows of the node's reference are gathered behind the used part of the arena, merged there, and kept; where the node is not its own owner, or has its
+-- The rows of the node's reference are gathered behind the used part of the arena, merged there, and stored; where the node is not its own owner, or has its
 -- list already, nothing is done.
 use mathlib.Core.Path.{_≡_, sym, ap, subst, _∙_}
 use mathlib.Core.Bool.{false}
@@ -16,7 +16,7 @@ use Rattle.arrivals.specs.State.{markWidth, isListed, notListed}
 use Rattle.arrivals.specs.Moves.{ListMade}
 use Rattle.integers.proofs.Linear.{ints}
 use Rattle.arrivals.proofs.Agreeing.{rows-few}
-use Rattle.arrivals.proofs.Keeping.{kept-same, ownable-makeable, keeping-storable, keeping-kept}
+use Rattle.arrivals.proofs.Storing.{unstored-same, ownable-makeable, stored-storable, storing-made}
 use Rattle.arrivals.proofs.store_list.Statement.{statement}
 use Rattle.arrivals.proofs.store_list.Tie as tie
 
@@ -28,13 +28,13 @@ reference-at-requires : tie.Need-reference-at-requires
 reference-at-requires c κs = let s = c .before .before in (mark-there s, s .pre .met)
 
 returns : tie.Need-returns
-returns c = kept-same (c .before .before .before .before .before .pre)
+returns c = unstored-same (c .before .before .before .before .before .pre)
 
 list-row-requires : tie.Need-list-row-requires
 list-row-requires c κs = mark-there (c .before .before .before .before .before .before)
 
 returns-2 : tie.Need-returns-2
-returns-2 c = kept-same (c .before .before .before .before .before .before .before .before .pre)
+returns-2 c = unstored-same (c .before .before .before .before .before .before .before .before .pre)
 
 -- the node has no list yet
 unlisted : (c : tie.Else2) → let s = c .before .before .before .before .before .before .before .before in isListed (s .args .state .now) (s .args .v) ≡ false
@@ -47,10 +47,10 @@ crowded-requires : tie.Need-crowded-requires
 crowded-requires c κs =
     let s = c .before .before .before .before .before .before .before .before .before in
     let w = s .pre .sweeping in
-    (w .room, rows-few (w .tables) (s .pre .row), omega (arith, ints, w .usedNumber), w .usedHigh)
+    (w .room, rows-few (w .tables) (s .pre .row), omega (arith, ints, w .freeNumber), w .freeHigh)
 
 returns-3 : tie.Need-returns-3
-returns-3 c = kept-same (c .before .before .before .before .before .before .before .before .before .before .before .pre)
+returns-3 c = unstored-same (c .before .before .before .before .before .before .before .before .before .before .before .pre)
 
 make-list-requires : tie.Need-make-list-requires
 make-list-requires c κs =
@@ -63,7 +63,7 @@ store-rows-requires c κs =
     let m = c .before .before .before in
     let i = m .before .before .before .before .before .before .before .before .before in
     let f = i .before .before in
-    keeping-storable (f .before .before .before .pre) (f .reference-at .ensures) (ap pos (i .if1 .left)) (m .make-list .ensures)
+    stored-storable (f .before .before .before .pre) (f .reference-at .ensures) (ap pos (i .if1 .left)) (m .make-list .ensures)
 
 returns-4 : tie.Need-returns-4
 returns-4 c =
@@ -75,7 +75,7 @@ returns-4 c =
     let s = f .before .before .before in
     subst (ListMade (s .args .nodes .now) (s .args .edges .now) (s .args .plan .now) (s .args .v) (s .args .state .now))
     (sym (k .store-rows .ensures (s .args .edges .now)))
-    (keeping-kept (s .pre) (f .reference-at .ensures) (ap pos (i .if1 .left)) (m .make-list .ensures) (unlisted e))
+    (storing-made (s .pre) (f .reference-at .ensures) (ap pos (i .if1 .left)) (m .make-list .ensures) (unlisted e))
 
 pub store-list-spec : {M : Type 1} → statement M
 store-list-spec =

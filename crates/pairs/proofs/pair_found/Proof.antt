@@ -14,7 +14,7 @@ use Rattle.tables.specs.Tables.{pairAt}
 use Rattle.tables.proofs.Rows.{pair-member}
 use Rattle.sorting.specs.Rows.{rowWidth}
 use Rattle.arrivals.specs.State.{stateRoom}
-use Rattle.arrivals.specs.Sweep.{Answered}
+use Rattle.groups.specs.Banks.{Answered}
 use Rattle.pairs.proofs.Sides.{Side, spec-side, impl-side, side-normal, side-askable, side-count, side-rows, side-few, side-small, side-swept}
 use Rattle.pairs.proofs.pair_found.Statement.{statement}
 use Rattle.pairs.proofs.pair_found.Tie as tie

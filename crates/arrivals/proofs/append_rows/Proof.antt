@@ -1,21 +1,21 @@
--- The list is that of the leaf's reference, shifted by the leaf's first bit; where nothing has arrived it is empty. That the number by which it is shifted
+-- The rows are those of the leaf's reference, shifted by the leaf's first bit; where nothing has arrived there is none. That the number by which it is shifted
 -- is small is shown of the delta as well: where that is taken, the equation of the reference is refused first.
-use mathlib.Core.Path.{_≡_, refl, sym, ap, _∙_}
+use mathlib.Core.Path.{_≡_, sym, ap, _∙_}
 use mathlib.Core.Bool.{true}
 use Prim.Native.Nat.{_+_, _*_, _≤_}
 use native.Mathlib.Omega.{arith}
 use borrow.Author.Needs.{needs}
 use borrow.Author.Tests.{not-true, not-false}
-use lib.IntN.{ℤ, pos, natAbs}
+use lib.IntN.{ℤ, pos}
 use lib.ListN.{length}
 use Rattle.integers.proofs.Linear.{ints}
 use Rattle.model.specs.Graph.{graphOf, node, firstBit}
 use Rattle.references.specs.References.{Reference, referenceOf, shifted}
 use Rattle.arrivals.specs.State.{markWidth, isMet}
 use Rattle.arrivals.proofs.Agreeing.{row-few}
-use Rattle.arrivals.proofs.Answering.{leafPart, leaf-good, first-small, answered-unmet, part-movable, askable-makeable, answered}
-use Rattle.arrivals.proofs.list_at.Statement.{statement}
-use Rattle.arrivals.proofs.list_at.Tie as tie
+use Rattle.arrivals.proofs.LeafRows.{leafPart, leaf-good, first-small, leaf-unmet, part-movable, part-gatherable, part-appended}
+use Rattle.arrivals.proofs.append_rows.Statement.{statement}
+use Rattle.arrivals.proofs.append_rows.Tie as tie
 
 -- the mark of the leaf stands in the state
 mark-there : (s : tie.Start) → markWidth * s .args .leaf + markWidth ≤ length (s .args .state .now)
@@ -24,16 +24,8 @@ mark-there s = let w = s .pre .state .state in omega (arith, w .room, row-few (w
 is-met-requires : tie.Need-is-met-requires
 is-met-requires c κs = mark-there (c .before .before)
 
-number-at-requires : tie.Need-number-at-requires
-number-at-requires c κs =
-    let w = c .before .before .before .before .before .pre .state .state in
-    (omega (arith, w .room), omega (arith, ints, w .usedNumber))
-
 returns : tie.Need-returns
-returns c root w =
-    let b = c .before .before in
-    let m = b .before in
-    answered-unmet (m .before .before .before .pre) w (ap natAbs (c .number-at .ensures)) refl (sym (m .is-met .ensures) ∙ not-true _ (b .if1 .taken))
+returns c root w = let m = c .before in leaf-unmet (m .before .before .before .pre) w (sym (m .is-met .ensures) ∙ not-true _ (c .if1 .taken))
 
 own-reference-requires : tie.Need-own-reference-requires
 own-reference-requires c κs = leaf-good (c .before .before .before .before .pre)
@@ -72,31 +64,29 @@ part c =
     ∙ ap (λ (o : ℤ). shifted o (referenceOf (f .reference-at .result))) (first w)
     ∙ ap (shifted (firstBit (node (graphOf (s .nodes .now) (s .edges .now)) (pos (s .leaf))))) (f .reference-at .ensures)
 
-make-list-requires : tie.Need-make-list-requires
-make-list-requires c κs =
-    let f = c .before .before in
+gather-requires : tie.Need-gather-requires
+gather-requires c κs =
+    let f = c .before in
     let e = f .before .before .before .before in
-    askable-makeable (e .before .before .before .before .pre) (met e) (part f)
+    part-gatherable (e .before .before .before .before .pre) (met e) (part f)
 
 returns-2 : tie.Need-returns-2
 returns-2 c root w =
-    let m = c .before .before in
-    let f = m .before .before .before in
+    let m = c .before in
+    let f = m .before .before in
     let e = f .before .before .before .before in
-    answered (e .before .before .before .before .pre) (met e) (part f) w (m .make-list .ensures)
+    part-appended (e .before .before .before .before .pre) (met e) (part f) w (m .gather .ensures)
 
-pub list-at-spec : {M : Type 1} → statement M
-list-at-spec =
+pub append-rows-spec : {M : Type 1} → statement M
+append-rows-spec =
     tie.close
     (tie.spec
     is-met-requires
-    number-at-requires
     (λ c. search needs)
     returns
     own-reference-requires
     reference-at-requires
     shifted-requires
-    make-list-requires
-    (λ c. search needs)
+    gather-requires
     (λ c. search needs)
     returns-2)

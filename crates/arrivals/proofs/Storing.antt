@@ -1,4 +1,4 @@
--- The list of a node that is its own owner: its rows are gathered behind the used part of the arena, merged, and kept where there is room.
+-- The list of a node that is its own owner: its rows are gathered behind the used part of the arena, merged, and stored where there is room.
 use mathlib.Core.Path.{_≡_, refl, sym, ap, _∙_, subst}
 use mathlib.Core.Bool.{Bool, true, false, cond}
 use mathlib.Core.List.{List, map}
@@ -27,12 +27,12 @@ use Rattle.references.specs.References.{Reference, own, Brings, InOwner, record
 use Rattle.references.proofs.Bringing.{own-brings, own-lying}
 use Rattle.entering.specs.Entering.{Covered}
 use Rattle.arrivals.specs.declared.ListRows.{ListRows}
-use Rattle.arrivals.specs.State.{markWidth, Mark, markNumber, markAt, setMark, marked, isMet, referenceAt, isListed, listRow, countOf, usedAt, rootAt, arenaRow, arenaRows, stateRoom, usedIn, rootIn, Agree, noRoom}
+use Rattle.arrivals.specs.State.{markWidth, Mark, markNumber, markAt, setMark, marked, isMet, referenceAt, isListed, listRow, countOf, freeAt, rootAt, arenaRow, arenaRows, stateRoom, freeRow, rootIn, Agree, noRoom}
 use Rattle.arrivals.specs.Sweep.{HasSome, doneOf, Listed, Sweeping, Makeable, Made}
 use Rattle.arrivals.specs.Moves.{Storable, storing, Ownable, ListMade}
 use Rattle.arrivals.proofs.Relisting.{row-number, number-row, listed-moved, Relisted, relisted-met, relisted-sweeping}
 use Rattle.arrivals.proofs.Marks.{mark-same, mark-other, mark-behind, mark-length, mark-root}
-use Rattle.arrivals.proofs.Agreeing.{agree-root, agree-used, met-agrees, reference-agrees, listed-agrees, rows-few, sweeping-agrees}
+use Rattle.arrivals.proofs.Agreeing.{agree-root, agree-free, met-agrees, reference-agrees, listed-agrees, rows-few, sweeping-agrees}
 use Rattle.arrivals.proofs.Settled.{not-both}
 use Rattle.arrivals.proofs.Making.{made-few, made-exact, made-full, made-ascending}
 
@@ -42,49 +42,49 @@ use Rattle.arrivals.proofs.Making.{made-few, made-exact, made-full, mad
 pub record Remarked (v : ℕ) (m : Mark) (used : ℕ) (s t : List ℤ) : Type 0 where
   pub long : length t ≡ length s
   pub root : rootIn t ≡ rootIn s
-  pub number : getD t usedAt (pos 0) ≡ pos used
+  pub number : getD t freeAt (pos 0) ≡ pos used
   pub same : markAt t v ≡ m
   pub other : (w : ℕ) → w < maxNodes → w ≢ v → markAt t w ≡ markAt s w
   pub behind : (n : ℕ) → rowWidth * arenaRow ≤ n → drop n t ≡ drop n s
 
 module _ (s : List ℤ) (v : ℕ) (m : Mark) (row : v < maxNodes) (room : length s ≡ stateRoom) where
   -- the numbers behind the marks stay
-  mark-drop : (n : ℕ) → usedAt ≤ n → drop n (setMark s v m) ≡ drop n s
+  mark-drop : (n : ℕ) → freeAt ≤ n → drop n (setMark s v m) ≡ drop n s
   mark-drop n h =
       ext-getD (pos 0) (drop n (setMark s v m)) (drop n s) (simp length-drop (rw (mark-length s v m) refl)) (λ i k.
       getD-drop n (setMark s v m) i (pos 0) ∙ mark-behind s v (n + i) m row (omega arith) ∙ sym (getD-drop n s i (pos 0)))
 
   -- a mark stored
-  pub remarked-mark : (used : ℕ) → getD s usedAt (pos 0) ≡ pos used → Remarked v m used s (setMark s v m)
+  pub remarked-mark : (used : ℕ) → getD s freeAt (pos 0) ≡ pos used → Remarked v m used s (setMark s v m)
   remarked-mark used e =
       record {
         long = mark-length s v m;
         root = mark-root s v m row;
-        number = mark-behind s v usedAt m row (omega arith) ∙ e;
+        number = mark-behind s v freeAt m row (omega arith) ∙ e;
         same = mark-same s v m (omega (arith, room));
         other = λ w h n. mark-other s v w m n;
         behind = λ n h. mark-drop n (omega arith);
       }
 
   -- a mark stored, and more rows used
-  pub remarked-used : (used : ℕ) → Remarked v m used s (set (setMark s v m) usedAt (pos used))
-  remarked-used used =
+  pub remarked-free : (used : ℕ) → Remarked v m used s (set (setMark s v m) freeAt (pos used))
+  remarked-free used =
       let t = setMark s v m in
       let long = mark-length s v m in
       record {
-        long = length-set t usedAt (pos used) ∙ long;
-        root = getD-set-other t usedAt rootAt (pos used) (pos 0) (λ e. omega arith) ∙ mark-root s v m row;
-        number = getD-set-same t usedAt (pos used) (pos 0) (omega (arith, long, room));
-        same = used-other v row ∙ mark-same s v m (omega (arith, room));
-        other = λ w h n. used-other w h ∙ mark-other s v w m n;
-        behind = λ n h. drop-set-lt n t usedAt (pos used) (omega arith) ∙ mark-drop n (omega arith);
+        long = length-set t freeAt (pos used) ∙ long;
+        root = getD-set-other t freeAt rootAt (pos used) (pos 0) (λ e. omega arith) ∙ mark-root s v m row;
+        number = getD-set-same t freeAt (pos used) (pos 0) (omega (arith, long, room));
+        same = free-other v row ∙ mark-same s v m (omega (arith, room));
+        other = λ w h n. free-other w h ∙ mark-other s v w m n;
+        behind = λ n h. drop-set-lt n t freeAt (pos used) (omega arith) ∙ mark-drop n (omega arith);
       }
     where
       -- no mark has the number of rows
-      used-other : (w : ℕ) → w < maxNodes → markAt (set (setMark s v m) usedAt (pos used)) w ≡ markAt (setMark s v m) w
-      used-other w h =
-          let number : (k : ℕ) → k < markWidth → getD (set (setMark s v m) usedAt (pos used)) (markWidth * w + k) (pos 0) ≡ getD (setMark s v m) (markWidth * w + k) (pos 0) =
-          λ k l. getD-set-other (setMark s v m) usedAt (markWidth * w + k) (pos used) (pos 0) (λ e. omega arith) in
+      free-other : (w : ℕ) → w < maxNodes → markAt (set (setMark s v m) freeAt (pos used)) w ≡ markAt (setMark s v m) w
+      free-other w h =
+          let number : (k : ℕ) → k < markWidth → getD (set (setMark s v m) freeAt (pos used)) (markWidth * w + k) (pos 0) ≡ getD (setMark s v m) (markWidth * w + k) (pos 0) =
+          λ k l. getD-set-other (setMark s v m) freeAt (markWidth * w + k) (pos used) (pos 0) (λ e. omega arith) in
           let owner = number 0 (omega arith) in
           let delta = number 1 (omega arith) in
           let low = number 2 (omega arith) in
@@ -96,7 +96,7 @@ module _ (s : List ℤ) (v : ℕ) (m : Mark) (row : v < maxNodes) (room : length
 -- a node that is its own owner and has no list is given a mark with the same reference: the state keeps all but the list
 module _ {ns es : List ℤ} {plan : List ℕ} {i v used : ℕ} {s t : List ℤ} {m : Mark} (w : Sweeping ns es plan i s) (c : Remarked v m used s t)
     (reference : referenceAt s v ≡ record { owner = m .owner; delta = m .delta; low = m .low; high = m .high }) (unlisted : isListed s v ≡ false)
-    (more : usedIn s ≤ used) (room : used ≤ arenaRow + arenaRows)
+    (more : freeRow s ≤ used) (room : used ≤ arenaRow + arenaRows)
     (list : leZ (pos 0) (m .row) ≡ true → Listed (graphOf ns es) (rootIn s) t v)
   where
     -- what is so of v, and of the other nodes with the mark that they had, is so of all
@@ -110,15 +110,15 @@ module _ {ns es : List ℤ} {plan : List ℕ} {i v used : ℕ} {s t : List ℤ} 
     -- the references are those of before, and the lists are right
     pub remarked-relisted : Relisted ns es s t
     remarked-relisted =
-        let after : usedIn t ≡ used = ap natAbs (c .number) in
+        let after : freeRow t ≡ used = ap natAbs (c .number) in
         let of : Mark → Reference = λ m. record { owner = m .owner; delta = m .delta; low = m .low; high = m .high } in
         record {
           long = c .long;
           root = c .root;
           references = mark-cases (λ x. referenceAt t x ≡ referenceAt s x) (ap of (c .same) ∙ sym reference) (λ x e. ap of e);
-          usedNumber = ap pos after ∙ sym (c .number);
-          usedLow = omega (arith, after, more, w .usedLow);
-          usedHigh = omega (arith, after, room);
+          freeNumber = ap pos after ∙ sym (c .number);
+          freeLow = omega (arith, after, more, w .freeLow);
+          freeHigh = omega (arith, after, room);
           rootListed = λ r p.
               mark-cases (λ x. isListed s x ≡ true → isListed t x ≡ true) (λ q. absurd (not-both q unlisted))
               (λ x e q. ap (λ (m : Mark). leZ (pos 0) (m .row)) e ∙ q) r (row-number ns es (subst (NodeRow (graphOf ns es)) (sym p) (w .root .row)))
@@ -140,8 +140,8 @@ module _ {ns es : List ℤ} {plan : List ℕ} {i v used : ℕ} {s t : List ℤ} 
 -- room for it, has what its reference brings: all that arrives there. So the state is still swept as far (relisted-sweeping).
 
 -- where nothing is done all stays
-pub kept-same : {ns es : List ℤ} {plan : List ℕ} {v : ℕ} {s spare : List ℤ} → Ownable ns es plan v s spare → ListMade ns es plan v s s
-kept-same o = record { met = o .met; root = refl; sweeping = λ i w. w }
+pub unstored-same : {ns es : List ℤ} {plan : List ℕ} {v : ℕ} {s spare : List ℤ} → Ownable ns es plan v s spare → ListMade ns es plan v s s
+unstored-same o = record { met = o .met; root = refl; sweeping = λ i w. w }
 
 -- a node whose reference f, as it is read, has the node itself as owner
 module _ {ns es : List ℤ} {plan : List ℕ} {v : ℕ} {s spare : List ℤ} (o : Ownable ns es plan v s spare) {f : Reference}
@@ -165,7 +165,7 @@ module _ {ns es : List ℤ} {plan : List ℕ} {v : ℕ} {s spare : List ℤ} (o 
             covered = subst (Covered es (doneOf es plan (o .passed))) (sym owner) (o .covered);
             deep = λ p y. way-short (w .tables .graph .short) y;
             behind = omega arith;
-            room = omega (arith, w .room, w .usedHigh, few);
+            room = omega (arith, w .room, w .freeHigh, few);
           };
           few = few;
           spareRoom = o .spareRoom;
@@ -173,31 +173,31 @@ module _ {ns es : List ℤ} {plan : List ℕ} {v : ℕ} {s spare : List ℤ} (o 
 
     module _ {u : List ℤ} {p : ListRows} (q : Made (graphOf ns es) (rootIn s) f s u p) where
       low : arenaRow ≤ p .row
-      low = omega (arith, q .at, o .sweeping .usedLow)
+      low = omega (arith, q .at, o .sweeping .freeLow)
 
       swept : {i : ℕ} → Sweeping ns es plan i s → Sweeping ns es plan i u
       swept w = sweeping-agrees w (subst (λ n. Agree n s u) (q .at) (q .agrees))
 
       -- the records may become its list
-      pub keeping-storable : Storable ns v (p .row) (p .count) u
-      keeping-storable =
+      pub stored-storable : Storable ns v (p .row) (p .count) u
+      stored-storable =
           let w = o .sweeping in
           record {
             good = node-good (w .tables) (number-row ns es (o .row));
             row = rows-few (w .tables) (o .row);
             room = q .agrees .long ∙ w .room;
-            few = omega (arith, q .at, w .usedHigh, made-few q, ownable-makeable .few);
+            few = omega (arith, q .at, w .freeHigh, made-few q, ownable-makeable .few);
           }
 
       -- the list that is stored is that of v
-      kept-listed : (z : List ℤ) → Remarked v (marked (own (graphOf ns es) (pos v)) (pos (p .row)) (pos (p .count))) (p .row + p .count) u z
+      stored-listed : (z : List ℤ) → Remarked v (marked (own (graphOf ns es) (pos v)) (pos (p .row)) (pos (p .count))) (p .row + p .count) u z
           → Listed (graphOf ns es) (rootIn u) z v
-      kept-listed z c =
+      stored-listed z c =
           let g = graphOf ns es in
           let row : listRow z v ≡ p .row = ap (λ (m : Mark). natAbs (m .row)) (c .same) in
           let number : markNumber z v 5 ≡ pos (p .count) = ap (λ (m : Mark). m .count) (c .same) in
           let count : countOf z v ≡ p .count = ap natAbs number in
-          let after : usedIn z ≡ p .row + p .count = ap natAbs (c .number) in
+          let after : freeRow z ≡ p .row + p .count = ap natAbs (c .number) in
           let root : rootIn s ≡ rootIn u = sym (agree-root low (q .agrees)) in
           let records : recordsAt z (listRow z v) (countOf z v) ≡ recordsAt u (p .row) (p .count) =
           ap (λ n. recordsAt z n (countOf z v)) row
@@ -219,8 +219,8 @@ module _ {ns es : List ℤ} {plan : List ℕ} {v : ℕ} {s spare : List ℤ} (o 
           }
 
       -- v stays marked, and the state is what it was after as many edges
-      kept-relisted : (z : List ℤ) → ((i : ℕ) → Sweeping ns es plan i u → Relisted ns es u z) → ListMade ns es plan v s z
-      kept-relisted z relisted =
+      stored-relisted : (z : List ℤ) → ((i : ℕ) → Sweeping ns es plan i u → Relisted ns es u z) → ListMade ns es plan v s z
+      stored-relisted z relisted =
           let c = relisted (o .passed) (swept (o .sweeping)) in
           record {
             met = relisted-met c v (o .row) ∙ met-agrees low (q .agrees) v (rows-few (o .sweeping .tables) (o .row)) ∙ o .met;
@@ -229,8 +229,8 @@ module _ {ns es : List ℤ} {plan : List ℕ} {v : ℕ} {s spare : List ℤ} (o 
           }
 
       -- the list is stored where there is room
-      pub keeping-kept : isListed s v ≡ false → ListMade ns es plan v s (storing (own (graphOf ns es) (pos v)) v (p .row) (p .count) u)
-      keeping-kept unlisted = go (ltb (arenaRow + arenaRows) (p .row + p .count)) (ltb? (arenaRow + arenaRows) (p .row + p .count))
+      pub storing-made : isListed s v ≡ false → ListMade ns es plan v s (storing (own (graphOf ns es) (pos v)) v (p .row) (p .count) u)
+      storing-made unlisted = go (ltb (arenaRow + arenaRows) (p .row + p .count)) (ltb? (arenaRow + arenaRows) (p .row + p .count))
         where
           row : v < maxNodes
           row = rows-few (o .sweeping .tables) (o .row)
@@ -244,22 +244,22 @@ module _ {ns es : List ℤ} {plan : List ℕ} {v : ℕ} {s spare : List ℤ} (o 
           room : length u ≡ stateRoom
           room = q .agrees .long ∙ o .sweeping .room
 
-          used-before : usedIn u ≡ p .row
-          used-before = agree-used low (q .agrees) ∙ sym (q .at)
+          free-before : freeRow u ≡ p .row
+          free-before = agree-free low (q .agrees) ∙ sym (q .at)
 
-          number : getD u usedAt (pos 0) ≡ pos (p .row)
-          number = q .agrees .same usedAt (omega (arith, low)) ∙ sym (ap pos (q .at) ∙ o .sweeping .usedNumber)
+          number : getD u freeAt (pos 0) ≡ pos (p .row)
+          number = q .agrees .same freeAt (omega (arith, low)) ∙ sym (ap pos (q .at) ∙ o .sweeping .freeNumber)
 
           go : (b : Bool) → Test (arenaRow + arenaRows < p .row + p .count) (p .row + p .count ≤ arenaRow + arenaRows) b
               → ListMade ns es plan v s (cond b (setMark u v (marked (own (graphOf ns es) (pos v)) noRoom (pos 0)))
-              (set (setMark u v (marked (own (graphOf ns es) (pos v)) (pos (p .row)) (pos (p .count)))) usedAt (pos (p .row + p .count))))
+              (set (setMark u v (marked (own (graphOf ns es) (pos v)) (pos (p .row)) (pos (p .count)))) freeAt (pos (p .row + p .count))))
           go true (passed h) =
               let m = marked (own (graphOf ns es) (pos v)) noRoom (pos 0) in
               let c = remarked-mark u v m row room (p .row) number in
-              kept-relisted (setMark u v m) (λ i w.
-              remarked-relisted w c reference none (omega (arith, used-before)) (omega (arith, q .at, o .sweeping .usedHigh)) (λ q. absurd (not-both q refl)))
+              stored-relisted (setMark u v m) (λ i w.
+              remarked-relisted w c reference none (omega (arith, free-before)) (omega (arith, q .at, o .sweeping .freeHigh)) (λ q. absurd (not-both q refl)))
           go false (failed h) =
               let m = marked (own (graphOf ns es) (pos v)) (pos (p .row)) (pos (p .count)) in
-              let c = remarked-used u v m row room (p .row + p .count) in
-              let z = set (setMark u v m) usedAt (pos (p .row + p .count)) in
-              kept-relisted z (λ i w. remarked-relisted w c reference none (omega (arith, used-before)) h (λ q. kept-listed z c))
+              let c = remarked-free u v m row room (p .row + p .count) in
+              let z = set (setMark u v m) freeAt (pos (p .row + p .count)) in
+              stored-relisted z (λ i w. remarked-relisted w c reference none (omega (arith, free-before)) h (λ q. stored-listed z c))

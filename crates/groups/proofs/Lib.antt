@@ -1,0 +1,3 @@
+pub mod Raising
+pub mod Gathering
+pub mod Joining

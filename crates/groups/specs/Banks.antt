@@ -1,0 +1,91 @@
+-- The rows of the banks of a group, gathered in the free part of a swept state, and the list that they become. Assumes nothing.
+use mathlib.Core.Path.{_≡_}
+use mathlib.Core.List.{List}
+use mathlib.Core.Logic.{_↔_}
+use Prim.Native.Nat.{ℕ, _+_, _-_, _*_, _≤_}
+use lib.IntN.{ℤ, pos}
+use lib.Signed.{_≤ℤ_}
+use lib.ListN.{length, take}
+use Rattle.lists.specs.Lists.{_∈_}
+use Rattle.model.specs.Limits.{maxPaths}
+use Rattle.model.specs.Quantities.{Subtractable}
+use Rattle.model.specs.Graph.{graphOf}
+use Rattle.model.specs.Paths.{Leaf}
+use Rattle.model.specs.Bitmapping.{Record}
+use Rattle.model.specs.Runs.{listOf}
+use Rattle.model.specs.Groups.{Bank, GroupReached, raisedBy, groupList, groupPaths}
+use Rattle.reach.specs.Counting.{pathCount}
+use Rattle.sorting.specs.declared.Row.{Row}
+use Rattle.sorting.specs.Rows.{rowWidth, rowsFrom}
+use Rattle.normalisation.specs.Merging.{byDisplacement, ofDisplacement, sortedByDisplacement}
+use Rattle.entering.specs.Entering.{Covered}
+use Rattle.forward.specs.Forward.{plannedOf}
+use Rattle.references.specs.References.{recordsAt}
+use Rattle.arrivals.specs.declared.ListRows.{ListRows}
+use Rattle.arrivals.specs.State.{freeRow}
+use Rattle.arrivals.specs.Sweep.{HasSome, Swept}
+
+-- ---- rows raised
+
+-- the row of the record with its leaf bits so much higher
+abbrev pub raisedRow : ℤ → Row → Row
+raisedRow at r = byDisplacement (raisedBy at (ofDisplacement r))
+
+-- rows n to m of a state, whose displacements less `at` are numbers of 64 bits
+pub record Raisable (at : ℤ) (s : List ℤ) (n m : ℕ) : Type 0 where
+  pub order : n ≤ m
+  pub within : rowWidth * m ≤ length s
+  pub fits : (r : Row) → r ∈ rowsFrom s n m → Subtractable (r .first) at
+
+-- ---- the rows of banks
+
+-- the bank with this leaf, which begins at this leaf bit of the group
+abbrev pub bankOf : ℕ → ℤ → Bank
+bankOf leaf at = record { leaf = pos leaf; at = at }
+
+-- a state swept from a root, with the rows of some banks from the free row up to row n: their records have exactly what is reached in the group of these banks,
+-- none is empty, and they are no more than paths lead to the banks together
+pub record Gathering (ns es : List ℤ) (plan : List ℕ) (root : ℕ) (banks : List Bank) (s : List ℤ) (n : ℕ) : Type 0 where
+  pub state : Swept ns es plan root s
+  pub leaves : (b : Bank) → b ∈ banks → Leaf (graphOf ns es) (b .leaf)
+  pub behind : freeRow s ≤ n
+  pub within : rowWidth * n ≤ length s
+  pub exact : (x y : ℤ) → HasSome (recordsAt s (freeRow s) (n - freeRow s)) x y ↔ GroupReached (graphOf ns es) (pos root) banks x y
+  pub full : (q : Record) → q ∈ recordsAt s (freeRow s) (n - freeRow s) → q .first ≤ℤ q .last
+  pub few : n ≤ freeRow s + groupPaths (graphOf ns es) (pos root) banks
+
+-- what the list of a group is made from: the rows of its banks, and room to sort them
+pub record Joinable (s : List ℤ) (n : ℕ) (spare : List ℤ) : Type 0 where
+  pub nodes : List ℤ
+  pub edges : List ℤ
+  pub plan : List ℕ
+  pub root : ℕ
+  pub banks : List Bank
+  pub gathering : Gathering nodes edges plan root banks s n
+  pub spareRoom : rowWidth * (n - freeRow s) ≤ length spare
+
+-- ---- lists
+
+-- a list stands in a state, as rows by displacement, sorted. From its first row on the state is free to be worked in
+pub record ListAnswered (ns es : List ℤ) (plan : List ℕ) (root : ℕ) (l : List Record) (new : List ℤ) (r : ListRows) : Type 0 where
+  pub free : (s : List ℤ) → length s ≡ length new → take (rowWidth * r .row) s ≡ take (rowWidth * r .row) new → Swept ns es plan root s
+  pub within : rowWidth * (r .row + r .count) ≤ length new
+  pub count : r .count ≡ length l
+  pub rows : recordsAt new (r .row) (r .count) ≡ sortedByDisplacement l
+
+-- the list of the root and a group
+abbrev pub GroupAnswered : List ℤ → List ℤ → List ℕ → ℕ → List Bank → List ℤ → ListRows → Type 0
+GroupAnswered ns es plan root banks = ListAnswered ns es plan root (groupList (graphOf ns es) (pos root) banks)
+
+-- the bitmapping list of the root and a leaf
+abbrev pub Answered : List ℤ → List ℤ → List ℕ → ℕ → ℕ → List ℤ → ListRows → Type 0
+Answered ns es plan root leaf = ListAnswered ns es plan root (listOf (graphOf ns es) (pos root) (pos leaf))
+
+-- what the list of a leaf starts from: a state swept from a root, a leaf all of whose entering edges the plan has, at most 1,024 paths to it, and room
+pub record Askable (ns es : List ℤ) (plan : List ℕ) (leaf : ℕ) (s spare : List ℤ) : Type 0 where
+  pub root : ℕ
+  pub state : Swept ns es plan root s
+  pub block : Leaf (graphOf ns es) (pos leaf)
+  pub covered : Covered es (plannedOf es plan) (pos leaf)
+  pub few : pathCount (graphOf ns es) (pos root) (pos leaf) ≤ maxPaths
+  pub spareRoom : rowWidth * maxPaths ≤ length spare

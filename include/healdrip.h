@@ -26,7 +26,7 @@ extern "C" {
  *   - they point to that many bytes, which may be read, and for report written;
  *   - the two do not overlap, and nothing else writes to them during the call.
  *
- * The call needs less than 1,000,000 bytes of stack (904,296 is the most that was measured) and nothing else: it allocates nothing, keeps nothing from call to
+ * The call needs less than 1,000,000 bytes of stack (856,712 is the most that was measured) and nothing else: it allocates nothing, keeps nothing from call to
  * call and calls no function of the C library but memset. It may be called from several threads at once. */
 int64_t healdrip_text_check(const uint8_t *text, size_t text_length, uint8_t *report, size_t report_length);
 

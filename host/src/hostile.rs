@@ -200,10 +200,10 @@ fn parts(roots: usize, leaves: usize, leaf_range: i64) -> Draft {
 }
 
 /// Places of the records of a hub behind a narrow node, and ways into that node.
-const PLACES: i64 = 32;
+const PLACES: i64 = 31;
 
-/// Wide roots before a node of one unit that is entered in 32 ways, and a hub behind it that is
-/// entered in 32 ways again: 1,024 records at 32 places, with gaps between them. All leaves
+/// Wide roots before a node of one unit that is entered in 31 ways, and a hub behind it that is
+/// entered in 31 ways again: 961 records at 31 places, with gaps between them. All leaves
 /// but the last stand in a gap. Slow for an engine that searches a list by displacement: a
 /// wide root has records of most displacements near every place.
 fn wide_roots(count: usize, live: usize) -> Draft {
@@ -220,6 +220,34 @@ fn wide_roots(count: usize, live: usize) -> Draft {
     let narrow = draft.node(SEGMENT, 0, 1, 8);
     (0..PLACES).for_each(|way| draft.join(0, narrow, 2 * way));
     (0..PLACES).for_each(|place| draft.join(narrow, 1, -2 * place));
+    draft
+}
+
+/// Edges of unlike offsets from one node to another, as many as there may be paths.
+const PARALLEL: i64 = 1_024;
+
+/// Roots of one unit before a hub that is entered by 1,024 parallel edges, and leaves in gaps
+/// between its records, all but the last. Slow for an engine that has no room for a list of
+/// 1,024 records, and goes over all edges for each leaf.
+fn parallel_edges(count: usize, live: usize) -> Draft {
+    let mut draft = inner(2, SPAN);
+    (0..count).for_each(|_| root(&mut draft, 0, 0));
+    for number in 0..count {
+        let gap = i64::from(number + live < count);
+        let leaf = draft.leaf(2 * number as i64 + gap, 1, 8);
+        draft.join(1, leaf, 0);
+    }
+    (0..PARALLEL).for_each(|way| draft.join(0, 1, -2 * way));
+    draft
+}
+
+/// The same beside nodes that double the paths, far before their leaf: slow for an engine whose
+/// lists share an arena, since their 1,022 records are met before the hub.
+fn beside_lists(mut draft: Draft) -> Draft {
+    let foot = draft.node(SEGMENT, 0, SPAN, 8);
+    let tail = vec![vec![0]; 12];
+    lead(&mut draft, 0, foot, &[spread(-1, 9), tail].concat());
+    leaves(&mut draft, 1, foot);
     draft
 }
 
@@ -304,6 +332,14 @@ fn maps(fewer: usize) -> Vec<Hostile> {
         both_ways("nodes that fill an arena, 4 hubs", alike(filled_arena(fillers, 4, few(505)))),
         both_ways("each root another part of a hub", [3, 2].map(|it| parts(few(500), 8, it))),
         both_ways("wide roots, leaves in gaps of a hub", alike(wide_roots(few(570), LIVE))),
+        both_ways(
+            "leaves in gaps of parallel edges",
+            alike(parallel_edges(few(400), LIVE)),
+        ),
+        both_ways(
+            "leaves in gaps of parallel edges, beside lists",
+            alike(beside_lists(parallel_edges(few(390), LIVE))),
+        ),
         both_ways("4 of 799 roots joined", alike(few_joined(few(799)))),
         both_ways("refusal 11 at the last rows", alike(long_report(few(570)))),
         both_ways(

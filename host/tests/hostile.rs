@@ -30,7 +30,7 @@ type Answer = Result<Lines, [usize; 3]>;
 
 /// Name, root rows and leaf rows, and the answer. Turned round the rows are exchanged, and
 /// nothing else.
-const EXPECTED: [(&str, [usize; 2], Answer); 16] = [
+const EXPECTED: [(&str, [usize; 2], Answer); 18] = [
     // Four roots reach every leaf, each by one record.
     ("roots in gaps of a hub", [570, 570], Ok((4 * 570, 0, 1))),
     ("roots in gaps behind 2 hubs", [570, 570], Ok((4 * 570, 0, 1))),
@@ -44,7 +44,10 @@ const EXPECTED: [(&str, [usize; 2], Answer); 16] = [
     // Each record of the implementation is one unit shorter.
     ("each root another part of a hub", [500, 8], Ok((500 * 8, 1, 512))),
     // Four leaves are reached by every root, each by a record for each way.
-    ("wide roots, leaves in gaps of a hub", [570, 570], Ok((4 * 570, 0, 32))),
+    ("wide roots, leaves in gaps of a hub", [570, 570], Ok((4 * 570, 0, 31))),
+    // Four leaves are reached by every root, each over one edge, and one beside them.
+    ("leaves in gaps of parallel edges", [400, 400], Ok((4 * 400, 0, 1))),
+    ("leaves in gaps of parallel edges, beside lists", [390, 391], Ok((5 * 390, 0, 1))),
     ("4 of 799 roots joined", [799, 799], Ok((4 * 799, 0, 1))),
     ("refusal 11 at the last rows", [570, 570], Err([11, OUTPUT, 0])),
     ("refusal 10 at the last pair", [570, 570], Err([10, IMPL_EDGES, 569_569])),

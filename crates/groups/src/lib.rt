@@ -3,7 +3,7 @@
 ghost use mathlib.Core.Path.{_≡_};
 ghost use mathlib.Core.List.{List, [], _∷_, _++_, map};
 ghost use Prim.Native.Nat.{ℕ};
-ghost use lib.IntN.{ℤ, _-ℤ_};
+ghost use lib.IntN.{ℤ};
 ghost use Rattle.model.specs.Quantities.{Subtractable};
 ghost use Rattle.model.specs.Groups.{Bank};
 ghost use Rattle.sorting.specs.Rows.{rowsFrom};
@@ -16,17 +16,11 @@ use arrivals::append_rows;
 use arrivals::free_row;
 use arrivals::normalise_between;
 use listing::append_row;
+use listing::leaf_start;
+use listing::raised_displacement;
 use model::Bits;
 use sorting::Row;
 use sorting::row_at;
-
-// The displacement of a record with its leaf bits so much higher.
-fn raised_displacement(displacement: i64, at: Bits) -> Bits
-    requires { ⌜ Subtractable displacement (at .0) ⌝ }
-    ensures { λ r. ⌜ r .0 ≡ displacement -ℤ at .0 ⌝ }
-{
-    Bits::of(displacement).difference(at)
-}
 
 // The row of a record with its leaf bits so much higher.
 fn raised_row(row: Row, at: Bits) -> Row
@@ -109,6 +103,6 @@ pub fn list_at(
         → Answered (now (nodes .entry)) (now (edges .entry)) (now (plan .entry)) root leaf (now (state .exit)) r) ⌝ }
 {
     let first = free_row(state);
-    let n = append_bank(nodes, edges, plan, leaf, Bits::of(0), state, first);
+    let n = append_bank(nodes, edges, plan, leaf, leaf_start(), state, first);
     join_banks(state, n, spare)
 }

@@ -3,11 +3,12 @@
 ghost use mathlib.Core.Path.{_≡_};
 ghost use mathlib.Core.List.{List, [], _∷_, map};
 ghost use Prim.Native.Nat.{_+_, _*_, _≤_, _<_};
-ghost use lib.IntN.{ℤ, pos};
+ghost use lib.IntN.{ℤ, pos, _-ℤ_};
 ghost use lib.ListN.{length, getD, take};
 ghost use Rattle.model.specs.Graph.{graphOf, NodeRow, node};
 ghost use Rattle.model.specs.Runs.{listOf};
 ghost use Rattle.model.specs.Calls.{numbersOf, leafBits};
+ghost use Rattle.model.specs.Quantities.{Subtractable};
 ghost use Rattle.steps.specs.Steps.{runOf, SmallRun, SmallAddress, GoodRow};
 ghost use Rattle.sorting.specs.Rows.{rowWidth};
 ghost use Rattle.listing.specs.Listing.{LinkedTo, Ready, Appended, runRow, runRows, bitRecord, arrivalRow, arrivalRows};
@@ -50,6 +51,21 @@ fn arrival_row(nodes: &[i64], leaf: usize, a: Bits) -> Row
         second: 0,
         third: 0,
     }
+}
+
+// The first leaf bit.
+pub fn leaf_start() -> Bits
+    ensures { λ r. ⌜ r .0 ≡ pos 0 ⌝ }
+{
+    Bits::of(0)
+}
+
+// The displacement of a record with its leaf bits so much higher.
+pub fn raised_displacement(displacement: i64, at: Bits) -> Bits
+    requires { ⌜ Subtractable displacement (at .0) ⌝ }
+    ensures { λ r. ⌜ r .0 ≡ displacement -ℤ at .0 ⌝ }
+{
+    Bits::of(displacement).difference(at)
 }
 
 // Stores a row behind the first n rows of `out`. Returns how many rows stand there then.

@@ -6,14 +6,28 @@ ghost use Prim.Native.Nat.{_+_, _*_, _≤_, _<_};
 ghost use lib.IntN.{pos, _+ℤ_};
 ghost use lib.Signed.{leZ, _<ℤ_};
 ghost use lib.ListN.{length, take, drop};
+ghost use Rattle.integers.specs.Integers.{minZ, maxZ};
 ghost use Rattle.sorting.specs.Rows.{rowWidth, rowsOf};
 ghost use Rattle.sorting.specs.Rows as rows;
 ghost use Rattle.model.specs.Limits.{addressRoom};
 ghost use Rattle.model.specs.Runs.{touch, hull, normal};
 ghost use Rattle.model.specs.Calls.{numbersOf};
 ghost use Rattle.normalisation.specs.Merging.{byDisplacement, ofDisplacement, byFirst, ofFirst, asListed, displacedOf, SmallLast, AllSmallLast, merged, sortedByDisplacement, Apart};
-use model::Bits;
 use sorting::Row;
+
+// The lower of two.
+fn lower(a: i64, b: i64) -> i64
+    ensures { λ r. ⌜ r ≡ minZ a b ⌝ }
+{
+    if a <= b { a } else { b }
+}
+
+// The higher of two.
+fn higher(a: i64, b: i64) -> i64
+    ensures { λ r. ⌜ r ≡ maxZ a b ⌝ }
+{
+    if a <= b { b } else { a }
+}
 
 // Whether no bit lies between a last bit and a first bit: the first bit lies at most one above.
 fn meets(last: i64, first: i64) -> bool
@@ -41,12 +55,10 @@ fn touches(r: Row, s: Row) -> bool
 fn hull_of(r: Row, s: Row) -> Row
     ensures { λ h. ⌜ h ≡ byDisplacement (hull (ofDisplacement r) (ofDisplacement s)) ⌝ }
 {
-    let low = Bits::of(r.second).lower(Bits::of(s.second));
-    let high = Bits::of(r.third).higher(Bits::of(s.third));
     Row {
         first: r.first,
-        second: low.0,
-        third: high.0,
+        second: lower(r.second, s.second),
+        third: higher(r.third, s.third),
     }
 }
 

@@ -3,8 +3,8 @@ use mathlib.Core.Path.{_≡_, ap, _∙_}
 use borrow.Author.Needs.{needs}
 use lib.IntN.{ℤ, _-ℤ_}
 use mir.Facts.{toZ-ofZ}
-use Rattle.groups.proofs.raised_displacement.Statement.{statement}
-use Rattle.groups.proofs.raised_displacement.Tie as tie
+use Rattle.listing.proofs.raised_displacement.Statement.{statement}
+use Rattle.listing.proofs.raised_displacement.Tie as tie
 
 -- the difference of the number as it is read
 less-of : {d e r : ℤ} (at : ℤ) → d ≡ e -ℤ at → e ≡ r → d ≡ r -ℤ at

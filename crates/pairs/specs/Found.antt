@@ -42,3 +42,18 @@ pub record PairFound (t : Tables) (i j : ℕ) (specPlan implPlan : List ℕ) (sp
   pub ready : PairReady t i specPlan implPlan specState implState spare
   pub found : IsFinding (findingAt t i j) asked r
   pub few : (r .spec ≤ maxPaths) × (r .implementation ≤ maxPaths)
+
+-- ---- whichever the root pairs: t gives the tables of a comparison for its root pairs
+
+-- leaf row j of a comparison whose graphs are swept from the roots of some root row
+pub record Findable (t : List ℤ → Tables) (j : ℕ) (specPlan implPlan : List ℕ) (specState implState spare : List ℤ) : Type 0 where
+  pub rootPairs : List ℤ
+  pub rootRow : ℕ
+  pub ready : PairReady (t rootPairs) rootRow specPlan implPlan specState implState spare
+  pub leafRow : j < length (t rootPairs .leafPairs) / pairWidth
+
+-- the pair of leaf row j is found: whichever root row the graphs were swept from
+abbrev pub FoundOfRow : (List ℤ → Tables) → ℕ → List ℕ → List ℕ → List ℤ → List ℤ → List ℤ → List ℤ → List ℤ → List ℤ → Bool → Found → Type 0
+FoundOfRow t j specPlan implPlan specState implState spare specState′ implState′ spare′ asked r =
+    (rootPairs : List ℤ) (i : ℕ) → PairReady (t rootPairs) i specPlan implPlan specState implState spare
+    → PairFound (t rootPairs) i j specPlan implPlan specState′ implState′ spare′ asked r

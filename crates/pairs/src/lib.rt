@@ -1,9 +1,6 @@
 // One pair of a comparison: the lists of its leaf row are asked of two graphs that are swept from its roots, and are judged.
-ghost use Prim.Native.Nat.{_/_, _<_};
-ghost use lib.ListN.{length};
-ghost use Rattle.model.specs.Limits.{pairWidth};
 ghost use Rattle.pairing.specs.Pairs.{tablesOf};
-ghost use Rattle.pairs.specs.Found.{PairReady, PairFound};
+ghost use Rattle.pairs.specs.Found.{Findable, FoundOfRow};
 use groups::list_at;
 use judging::judge;
 use pairing::impl_node;
@@ -11,34 +8,32 @@ use pairing::spec_node;
 use sorting::ROW_WIDTH;
 use totals::Found;
 
-// What is found of one pair, once both graphs are swept from its roots: the list of each leaf is asked, and the two are judged; where `asked` and the lists
-// are not equal the lowest address at which they differ is looked for, else it is -1. The states have their roots: `root_pairs` and `root_row` only say
-// which they are. What stands in `spare` afterwards is space that was worked in.
+// What is found of one pair, once both graphs are swept from the roots of its root row: the list of each leaf is asked, and the two are judged; where `asked`
+// and the lists are not equal the lowest address at which they differ is looked for, else it is -1. What stands in `spare` afterwards is space that was
+// worked in.
 pub fn pair_found(
     spec_nodes: &[i64],
     spec_edges: &[i64],
     impl_nodes: &[i64],
     impl_edges: &[i64],
-    root_pairs: &[i64],
     leaf_pairs: &[i64],
     spec_plan: &[usize],
     impl_plan: &[usize],
     spec_state: &mut [i64],
     impl_state: &mut [i64],
     spare: &mut [i64],
-    root_row: usize,
     leaf_row: usize,
     asked: bool,
 ) -> Found
     requires { ⌜
-        PairReady (tablesOf (now «spec_nodes») (now «spec_edges») (now «impl_nodes») (now «impl_edges») (now «root_pairs») (now «leaf_pairs»)) «root_row»
-        (now «spec_plan») (now «impl_plan») (now «spec_state») (now «impl_state») (now spare)
-        × («leaf_row» < length (now «leaf_pairs») / pairWidth) ⌝ }
+        Findable (λ roots. tablesOf (now «spec_nodes») (now «spec_edges») (now «impl_nodes») (now «impl_edges») roots (now «leaf_pairs»)) «leaf_row»
+        (now «spec_plan») (now «impl_plan») (now «spec_state») (now «impl_state») (now spare) ⌝ }
     ensures { λ r. ⌜
-        PairFound
-        (tablesOf (now («spec_nodes» .entry)) (now («spec_edges» .entry)) (now («impl_nodes» .entry)) (now («impl_edges» .entry))
-        (now («root_pairs» .entry)) (now («leaf_pairs» .entry))) «root_row» «leaf_row»
-        (now («spec_plan» .entry)) (now («impl_plan» .entry)) (now («spec_state» .exit)) (now («impl_state» .exit)) (now (spare .exit)) asked r ⌝ }
+        FoundOfRow
+        (λ roots. tablesOf (now («spec_nodes» .entry)) (now («spec_edges» .entry)) (now («impl_nodes» .entry)) (now («impl_edges» .entry)) roots
+        (now («leaf_pairs» .entry))) «leaf_row» (now («spec_plan» .entry)) (now («impl_plan» .entry))
+        (now («spec_state» .entry)) (now («impl_state» .entry)) (now (spare .entry))
+        (now («spec_state» .exit)) (now («impl_state» .exit)) (now (spare .exit)) asked r ⌝ }
 {
     let spec_leaf = spec_node(leaf_pairs, leaf_row);
     let spec = list_at(

@@ -8,7 +8,8 @@ use native.Mathlib.Numerals.{add-one}
 use native.Mathlib.Omega.{arith}
 use lib.IntN.{ℤ}
 use lib.ListN.{length, drop, length-append, length-map}
-use Rattle.model.specs.Limits.{pairWidth, maxPairs, maxPaths}
+use Rattle.lists.specs.Lists.{_∈_}
+use Rattle.model.specs.Limits.{pairWidth, maxPairs}
 use Rattle.model.specs.Rows.{Pair, pairsFrom}
 use Rattle.model.specs.Compare.{Tables, rootRows, leafRows, Visit, visits, Finding, findingOf, findings}
 use Rattle.model.specs.Report.{findingLine}
@@ -16,13 +17,12 @@ use Rattle.model.proofs.Visits.{visits-length}
 use Rattle.tables.specs.Tables.{pairAt}
 use Rattle.tables.proofs.Rows.{pairs-rest, pairs-end, pairs-length}
 use Rattle.pathlimit.specs.Inputs.{Inputs}
-use Rattle.pathlimit.proofs.Inputs.{root-row-below, leaf-row-below}
 use Rattle.pairs.specs.Found.{findingAt}
 use Rattle.reporting.specs.Lines.{maxVisits}
 use Rattle.reporting.proofs.Lines.{flatMap-append}
 use Rattle.totals.specs.declared.Found.{Found}
 use Rattle.totals.specs.declared.Kept.{Kept}
-use Rattle.totals.specs.Kept.{IsFinding, KeptOf, KeptNone, isAsked, PairAddable, Added}
+use Rattle.totals.specs.Kept.{IsFinding, Bare, KeptOf, KeptNone, isAsked, RoomFor, Added, EqualAdded}
 use Rattle.totals.proofs.Keeping.{kept-bytes}
 use Rattle.survey.specs.Survey.{rowFindings, RowRoom, RowKept, Surveyed}
 
@@ -74,18 +74,20 @@ row-count t i =
     let visited : Pair → Visit = λ l. record { root = pairAt (t .rootPairs) i; leaf = l } in
     length-map (map visited (leafRows t)) (findingOf t) ∙ length-map (leafRows t) visited ∙ pairs-length (t .leafPairs)
 
--- at most 1,000,000 in all
-pub findings-few : {t : Tables} → Inputs t → length (findings t) ≤ maxVisits
+-- in all, root rows times leaf rows
+pub findings-count : (t : Tables) → length (findings t) ≡ length (t .rootPairs) / pairWidth * (length (t .leafPairs) / pairWidth)
 unfolding findings
+findings-count t =
+    length-map (visits (rootRows t) (leafRows t)) (findingOf t)
+    ∙ visits-length (rootRows t) (leafRows t)
+    ∙ rw (pairs-length (t .rootPairs), pairs-length (t .leafPairs)) refl
+
+-- at most 1,000,000
+pub findings-few : {t : Tables} → Inputs t → length (findings t) ≤ maxVisits
 findings-few {t} k =
-    let roots : length (rootRows t) ≤ maxPairs = omega (arith, pairs-length (t .rootPairs), k .rootShape .few) in
-    let leaves : length (leafRows t) ≤ maxPairs = omega (arith, pairs-length (t .leafPairs), k .leafShape .few) in
-    omega (
-      arith,
-      length-map (visits (rootRows t) (leafRows t)) (findingOf t),
-      visits-length (rootRows t) (leafRows t),
-      mul-le-mul roots leaves,
-    )
+    let roots : length (t .rootPairs) / pairWidth ≤ maxPairs = omega (arith, k .rootShape .few) in
+    let leaves : length (t .leafPairs) / pairWidth ≤ maxPairs = omega (arith, k .leafShape .few) in
+    omega (arith, findings-count t, mul-le-mul roots leaves)
 
 -- ---- what is kept
 
@@ -123,23 +125,19 @@ module _ {all : List Finding} {lines : List ℕ} {k : Kept} where
 -- ---- the pairs of a root row
 
 module _ (t : Tables) (i j : ℕ) where
-  -- what is found of root row i and leaf row j can be added
-  pub pair-addable : Inputs t → i < length (t .rootPairs) / pairWidth → j < length (t .leafPairs) / pairWidth → {f : Found} {lines lines′ : List ℕ} {k k′ : Kept}
-      → RowRoom t lines k → ((fs : List Finding) → KeptOf fs lines k → Passed (fs ++ rowFindings t i) (pairsLeft t i j) lines′ k′)
-      → (f .spec ≤ maxPaths) × (f .implementation ≤ maxPaths) → PairAddable k′ i j f
-  pair-addable inputs l h {lines′ = lines′} room passed few =
+  -- there is room for what is found of root row i and leaf row j
+  pub pair-room : j < length (t .leafPairs) / pairWidth → {lines lines′ : List ℕ} {k k′ : Kept} → RowRoom t lines k
+      → ((fs : List Finding) → KeptOf fs lines k → Passed (fs ++ rowFindings t i) (pairsLeft t i j) lines′ k′) → RoomFor 1 k′
+  pair-room h {lines′ = lines′} room passed =
       let p = passed (room .fs) (room .kept) in
       record {
-        room = record {
-          fs = p .fs;
-          lines = lines′;
-          kept = p .kept;
-          few = omega (arith, planned-count p, ap length (pairs-next t i j h), length-append (room .fs) (rowFindings t i), row-count t i, room .few);
-        };
-        small = record { root = root-row-below inputs i l; leaf = leaf-row-below inputs j h; spec = few .0; impl = few .1 };
+        fs = p .fs;
+        lines = lines′;
+        kept = p .kept;
+        few = omega (arith, planned-count p, ap length (pairs-next t i j h), length-append (room .fs) (rowFindings t i), row-count t i, room .few);
       }
 
-  -- and then one more is kept
+  -- and once it is added one more is kept
   pub pair-passed : j < length (t .leafPairs) / pairWidth → {all : List Finding} {asked : Bool} {f : Found} {lines lines′ : List ℕ} {k k′ : Kept}
       → Passed all (pairsLeft t i j) lines k → IsFinding (findingAt t i j) asked f → asked ≡ isAsked k → Added k lines i j f k′ lines′ → Passed all (pairsLeft t i (j + 1)) lines′ k′
   unfolding findingOf
@@ -190,3 +188,10 @@ surveyed inputs p whole =
       past = λ h. omega (arith, passed-bytes p);
       fits = omega (arith, kept-bytes (p .kept), planned-count p, findings-few inputs);
     }
+
+-- what a survey gives where no finding has a record, and as many were added as there are
+pub surveyed-bare : {t : Tables} {lines : List ℕ} {none all : Kept} {room : ℕ} → Inputs t → ((f : Finding) → f ∈ findings t → Bare f) → KeptNone none
+    → EqualAdded none (length (t .rootPairs) / pairWidth * (length (t .leafPairs) / pairWidth)) all → Surveyed t room all lines
+surveyed-bare {t} {lines} inputs bare none added =
+    let kept = added .kept [] (findings t) lines (findings-count t) bare (none lines) in
+    surveyed inputs (record { fs = findings t; kept = kept; split = append-nil (findings t) }) (λ _. kept)

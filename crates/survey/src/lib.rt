@@ -9,8 +9,8 @@ ghost use Rattle.model.specs.Report.{findingLine};
 ghost use Rattle.report.specs.Put.{Put};
 ghost use Rattle.pairing.specs.Pairs.{tablesOf};
 ghost use Rattle.pathlimit.specs.Inputs.{Ready};
-ghost use Rattle.pairs.specs.Found.{Rooms, PairReady};
-ghost use Rattle.survey.specs.Survey.{RowRoom, RowKept, Surveyed};
+ghost use Rattle.pairs.specs.Found.{Rooms};
+ghost use Rattle.survey.specs.Survey.{RowSweepable, RowSwept, RowFindable, RowFound, Surveyed};
 use arrivals::STATE_ROOM;
 use arrivals::sweep_root;
 use forward::planned_count;
@@ -26,90 +26,29 @@ use totals::no_pair;
 use totals::with_equal;
 use totals::with_pair;
 
-// What is kept with the pairs of one root row, leaf row by leaf row, once both graphs are swept from its roots. The address of a pair is asked for while no
-// pair was unequal: that of a later one is not kept.
-fn found_of_pairs(
+// Sweeps both graphs from the roots of a root row. What stands in `spare` afterwards is space that was worked in.
+fn sweep_row(
     spec_nodes: &[i64],
     spec_edges: &[i64],
     impl_nodes: &[i64],
     impl_edges: &[i64],
     root_pairs: &[i64],
-    leaf_pairs: &[i64],
     spec_plan: &[usize],
     impl_plan: &[usize],
     spec_state: &mut [i64],
     impl_state: &mut [i64],
     spare: &mut [i64],
     root_row: usize,
-    lines: &mut [usize],
-    kept: Kept,
-) -> Kept
+)
     requires { ⌜
-        PairReady (tablesOf (now «spec_nodes») (now «spec_edges») (now «impl_nodes») (now «impl_edges») (now «root_pairs») (now «leaf_pairs»)) «root_row»
-        (now «spec_plan») (now «impl_plan») (now «spec_state») (now «impl_state») (now spare)
-        × RowRoom (tablesOf (now «spec_nodes») (now «spec_edges») (now «impl_nodes») (now «impl_edges») (now «root_pairs») (now «leaf_pairs»)) (now lines) kept ⌝ }
-    ensures { λ r. ⌜
-        RowKept
-        (tablesOf (now («spec_nodes» .entry)) (now («spec_edges» .entry)) (now («impl_nodes» .entry)) (now («impl_edges» .entry))
-        (now («root_pairs» .entry)) (now («leaf_pairs» .entry))) «root_row» (now (lines .entry)) kept (now (lines .exit)) r ⌝ }
+        RowSweepable (λ leaves. tablesOf (now «spec_nodes») (now «spec_edges») (now «impl_nodes») (now «impl_edges») (now «root_pairs») leaves) «root_row»
+        (now «spec_plan») (now «impl_plan») (now «spec_state») (now «impl_state») (now spare) ⌝ }
+    ensures { λ _. ⌜
+        RowSwept
+        (λ leaves. tablesOf (now («spec_nodes» .entry)) (now («spec_edges» .entry)) (now («impl_nodes» .entry)) (now («impl_edges» .entry))
+        (now («root_pairs» .entry)) leaves) «root_row» (now («spec_plan» .entry)) (now («impl_plan» .entry))
+        (now («spec_state» .exit)) (now («impl_state» .exit)) (now (spare .exit)) ⌝ }
 {
-    let count = leaf_pairs.len() / PAIR_WIDTH;
-    let mut kept = kept;
-    let mut leaf_row: usize = 0;
-    while leaf_row < count {
-        let found = pair_found(
-            spec_nodes,
-            spec_edges,
-            impl_nodes,
-            impl_edges,
-            root_pairs,
-            leaf_pairs,
-            spec_plan,
-            impl_plan,
-            spec_state,
-            impl_state,
-            spare,
-            root_row,
-            leaf_row,
-            address_asked(kept),
-        );
-        kept = with_pair(lines, kept, root_row, leaf_row, found);
-        leaf_row += 1;
-    }
-    kept
-}
-
-// What is kept with the pairs of one root row: one sweep of each graph serves all its leaves. Where neither plan has an edge no path leads to a paired
-// leaf, and all pairs of the root row are equal.
-fn found_of_row(
-    spec_nodes: &[i64],
-    spec_edges: &[i64],
-    impl_nodes: &[i64],
-    impl_edges: &[i64],
-    root_pairs: &[i64],
-    leaf_pairs: &[i64],
-    spec_plan: &[usize],
-    impl_plan: &[usize],
-    spec_state: &mut [i64],
-    impl_state: &mut [i64],
-    spare: &mut [i64],
-    root_row: usize,
-    lines: &mut [usize],
-    kept: Kept,
-) -> Kept
-    requires { ⌜
-        Ready (tablesOf (now «spec_nodes») (now «spec_edges») (now «impl_nodes») (now «impl_edges») (now «root_pairs») (now «leaf_pairs»))
-        (now «spec_plan») (now «impl_plan»)
-        × Rooms (now «spec_state») (now «impl_state») (now spare) × («root_row» < length (now «root_pairs») / pairWidth)
-        × RowRoom (tablesOf (now «spec_nodes») (now «spec_edges») (now «impl_nodes») (now «impl_edges») (now «root_pairs») (now «leaf_pairs»)) (now lines) kept ⌝ }
-    ensures { λ r. ⌜
-        RowKept
-        (tablesOf (now («spec_nodes» .entry)) (now («spec_edges» .entry)) (now («impl_nodes» .entry)) (now («impl_edges» .entry))
-        (now («root_pairs» .entry)) (now («leaf_pairs» .entry))) «root_row» (now (lines .entry)) kept (now (lines .exit)) r ⌝ }
-{
-    if planned_count(spec_plan) + planned_count(impl_plan) == 0 {
-        return with_equal(kept, leaf_pairs.len() / PAIR_WIDTH);
-    }
     let spec_root = spec_node(root_pairs, root_row);
     sweep_root(
         spec_nodes,
@@ -128,22 +67,56 @@ fn found_of_row(
         impl_state,
         spare,
     );
-    found_of_pairs(
-        spec_nodes,
-        spec_edges,
-        impl_nodes,
-        impl_edges,
-        root_pairs,
-        leaf_pairs,
-        spec_plan,
-        impl_plan,
-        spec_state,
-        impl_state,
-        spare,
-        root_row,
-        lines,
-        kept,
-    )
+}
+
+// What is kept with the pairs of one root row, leaf row by leaf row, once both graphs are swept from its roots. The address of a pair is asked for while no
+// pair was unequal: that of a later one is not kept.
+fn found_of_pairs(
+    spec_nodes: &[i64],
+    spec_edges: &[i64],
+    impl_nodes: &[i64],
+    impl_edges: &[i64],
+    leaf_pairs: &[i64],
+    spec_plan: &[usize],
+    impl_plan: &[usize],
+    spec_state: &mut [i64],
+    impl_state: &mut [i64],
+    spare: &mut [i64],
+    root_row: usize,
+    lines: &mut [usize],
+    kept: Kept,
+) -> Kept
+    requires { ⌜
+        RowFindable (λ roots. tablesOf (now «spec_nodes») (now «spec_edges») (now «impl_nodes») (now «impl_edges») roots (now «leaf_pairs»)) «root_row»
+        (now «spec_plan») (now «impl_plan») (now «spec_state») (now «impl_state») (now spare) (now lines) kept ⌝ }
+    ensures { λ r. ⌜
+        RowFound
+        (λ roots. tablesOf (now («spec_nodes» .entry)) (now («spec_edges» .entry)) (now («impl_nodes» .entry)) (now («impl_edges» .entry)) roots
+        (now («leaf_pairs» .entry))) «root_row» (now («spec_plan» .entry)) (now («impl_plan» .entry))
+        (now («spec_state» .entry)) (now («impl_state» .entry)) (now (spare .entry)) (now (lines .entry)) kept (now (lines .exit)) r ⌝ }
+{
+    let count = leaf_pairs.len() / PAIR_WIDTH;
+    let mut kept = kept;
+    let mut leaf_row: usize = 0;
+    while leaf_row < count {
+        let found = pair_found(
+            spec_nodes,
+            spec_edges,
+            impl_nodes,
+            impl_edges,
+            leaf_pairs,
+            spec_plan,
+            impl_plan,
+            spec_state,
+            impl_state,
+            spare,
+            leaf_row,
+            address_asked(kept),
+        );
+        kept = with_pair(lines, kept, root_row, leaf_row, found);
+        leaf_row += 1;
+    }
+    kept
 }
 
 // What is kept of the pairs of all root rows, root row by root row: no root row is begun once the lines have more than `room` bytes.
@@ -178,12 +151,24 @@ fn found_of_all(
         if room < kept.bytes {
             return kept;
         }
-        kept = found_of_row(
+        sweep_row(
             spec_nodes,
             spec_edges,
             impl_nodes,
             impl_edges,
             root_pairs,
+            spec_plan,
+            impl_plan,
+            spec_state,
+            impl_state,
+            spare,
+            row,
+        );
+        kept = found_of_pairs(
+            spec_nodes,
+            spec_edges,
+            impl_nodes,
+            impl_edges,
             leaf_pairs,
             spec_plan,
             impl_plan,
@@ -201,7 +186,7 @@ fn found_of_all(
 
 // What is kept of all pairs: the full result, how many pairs have a line and how many bytes the lines have, and in front of `lines`, where there is room
 // for all of them, the lines. What stands in `lines` behind them, or where there is no room for all of them, is space that was worked in. Where the lines
-// have more than `room` bytes, pairs may be left out.
+// have more than `room` bytes, pairs may be left out. Where neither plan has an edge no path leads to a paired leaf, and all pairs are equal.
 pub fn survey(
     spec_nodes: &[i64],
     spec_edges: &[i64],
@@ -222,6 +207,12 @@ pub fn survey(
         (tablesOf (now («spec_nodes» .entry)) (now («spec_edges» .entry)) (now («impl_nodes» .entry)) (now («impl_edges» .entry))
         (now («root_pairs» .entry)) (now («leaf_pairs» .entry))) room r (now (lines .exit)) ⌝ }
 {
+    if planned_count(spec_plan) + planned_count(impl_plan) == 0 {
+        return with_equal(
+            no_pair(),
+            root_pairs.len() / PAIR_WIDTH * (leaf_pairs.len() / PAIR_WIDTH),
+        );
+    }
     let mut spec_state = [0i64; STATE_ROOM];
     let mut impl_state = [0i64; STATE_ROOM];
     let mut spare = [0i64; MAX_NUMBERS];
@@ -273,12 +264,24 @@ fn put_rows(
     let mut at: usize = 0;
     let mut written: usize = 0;
     while written < count {
-        let kept = found_of_row(
+        sweep_row(
             spec_nodes,
             spec_edges,
             impl_nodes,
             impl_edges,
             root_pairs,
+            spec_plan,
+            impl_plan,
+            spec_state,
+            impl_state,
+            spare,
+            written,
+        );
+        let kept = found_of_pairs(
+            spec_nodes,
+            spec_edges,
+            impl_nodes,
+            impl_edges,
             leaf_pairs,
             spec_plan,
             impl_plan,

@@ -30,12 +30,18 @@ tables s =
     let a = s .args in
     tablesOf (a .spec-nodes .now) (a .spec-edges .now) (a .impl-nodes .now) (a .impl-edges .now) (a .root-pairs .now) (a .leaf-pairs .now)
 
--- from the end of a turn back to its root row, and from there to its beginning
-abbrev rowed : tie.After-slice-known2 Inv-loop μ-loop → tie.After-found-of-row Inv-loop μ-loop
+-- from the sweep of a root row back to the beginning of its turn, from the pairs of the row to the sweep, and from the end of the turn to the pairs
+abbrev turn : tie.After-sweep-row-arg3 Inv-loop μ-loop → tie.In-loop Inv-loop μ-loop
+turn c = c .before .before .before .before .before
+
+abbrev swept : tie.After-found-of-pairs-arg4 Inv-loop μ-loop → tie.After-sweep-row Inv-loop μ-loop
+swept c = c .before .before .before .before .before .before .before
+
+abbrev rowed : tie.After-slice-known2 Inv-loop μ-loop → tie.After-found-of-pairs Inv-loop μ-loop
 rowed c = c .before .before .before .before .before
 
-abbrev turn : tie.After-found-of-row-arg4 Inv-loop μ-loop → tie.In-loop Inv-loop μ-loop
-turn c = c .before .before .before .before .before .before
+abbrev rowTurn : tie.After-slice-known2 Inv-loop μ-loop → tie.In-loop Inv-loop μ-loop
+rowTurn c = turn (swept (rowed c .before) .before)
 
 -- the root row of a turn is there
 there : (c : tie.In-loop Inv-loop μ-loop) → c .before .loop .row < length (start (c .before) .args .root-pairs .now) / pairWidth
@@ -61,30 +67,42 @@ returns c =
     let l = c .before .before .before in
     surveyed (start l .pre .0 .plans .inputs) (l .loop .inv .0) (λ h. absurd (omega (arith, c .if1 .taken)))
 
-found-of-row-requires : tie.Need-found-of-row-requires Inv-loop μ-loop
-found-of-row-requires c κs =
+sweep-row-requires : tie.Need-sweep-row-requires Inv-loop μ-loop
+sweep-row-requires c κs =
     let l = turn c in
     let s = start (l .before) in
-    let i = l .before .loop .inv in
-    (s .pre .0, i .1, omega (arith, there l), row-room (tables s) (l .before .loop .row) (i .0) (there l) (findings-few (s .pre .0 .plans .inputs)))
+    record { leafPairs = s .args .leaf-pairs .now; ready = s .pre .0; rooms = l .before .loop .inv .1; row = there l }
+
+found-of-pairs-requires : tie.Need-found-of-pairs-requires Inv-loop μ-loop
+found-of-pairs-requires c κs =
+    let w = swept c in
+    let l = turn (w .before) in
+    let s = start (l .before) in
+    record {
+      rootPairs = s .args .root-pairs .now;
+      ready = w .sweep-row .ensures _ (s .pre .0);
+      room = row-room (tables s) (l .before .loop .row) (l .before .loop .inv .0) (there l) (findings-few (s .pre .0 .plans .inputs));
+    }
 
 add-row : tie.Need-add-row Inv-loop μ-loop
 add-row c =
-    let l = turn (rowed c .before) in
+    let l = rowTurn c in
     omega (arith, root-row-below (start (l .before) .pre .0 .plans .inputs) (l .before .loop .row) (there l))
 
 loop-less : tie.Need-loop-less Inv-loop μ-loop
-loop-less c = omega (arith, turn (rowed c .before) .loop-test .taken)
+loop-less c = omega (arith, rowTurn c .loop-test .taken)
 
 loop-again : tie.Need-loop-again Inv-loop μ-loop
 loop-again c =
     let f = rowed c in
-    let l = turn (f .before) in
+    let w = swept (f .before) in
+    let l = turn (w .before) in
     let s = start (l .before) in
     let i = l .before .loop .inv in
-    let sizes = f .found-of-row .kept .1 .1 .1 .1 .1 .1 .1 .1 in (
-      row-passed (tables s) (l .before .loop .row) (i .0) (there l) (f .found-of-row .ensures),
-      record { spec = sizes .0 ∙ i .1 .spec; impl = sizes .1 .0 ∙ i .1 .impl; list = sizes .1 .1 .0 ∙ i .1 .list },
+    let k = w .sweep-row .ensures _ (s .pre .0) in
+    let sizes = f .found-of-pairs .kept .1 .1 .1 .1 .1 .1 .1 in (
+      row-passed (tables s) (l .before .loop .row) (i .0) (there l) (f .found-of-pairs .ensures _ k),
+      record { spec = sizes .0 ∙ k .rooms .spec; impl = sizes .1 .0 ∙ k .rooms .impl; list = sizes .1 .1 .0 ∙ k .rooms .list },
       sizes .1 .1 .1 .1 .0 ∙ i .2,
     )
 
@@ -119,7 +137,8 @@ found-of-all-spec =
     same-length-3
     same-length-4
     returns
-    found-of-row-requires
+    sweep-row-requires
+    found-of-pairs-requires
     add-row
     loop-less
     loop-again

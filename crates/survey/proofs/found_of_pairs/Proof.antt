@@ -1,40 +1,42 @@
--- The invariant: the pairs of the row can be found, and the findings that were kept, with those of the leaf rows passed and those that are left, are kept
--- findings and those of the row. The measure is what is left of the leaf rows.
+-- The invariant, whichever the root pairs: the pairs of the row can be found, and the findings that were kept, with those of the leaf rows passed and those
+-- that are left, are kept findings and those of the row. The measure is what is left of the leaf rows.
 use mathlib.Core.Path.{_≡_, refl, sym, _∙_}
 use mathlib.Core.List.{List, _++_}
 use Prim.Native.Nat.{_-_, _/_, _<_}
 use native.Mathlib.Omega.{arith}
 use borrow.Author.Needs.{needs}
+use lib.IntN.{ℤ}
 use lib.ListN.{length}
 use Rattle.model.specs.Limits.{pairWidth}
 use Rattle.model.specs.Compare.{Tables, Finding}
 use Rattle.pairing.specs.Pairs.{tablesOf}
-use Rattle.pathlimit.proofs.Inputs.{leaf-row-below}
+use Rattle.pathlimit.proofs.Inputs.{root-row-below, leaf-row-below}
 use Rattle.pairs.specs.Found.{PairReady}
 use Rattle.totals.specs.Kept.{KeptOf}
 use Rattle.survey.specs.Survey.{rowFindings}
-use Rattle.survey.proofs.Passing.{pairsLeft, Passed, pair-addable, pair-passed, pairs-passed}
+use Rattle.survey.proofs.Passing.{pairsLeft, Passed, pair-room, pair-passed, pairs-passed}
 use Rattle.survey.proofs.found_of_pairs.Statement.{statement}
 use Rattle.survey.proofs.found_of_pairs.Tie as tie
 
 abbrev Inv-loop : tie.InvT-loop
-Inv-loop spec-nodes spec-edges impl-nodes impl-edges root-pairs leaf-pairs spec-plan impl-plan spec-state₀ impl-state₀ spare₀ root-row lines₀ count kept₀ leaf-row₀ spec-state impl-state spare lines kept leaf-row =
-    let t = tablesOf spec-nodes spec-edges impl-nodes impl-edges root-pairs leaf-pairs in
-    PairReady t root-row spec-plan impl-plan spec-state impl-state spare
-    × ((fs : List Finding) → KeptOf fs lines₀ kept₀ → Passed (fs ++ rowFindings t root-row) (pairsLeft t root-row leaf-row) lines kept)
+Inv-loop spec-nodes spec-edges impl-nodes impl-edges leaf-pairs spec-plan impl-plan spec-state₀ impl-state₀ spare₀ root-row lines₀ count kept₀ leaf-row₀ spec-state impl-state spare lines kept leaf-row =
+    let t : List ℤ → Tables = λ roots. tablesOf spec-nodes spec-edges impl-nodes impl-edges roots leaf-pairs in
+    ((roots : List ℤ) → PairReady (t roots) root-row spec-plan impl-plan spec-state₀ impl-state₀ spare₀
+    → PairReady (t roots) root-row spec-plan impl-plan spec-state impl-state spare
+    × ((fs : List Finding) → KeptOf fs lines₀ kept₀ → Passed (fs ++ rowFindings (t roots) root-row) (pairsLeft (t roots) root-row leaf-row) lines kept))
     × (length lines ≡ length lines₀)
 
 abbrev μ-loop : tie.MeasureT-loop
-μ-loop spec-nodes spec-edges impl-nodes impl-edges root-pairs leaf-pairs spec-plan impl-plan spec-state₀ impl-state₀ spare₀ root-row lines₀ count kept₀ leaf-row₀ spec-state impl-state spare lines kept leaf-row = count - leaf-row
+μ-loop spec-nodes spec-edges impl-nodes impl-edges leaf-pairs spec-plan impl-plan spec-state₀ impl-state₀ spare₀ root-row lines₀ count kept₀ leaf-row₀ spec-state impl-state spare lines kept leaf-row = count - leaf-row
 
--- where the function begins, and the tables there
+-- where the function begins, and the tables there for these root pairs
 abbrev start : tie.At-loop Inv-loop μ-loop → tie.Start Inv-loop μ-loop
 start l = l .before .before .before .before
 
-abbrev tables : tie.Start Inv-loop μ-loop → Tables
-tables s =
+abbrev tables : tie.Start Inv-loop μ-loop → List ℤ → Tables
+tables s roots =
     let a = s .args in
-    tablesOf (a .spec-nodes .now) (a .spec-edges .now) (a .impl-nodes .now) (a .impl-edges .now) (a .root-pairs .now) (a .leaf-pairs .now)
+    tablesOf (a .spec-nodes .now) (a .spec-edges .now) (a .impl-nodes .now) (a .impl-edges .now) roots (a .leaf-pairs .now)
 
 -- from the pair back to its turn, and from where it is added to the pair
 abbrev turn : tie.After-address-asked Inv-loop μ-loop → tie.In-loop Inv-loop μ-loop
@@ -47,25 +49,43 @@ pair c = c .before .before .before .before
 there : (c : tie.In-loop Inv-loop μ-loop) → c .before .loop .leaf-row < length (start (c .before) .args .leaf-pairs .now) / pairWidth
 there c = omega (arith, c .loop-test .taken)
 
+-- the pairs of the row can be found at each turn
+ready : (l : tie.At-loop Inv-loop μ-loop) → let a = start l .args in
+    PairReady (tables (start l) (start l .pre .rootPairs)) (a .root-row) (a .spec-plan .now) (a .impl-plan .now) (l .loop .spec-state) (l .loop .impl-state)
+    (l .loop .spare)
+ready l = l .loop .inv .0 _ (start l .pre .ready) .0
+
 loop-holds : tie.Need-loop-holds Inv-loop μ-loop
-loop-holds c = (c .before .before .before .pre .0, λ fs k. record { fs = fs; kept = k; split = refl }, refl)
+loop-holds c = (λ roots k. (k, λ fs p. record { fs = fs; kept = p; split = refl }), refl)
 
 pair-found-requires : tie.Need-pair-found-requires Inv-loop μ-loop
-pair-found-requires c κs = let l = turn c in (l .before .loop .inv .0, omega (arith, there l))
+pair-found-requires c κs =
+    let l = turn c in
+    record { rootPairs = start (l .before) .pre .rootPairs; rootRow = start (l .before) .args .root-row; ready = ready (l .before); leafRow = omega (arith, there l) }
 
 with-pair-requires : tie.Need-with-pair-requires Inv-loop μ-loop
 with-pair-requires c κs =
     let f = pair c in
-    let l = turn (f .before) in
-    let s = start (l .before) in
-    let k = s .pre .0 in
-    pair-addable (tables s) (s .args .root-row) (l .before .loop .leaf-row) (k .ready .plans .inputs) (k .row) (there l) (s .pre .1)
-    (l .before .loop .inv .1) (f .pair-found .ensures .few)
+    let t = turn (f .before) in
+    let l = t .before in
+    let s = start l in
+    let k = s .pre .ready in
+    let few = f .pair-found .ensures _ _ (ready l) .few in
+    let inputs = k .ready .plans .inputs in
+    record {
+      room = pair-room (tables s (s .pre .rootPairs)) (s .args .root-row) (l .loop .leaf-row) (there t) (s .pre .room) (l .loop .inv .0 _ k .1);
+      small = record {
+        root = omega (arith, root-row-below inputs (s .args .root-row) (k .row));
+        leaf = omega (arith, leaf-row-below inputs (l .loop .leaf-row) (there t));
+        spec = few .0;
+        impl = few .1;
+      };
+    }
 
 add-leaf-row : tie.Need-add-leaf-row Inv-loop μ-loop
 add-leaf-row c =
     let l = turn (pair (c .before .before .before) .before) in
-    omega (arith, leaf-row-below (start (l .before) .pre .0 .ready .plans .inputs) (l .before .loop .leaf-row) (there l))
+    omega (arith, leaf-row-below (start (l .before) .pre .ready .ready .plans .inputs) (l .before .loop .leaf-row) (there l))
 
 loop-less : tie.Need-loop-less Inv-loop μ-loop
 loop-less c = let l = turn (pair (c .before .before .before) .before) in omega (arith, l .loop-test .taken)
@@ -77,29 +97,32 @@ loop-again c =
     let l = turn (f .before) in
     let i = l .before .loop .inv in
     let s = start (l .before) in (
-      f .pair-found .ensures .ready,
-      λ fs k. pair-passed (tables s) (s .args .root-row) (l .before .loop .leaf-row) (there l) (i .1 fs k) (f .pair-found .ensures .found)
-          (f .before .address-asked .ensures) (w .with-pair .ensures),
-      w .with-pair .kept .0 ∙ i .2,
+      λ roots k.
+          let found = f .pair-found .ensures roots (s .args .root-row) (i .0 roots k .0) in (
+            found .ready,
+            λ fs p. pair-passed (tables s roots) (s .args .root-row) (l .before .loop .leaf-row) (there l) (i .0 roots k .1 fs p) (found .found)
+                (f .before .address-asked .ensures) (w .with-pair .ensures),
+          ),
+      w .with-pair .kept .0 ∙ i .1,
     )
 
 same-length : tie.Need-same-length Inv-loop μ-loop
-same-length c = c .before .loop .inv .0 .rooms .spec ∙ sym (start (c .before) .pre .0 .rooms .spec)
+same-length c = ready (c .before) .rooms .spec ∙ sym (start (c .before) .pre .ready .rooms .spec)
 
 same-length-2 : tie.Need-same-length-2 Inv-loop μ-loop
-same-length-2 c = c .before .loop .inv .0 .rooms .impl ∙ sym (start (c .before) .pre .0 .rooms .impl)
+same-length-2 c = ready (c .before) .rooms .impl ∙ sym (start (c .before) .pre .ready .rooms .impl)
 
 same-length-3 : tie.Need-same-length-3 Inv-loop μ-loop
-same-length-3 c = c .before .loop .inv .0 .rooms .list ∙ sym (start (c .before) .pre .0 .rooms .list)
+same-length-3 c = ready (c .before) .rooms .list ∙ sym (start (c .before) .pre .ready .rooms .list)
 
 same-length-4 : tie.Need-same-length-4 Inv-loop μ-loop
-same-length-4 c = c .before .loop .inv .2
+same-length-4 c = c .before .loop .inv .1
 
 returns : tie.Need-returns Inv-loop μ-loop
-returns c fs k =
+returns c roots k fs p =
     let l = c .before in
     let s = start l in
-    pairs-passed (tables s) (s .args .root-row) (l .loop .leaf-row) (c .loop-test .left) (l .loop .inv .1 fs k)
+    pairs-passed (tables s roots) (s .args .root-row) (l .loop .leaf-row) (c .loop-test .left) (l .loop .inv .0 roots k .1 fs p)
 
 pub found-of-pairs-spec : {M : Type 1} → statement M
 found-of-pairs-spec =

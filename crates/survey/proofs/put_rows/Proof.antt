@@ -11,7 +11,7 @@ use Rattle.report.proofs.Tail.{tail-length}
 use Rattle.reporting.specs.Lines.{linesOf}
 use Rattle.pairing.specs.Pairs.{tablesOf}
 use Rattle.pathlimit.proofs.Inputs.{root-row-below}
-use Rattle.pairs.specs.Found.{Rooms}
+use Rattle.pairs.specs.Found.{Rooms, PairReady}
 use Rattle.totals.specs.Kept.{KeptOf}
 use Rattle.survey.specs.Survey.{rowFindings}
 use Rattle.survey.proofs.Putting.{Putting, putting-start, putting-length, putting-end, row-held, row-fits, putting-on}
@@ -35,37 +35,49 @@ tables s =
     let a = s .args in
     tablesOf (a .spec-nodes .now) (a .spec-edges .now) (a .impl-nodes .now) (a .impl-edges .now) (a .root-pairs .now) (a .leaf-pairs .now)
 
--- from a root row back to the beginning of its turn, from where its lines are written to the row, and from the end of the turn to there
-abbrev turn : tie.After-no-pair Inv-loop μ-loop → tie.In-loop Inv-loop μ-loop
-turn c = c .before .before .before .before .before
+-- from the sweep of a root row back to the beginning of its turn, from the pairs of the row to the sweep, from where its lines are written to the pairs, and
+-- from the end of the turn to there
+abbrev turn : tie.After-sweep-row-arg3 Inv-loop μ-loop → tie.In-loop Inv-loop μ-loop
+turn c = c .before .before .before
 
-abbrev rowed : tie.After-slice-known3 Inv-loop μ-loop → tie.After-found-of-row Inv-loop μ-loop
+abbrev swept : tie.After-found-of-pairs-arg4 Inv-loop μ-loop → tie.After-sweep-row Inv-loop μ-loop
+swept c = c .before .before .before .before .before .before .before
+
+abbrev rowed : tie.After-slice-known3 Inv-loop μ-loop → tie.After-found-of-pairs Inv-loop μ-loop
 rowed c = c .before .before .before .before .before
 
 abbrev linesPut : tie.After-slice-known4 Inv-loop μ-loop → tie.After-put-lines Inv-loop μ-loop
 linesPut c = c .before .before
 
+abbrev rowTurn : tie.After-found-of-pairs Inv-loop μ-loop → tie.In-loop Inv-loop μ-loop
+rowTurn f = turn (swept (f .before .before) .before)
+
 -- the root row of a turn is there
 there : (c : tie.In-loop Inv-loop μ-loop) → c .before .loop .written < length (start (c .before) .args .root-pairs .now) / pairWidth
 there c = omega (arith, c .loop-test .taken)
 
+-- its pairs can be found once the graphs are swept
+ready : (w : tie.After-sweep-row Inv-loop μ-loop) → let l = turn (w .before) .before in let a = start l .args in let new = w .sweep-row .last .1 .1 .1 .1 .1 .1 .1 in
+    PairReady (tables (start l)) (l .loop .written) (a .spec-plan .now) (a .impl-plan .now) (new .0) (new .1 .0) (new .1 .1 .0)
+ready w = w .sweep-row .ensures _ (start (turn (w .before) .before) .pre .0)
+
 -- its findings are kept
-kept : (f : tie.After-found-of-row Inv-loop μ-loop) → let l = turn (f .before) .before in
-    KeptOf (rowFindings (tables (start l)) (l .loop .written)) (f .found-of-row .last .1 .1 .1 .1 .1 .1 .1 .1 .1 .1 .1 .1 .0) (f .found-of-row .result)
-kept f = f .found-of-row .ensures [] (f .before .no-pair .ensures _)
+kept : (f : tie.After-found-of-pairs Inv-loop μ-loop) → let l = rowTurn f .before in
+    KeptOf (rowFindings (tables (start l)) (l .loop .written)) (f .found-of-pairs .last .1 .1 .1 .1 .1 .1 .1 .1 .1 .1 .1 .0) (f .found-of-pairs .result)
+kept f = f .found-of-pairs .ensures _ (ready (swept (f .before .before))) [] (f .before .no-pair .ensures _)
 
 -- there is room for their lines in the table
-enough : (f : tie.After-found-of-row Inv-loop μ-loop) → maxPairs ≤ length (f .found-of-row .last .1 .1 .1 .1 .1 .1 .1 .1 .1 .1 .1 .1 .0)
+enough : (f : tie.After-found-of-pairs Inv-loop μ-loop) → maxPairs ≤ length (f .found-of-pairs .last .1 .1 .1 .1 .1 .1 .1 .1 .1 .1 .1 .0)
 enough f =
-    let l = turn (f .before) .before in
-    omega (arith, f .found-of-row .kept .1 .1 .1 .1 .1 .1 .1 .1 .1 .1 .1 .1 .0, l .loop .inv .2, start l .pre .2)
+    let l = rowTurn f .before in
+    omega (arith, f .found-of-pairs .kept .1 .1 .1 .1 .1 .1 .1 .1 .1 .1 .1 .0, l .loop .inv .2, start l .pre .2)
 
 -- and in the buffer, which keeps its length
-fits : (f : tie.After-found-of-row Inv-loop μ-loop) → let l = turn (f .before) .before in
-    l .loop .at + length (linesOf (take (f .found-of-row .result .count) (f .found-of-row .last .1 .1 .1 .1 .1 .1 .1 .1 .1 .1 .1 .1 .0)))
+fits : (f : tie.After-found-of-pairs Inv-loop μ-loop) → let l = rowTurn f .before in
+    l .loop .at + length (linesOf (take (f .found-of-pairs .result .count) (f .found-of-pairs .last .1 .1 .1 .1 .1 .1 .1 .1 .1 .1 .1 .0)))
     ≤ length (start l .args .out .now)
 fits f =
-    let t = turn (f .before) in
+    let t = rowTurn f in
     let l = t .before in
     let s = start l in
     row-fits (tables s) (l .loop .written) (l .loop .inv .0) (s .pre .0 .plans .inputs) (there t) (kept f) (enough f) (s .pre .3)
@@ -76,25 +88,35 @@ long l = let s = start l in putting-length (tables s) (l .loop .written) (l .loo
 loop-holds : tie.Need-loop-holds Inv-loop μ-loop
 loop-holds c = let s = c .before .before .before .before in (putting-start (tables s) (s .args .out .now), s .pre .1, refl)
 
-found-of-row-requires : tie.Need-found-of-row-requires Inv-loop μ-loop
-found-of-row-requires c κs =
+sweep-row-requires : tie.Need-sweep-row-requires Inv-loop μ-loop
+sweep-row-requires c κs =
     let l = turn c in
     let s = start (l .before) in
+    record { leafPairs = s .args .leaf-pairs .now; ready = s .pre .0; rooms = l .before .loop .inv .1; row = there l }
+
+found-of-pairs-requires : tie.Need-found-of-pairs-requires Inv-loop μ-loop
+found-of-pairs-requires c κs =
+    let w = swept (c .before) in
+    let s = start (turn (w .before) .before) in
     let few = s .pre .0 .plans .inputs .leafShape .few in
-    (s .pre .0, l .before .loop .inv .1, there l, record { fs = []; kept = c .no-pair .ensures _; few = omega arith })
+    record {
+      rootPairs = s .args .root-pairs .now;
+      ready = ready w;
+      room = record { fs = []; kept = c .no-pair .ensures _; few = omega arith };
+    }
 
 sub-put-lines : tie.Need-sub-put-lines Inv-loop μ-loop
-sub-put-lines c = let f = rowed c in omega (arith, fits f, long (turn (f .before) .before))
+sub-put-lines c = let f = rowed c in omega (arith, fits f, long (rowTurn f .before))
 
 part-put-lines-start : tie.Need-part-put-lines-start Inv-loop μ-loop
-part-put-lines-start c = let f = rowed c in omega (arith, fits f, long (turn (f .before) .before))
+part-put-lines-start c = let f = rowed c in omega (arith, fits f, long (rowTurn f .before))
 
 put-lines-requires : tie.Need-put-lines-requires Inv-loop μ-loop
 put-lines-requires c κs =
     let f = rowed (c .before .before) in
-    let l = turn (f .before) .before in
+    let l = rowTurn f .before in
     let s = start l in (
-      row-held (tables s) (l .loop .written) (l .loop .inv .0) (s .pre .0 .plans .inputs) (there (turn (f .before))) (kept f) (enough f),
+      row-held (tables s) (l .loop .written) (l .loop .inv .0) (s .pre .0 .plans .inputs) (there (rowTurn f)) (kept f) (enough f),
       rw (tail-length (l .loop .out) (l .loop .at)) (omega (arith, fits f, long l)),
     )
 
@@ -102,27 +124,28 @@ add-at : tie.Need-add-at Inv-loop μ-loop
 add-at c =
     let w = linesPut c in
     let f = rowed (w .before .before .before) in
-    omega (arith, w .put-lines .ensures .count, fits f, start (turn (f .before) .before) .good .1 .1 .1 .1 .1 .1 .1 .1 .1 .1 .1 .1 .0 .0)
+    omega (arith, w .put-lines .ensures .count, fits f, start (rowTurn f .before) .good .1 .1 .1 .1 .1 .1 .1 .1 .1 .1 .1 .1 .0 .0)
 
 add-written : tie.Need-add-written Inv-loop μ-loop
 add-written c =
-    let t = turn (rowed (linesPut c .before .before .before) .before) in
+    let t = rowTurn (rowed (linesPut c .before .before .before)) in
     omega (arith, root-row-below (start (t .before) .pre .0 .plans .inputs) (t .before .loop .written) (there t))
 
 loop-less : tie.Need-loop-less Inv-loop μ-loop
-loop-less c = omega (arith, turn (rowed (linesPut c .before .before .before) .before) .loop-test .taken)
+loop-less c = omega (arith, rowTurn (rowed (linesPut c .before .before .before)) .loop-test .taken)
 
 loop-again : tie.Need-loop-again Inv-loop μ-loop
 loop-again c =
     let w = linesPut c in
     let f = rowed (w .before .before .before) in
-    let t = turn (f .before) in
+    let t = rowTurn f in
     let l = t .before in
     let s = start l in
     let i = l .loop .inv in
-    let sizes = f .found-of-row .kept .1 .1 .1 .1 .1 .1 .1 .1 in (
+    let k = ready (swept (f .before .before)) in
+    let sizes = f .found-of-pairs .kept .1 .1 .1 .1 .1 .1 .1 in (
       putting-on (tables s) (l .loop .written) (i .0) (s .pre .0 .plans .inputs) (there t) (kept f) (enough f) (w .put-lines .ensures),
-      record { spec = sizes .0 ∙ i .1 .spec; impl = sizes .1 .0 ∙ i .1 .impl; list = sizes .1 .1 .0 ∙ i .1 .list },
+      record { spec = sizes .0 ∙ k .rooms .spec; impl = sizes .1 .0 ∙ k .rooms .impl; list = sizes .1 .1 .0 ∙ k .rooms .list },
       sizes .1 .1 .1 .1 .0 ∙ i .2,
     )
 
@@ -153,8 +176,9 @@ put-rows-spec =
     Inv-loop
     μ-loop
     loop-holds
+    sweep-row-requires
     (λ c κs. search needs)
-    found-of-row-requires
+    found-of-pairs-requires
     sub-put-lines
     part-put-lines-start
     (λ c. search needs)

@@ -2,6 +2,7 @@
 ghost use Rattle.pairing.specs.Pairs.{tablesOf};
 ghost use Rattle.compare.specs.Promises.{ComparePromise};
 use forward::PLAN_ROOM;
+use grouping::LINK_ROOM;
 use model::Checked;
 use model::Compared;
 use prepare::prepare;
@@ -10,8 +11,8 @@ use survey::survey;
 // More bytes than the lines of all pairs have.
 const NO_LIMIT: usize = 4294967296;
 
-// Compares a specification graph with an implementation graph for the roots and leaves that belong together: the counts of equal, partial and
-// different pairs, the whole verdict, and the first unequal pair in visiting order with its lowest differing bit address; or the refusal.
+// Compares a specification graph with an implementation graph for the roots and leaves that belong together, where leaf pairs with one specification leaf are one
+// group: the counts of equal, partial and different pairs, the whole verdict, and the first unequal pair in visiting order with its lowest differing bit address; or the refusal.
 pub fn compare(
     spec_nodes: &[i64],
     spec_edges: &[i64],
@@ -28,6 +29,7 @@ pub fn compare(
 {
     let mut spec_plan = [0usize; PLAN_ROOM];
     let mut impl_plan = [0usize; PLAN_ROOM];
+    let mut links = [0usize; LINK_ROOM];
     let c = prepare(
         spec_nodes,
         spec_edges,
@@ -37,6 +39,7 @@ pub fn compare(
         leaf_pairs,
         &mut spec_plan,
         &mut impl_plan,
+        &mut links,
     );
     if let Checked::Refused(reason) = c {
         return Compared::Refused(reason);
@@ -49,6 +52,7 @@ pub fn compare(
         impl_edges,
         root_pairs,
         leaf_pairs,
+        &links,
         &spec_plan,
         &impl_plan,
         NO_LIMIT,

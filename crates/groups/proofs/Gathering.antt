@@ -33,7 +33,7 @@ use Rattle.arrivals.specs.Sweep.{HasSome, Swept, Appendable, LeafAppended}
 use Rattle.arrivals.proofs.Agreeing.{agree-less, agree-trans, agree-records, appended-agrees, appended-records}
 use Rattle.arrivals.proofs.Gathering.{some-append}
 use Rattle.arrivals.proofs.Swept.{swept-tables, swept-root, swept-same, swept-room, swept-agrees}
-use Rattle.groups.specs.Banks.{raisedRow, Raisable, bankOf, Gathering}
+use Rattle.groups.specs.Banks.{raisedRow, Raisable, bankWith, Gathering}
 use Rattle.groups.proofs.Raising.{raised-records}
 
 -- before the first bank there is no row
@@ -131,11 +131,11 @@ module _ {ns es : List ℤ} {plan : List ℕ} {root leaf : ℕ} {s t : List ℤ}
           ∙ ap₂ (λ (k l : List Record). k ++ l) (agree-records (freeRow s) (n - freeRow s) (omega (arith, v .behind)) kept) behind
 
       -- what the bank has
-      bank-exact : (x y : ℤ) → HasSome bankRows x y ↔ BankReached (graphOf ns es) (pos root) (bankOf leaf at) x y
+      bank-exact : (x y : ℤ) → HasSome bankRows x y ↔ BankReached (graphOf ns es) (pos root) (bankWith leaf at) x y
       bank-exact x y =
-          Iff·trans (raised-some at (map ofDisplacement (a .rows)) x y) (Iff·trans (a .exact x (y -ℤ at)) (bank-lower (bankOf leaf at) x y))
+          Iff·trans (raised-some at (map ofDisplacement (a .rows)) x y) (Iff·trans (a .exact x (y -ℤ at)) (bank-lower (bankWith leaf at) x y))
 
-      pub gathering-more : Gathering ns es plan root (banks ++ (bankOf leaf at ∷ [])) u m
+      pub gathering-more : Gathering ns es plan root (banks ++ (bankWith leaf at ∷ [])) u m
       unfolding pathCount
       gathering-more =
           let g = graphOf ns es in
@@ -151,9 +151,9 @@ module _ {ns es : List ℤ} {plan : List ℕ} {root leaf : ℕ} {s t : List ℤ}
                 let added = bank-exact x y in
                 rw records
                 (Iff·trans (some-append (recordsAt s (freeRow s) (n - freeRow s)) bankRows x y)
-                (Iff·trans (⊎-map (before .0) (added .0), ⊎-map (before .1) (added .1)) (group-more banks (bankOf leaf at) x y)));
+                (Iff·trans (⊎-map (before .0) (added .0), ⊎-map (before .1) (added .1)) (group-more banks (bankWith leaf at) x y)));
             full = λ q k.
                 ⊎-elim (λ j. v .full q j) (λ j. raised-full at (map ofDisplacement (a .rows)) (a .full) q j)
                 (List·Memᴰ·append-cases (recordsAt s (freeRow s) (n - freeRow s)) (subst (λ (l : List Record). q ∈ l) records k));
-            few = omega (arith, swept .1, v .few, a .few, a .appended .count, group-paths-more g (pos root) banks (bankOf leaf at));
+            few = omega (arith, swept .1, v .few, a .few, a .appended .count, group-paths-more g (pos root) banks (bankWith leaf at));
           }

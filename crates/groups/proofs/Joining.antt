@@ -26,7 +26,7 @@ use Rattle.arrivals.specs.State.{freeRow, Agree}
 use Rattle.arrivals.specs.Sweep.{Appendable, Normalisable, Normalised}
 use Rattle.arrivals.proofs.Agreeing.{agree-trans, agree-front}
 use Rattle.arrivals.proofs.Swept.{swept-tables, swept-root, swept-room, swept-agrees}
-use Rattle.groups.specs.Banks.{bankOf, Gathering, Joinable, ListAnswered, GroupAnswered, Answered, Askable}
+use Rattle.groups.specs.Banks.{bankWith, Gathering, Joinable, ListAnswered, GroupAnswered, Answered, Askable}
 
 module _ {ns es : List ℤ} {plan : List ℕ} {root : ℕ} {banks : List Bank} {s : List ℤ} {n : ℕ} (w : Gathering ns es plan root banks s n) where
   -- the records of the banks
@@ -97,7 +97,7 @@ module _ {ns es : List ℤ} {plan : List ℕ} {leaf : ℕ} {s spare : List ℤ} 
       }
 
   -- and joined
-  pub askable-joinable : {u : List ℤ} {n : ℕ} {at : ℤ} → Gathering ns es plan (o .root) (bankOf leaf at ∷ []) u n → Joinable u n spare
+  pub askable-joinable : {u : List ℤ} {n : ℕ} {at : ℤ} → Gathering ns es plan (o .root) (bankWith leaf at ∷ []) u n → Joinable u n spare
   unfolding pathCount
   askable-joinable {at = at} w =
       record {
@@ -105,14 +105,14 @@ module _ {ns es : List ℤ} {plan : List ℕ} {leaf : ℕ} {s spare : List ℤ} 
         edges = es;
         plan = plan;
         root = o .root;
-        banks = bankOf leaf at ∷ [];
+        banks = bankWith leaf at ∷ [];
         gathering = w;
-        spareRoom = omega (arith, w .few, group-paths-one (graphOf ns es) (pos (o .root)) (bankOf leaf at), o .few, o .spareRoom);
+        spareRoom = omega (arith, w .few, group-paths-one (graphOf ns es) (pos (o .root)) (bankWith leaf at), o .few, o .spareRoom);
       }
 
 -- the list of a group of one bank that begins at 0 is the list of its leaf
 pub one-answered : {ns es : List ℤ} {plan : List ℕ} {root : ℕ} (leaf : ℕ) {at : ℤ} {u : List ℤ} {p : ListRows} → at ≡ pos 0
-    → GroupAnswered ns es plan root (bankOf leaf at ∷ []) u p → Answered ns es plan root leaf u p
+    → GroupAnswered ns es plan root (bankWith leaf at ∷ []) u p → Answered ns es plan root leaf u p
 one-answered {ns} {es} {plan} {root} leaf {u = u} {p = p} e a =
-    let list = ap (λ (at : ℤ). groupList (graphOf ns es) (pos root) (bankOf leaf at ∷ [])) e ∙ group-one (graphOf ns es) (pos root) (pos leaf) in
+    let list = ap (λ (at : ℤ). groupList (graphOf ns es) (pos root) (bankWith leaf at ∷ [])) e ∙ group-one (graphOf ns es) (pos root) (pos leaf) in
     subst (λ (l : List Record). ListAnswered ns es plan root l u p) list a

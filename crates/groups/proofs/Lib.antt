@@ -1,3 +1,4 @@
 pub mod Raising
 pub mod Gathering
 pub mod Joining
+pub mod Turns

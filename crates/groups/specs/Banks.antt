@@ -1,19 +1,24 @@
 -- The rows of the banks of a group, gathered in the free part of a swept state, and the list that they become. Assumes nothing.
 use mathlib.Core.Path.{_≡_}
-use mathlib.Core.List.{List}
+use mathlib.Core.List.{List, [], map}
 use mathlib.Core.Logic.{_↔_}
-use Prim.Native.Nat.{ℕ, _+_, _-_, _*_, _≤_}
+use Prim.Native.Nat.{ℕ, _+_, _-_, _*_, _/_, _≤_, _<_}
 use lib.IntN.{ℤ, pos}
 use lib.Signed.{_≤ℤ_}
 use lib.ListN.{length, take}
 use Rattle.lists.specs.Lists.{_∈_}
-use Rattle.model.specs.Limits.{maxPaths}
+use Rattle.model.specs.Limits.{pairWidth, maxPairs, maxPaths}
 use Rattle.model.specs.Quantities.{Subtractable}
+use Rattle.model.specs.Rows.{Pair, pairRows}
 use Rattle.model.specs.Graph.{graphOf}
 use Rattle.model.specs.Paths.{Leaf}
 use Rattle.model.specs.Bitmapping.{Record}
 use Rattle.model.specs.Runs.{listOf}
 use Rattle.model.specs.Groups.{Bank, GroupReached, raisedBy, groupList, groupPaths}
+use Rattle.model.specs.Compare.{group, bankOf}
+use Rattle.tables.specs.Tables.{pairAt}
+use Rattle.steps.specs.Steps.{SmallAddress}
+use Rattle.grouping.specs.Links.{Linked, Passing}
 use Rattle.reach.specs.Counting.{pathCount}
 use Rattle.sorting.specs.declared.Row.{Row}
 use Rattle.sorting.specs.Rows.{rowWidth, rowsFrom}
@@ -40,8 +45,12 @@ pub record Raisable (at : ℤ) (s : List ℤ) (n m : ℕ) : Type 0 where
 -- ---- the rows of banks
 
 -- the bank with this leaf, which begins at this leaf bit of the group
-abbrev pub bankOf : ℕ → ℤ → Bank
-bankOf leaf at = record { leaf = pos leaf; at = at }
+abbrev pub bankWith : ℕ → ℤ → Bank
+bankWith leaf at = record { leaf = pos leaf; at = at }
+
+-- the banks of the group of a row of leaf pairs
+abbrev pub banksAt : List ℤ → ℕ → List Bank
+banksAt pairs row = map bankOf (group (pairRows pairs) (pairAt pairs row))
 
 -- a state swept from a root, with the rows of some banks from the free row up to row n: their records have exactly what is reached in the group of these banks,
 -- none is empty, and they are no more than paths lead to the banks together
@@ -88,4 +97,23 @@ pub record Askable (ns es : List ℤ) (plan : List ℕ) (leaf : ℕ) (s spare : 
   pub block : Leaf (graphOf ns es) (pos leaf)
   pub covered : Covered es (plannedOf es plan) (pos leaf)
   pub few : pathCount (graphOf ns es) (pos root) (pos leaf) ≤ maxPaths
+  pub spareRoom : rowWidth * maxPaths ≤ length spare
+
+-- the implementation leaf of a pair row can be listed as a bank: all its entering edges are in the plan, and it begins at a small bit
+pub record BankListable (ns es : List ℤ) (plan : List ℕ) (p : Pair) : Type 0 where
+  pub block : Leaf (graphOf ns es) (p .impl)
+  pub covered : Covered es (plannedOf es plan) (p .impl)
+  pub small : SmallAddress (p .at)
+
+-- what the list of a group starts from: a state swept from a root, leaf pairs whose groups are linked, the lowest row of a group, at most 1,024 paths to its banks
+-- together, and room
+pub record GroupAskable (ns es : List ℤ) (plan : List ℕ) (pairs : List ℤ) (links : List ℕ) (lowest : ℕ) (s spare : List ℤ) : Type 0 where
+  pub root : ℕ
+  pub state : Swept ns es plan root s
+  pub linked : Linked pairs links
+  pub rows : length pairs ≤ pairWidth * maxPairs
+  pub start : Passing pairs (pairAt pairs lowest) [] lowest
+  pub there : lowest < length pairs / pairWidth
+  pub listable : (p : Pair) → p ∈ pairRows pairs → BankListable ns es plan p
+  pub few : groupPaths (graphOf ns es) (pos root) (banksAt pairs lowest) ≤ maxPaths
   pub spareRoom : rowWidth * maxPaths ≤ length spare

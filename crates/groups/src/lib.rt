@@ -10,15 +10,19 @@ ghost use Rattle.sorting.specs.Rows.{rowsFrom};
 ghost use Rattle.steps.specs.Steps.{SmallAddress};
 ghost use Rattle.listing.specs.Listing.{Appended};
 ghost use Rattle.arrivals.specs.Sweep.{Swept, Appendable};
-ghost use Rattle.groups.specs.Banks.{raisedRow, Raisable, bankOf, Gathering, Joinable, GroupAnswered, Askable, Answered};
+ghost use Rattle.groups.specs.Banks.{raisedRow, Raisable, bankWith, Gathering, Joinable, GroupAnswered, Askable, Answered, banksAt, GroupAskable};
 use arrivals::ListRows;
 use arrivals::append_rows;
 use arrivals::free_row;
 use arrivals::normalise_between;
+use grouping::next_row;
 use listing::append_row;
-use listing::leaf_start;
+use listing::leaf_bit;
 use listing::raised_displacement;
 use model::Bits;
+use model::PAIR_WIDTH;
+use pairing::impl_node;
+use pairing::pair_at;
 use sorting::Row;
 use sorting::row_at;
 
@@ -62,7 +66,7 @@ pub fn append_bank(
     requires { ⌜ Appendable (now nodes) (now edges) (now plan) leaf (now state) n × SmallAddress (at .0) ⌝ }
     ensures { λ r. ⌜
         ((root : ℕ) (banks : List Bank) → Gathering (now (nodes .entry)) (now (edges .entry)) (now (plan .entry)) root banks (now (state .entry)) n
-        → Gathering (now (nodes .entry)) (now (edges .entry)) (now (plan .entry)) root (banks ++ (bankOf leaf (at .0) ∷ [])) (now (state .exit)) r) ⌝ }
+        → Gathering (now (nodes .entry)) (now (edges .entry)) (now (plan .entry)) root (banks ++ (bankWith leaf (at .0) ∷ [])) (now (state .exit)) r) ⌝ }
 {
     let end = append_rows(nodes, edges, plan, leaf, state, n);
     raise_rows(state, n, end, at);
@@ -103,6 +107,35 @@ pub fn list_at(
         → Answered (now (nodes .entry)) (now (edges .entry)) (now (plan .entry)) root leaf (now (state .exit)) r) ⌝ }
 {
     let first = free_row(state);
-    let n = append_bank(nodes, edges, plan, leaf, leaf_start(), state, first);
+    let n = append_bank(nodes, edges, plan, leaf, leaf_bit(0), state, first);
+    join_banks(state, n, spare)
+}
+
+// Lists the group of a row of leaf pairs, its lowest, from the root that the state is swept from: the rows of its banks are appended one after the other, each raised
+// to where its bank begins, and joined to one list. What stands in `spare` afterwards is space that was worked in.
+pub fn list_group(
+    nodes: &[i64],
+    edges: &[i64],
+    plan: &[usize],
+    pairs: &[i64],
+    links: &[usize],
+    lowest: usize,
+    state: &mut [i64],
+    spare: &mut [i64],
+) -> ListRows
+    requires { ⌜ GroupAskable (now nodes) (now edges) (now plan) (now pairs) (now links) lowest (now state) (now spare) ⌝ }
+    ensures { λ r. ⌜
+        ((root : ℕ) → Swept (now (nodes .entry)) (now (edges .entry)) (now (plan .entry)) root (now (state .entry))
+        → GroupAnswered (now (nodes .entry)) (now (edges .entry)) (now (plan .entry)) root (banksAt (now (pairs .entry)) lowest) (now (state .exit)) r) ⌝ }
+{
+    let count = pairs.len() / PAIR_WIDTH;
+    let mut n = free_row(state);
+    let mut row = lowest;
+    while row < count {
+        let leaf = impl_node(pairs, row);
+        let at = leaf_bit(pair_at(pairs, row));
+        n = append_bank(nodes, edges, plan, leaf, at, state, n);
+        row = next_row(links, row);
+    }
     join_banks(state, n, spare)
 }

@@ -53,11 +53,11 @@ fn arrival_row(nodes: &[i64], leaf: usize, a: Bits) -> Row
     }
 }
 
-// The first leaf bit.
-pub fn leaf_start() -> Bits
-    ensures { λ r. ⌜ r .0 ≡ pos 0 ⌝ }
+// A leaf bit, as a pair row gives it.
+pub fn leaf_bit(number: i64) -> Bits
+    ensures { λ r. ⌜ r .0 ≡ number ⌝ }
 {
-    Bits::of(0)
+    Bits::of(number)
 }
 
 // The displacement of a record with its leaf bits so much higher.

@@ -16,31 +16,34 @@ use Rattle.lists.proofs.Membership.{map-in, map-out}
 use Rattle.lists.proofs.Decisions.{test-stable}
 use Rattle.lists.proofs.Places.{map-same}
 use Rattle.model.specs.Rows.{Pair}
-use Rattle.model.specs.Bitmapping.{Record, IsBitmappingList}
+use Rattle.model.specs.Bitmapping.{Record, IsListOf}
 use Rattle.model.specs.Runs.{listOf}
+use Rattle.model.specs.Groups.{Bank, groupList}
 use Rattle.model.specs.Verdicts.{verdict, lowest}
-use Rattle.model.specs.Compare.{Tables, specGraph, implGraph, rootRows, leafRows, Visit, visits, Finding, findingOf, findings, verdictOf, count, largest, firstUnequal, placeOf, Result, resultOf}
+use Rattle.model.specs.Compare.{Tables, specGraph, implGraph, rootRows, banks, groups, Visit, visits, Finding, findingOf, findings, verdictOf, count, largest, firstUnequal, placeOf, Result, resultOf}
 use Rattle.model.specs.Refusals.{NoneHolds, compareConditions}
 use Rattle.model.specs.Calls.{full, compareAnswer}
 use Rattle.model.specs.Demands.{Address, InSpec, InImpl, SameSets, SetsDiffer, VisitedBefore, inOrder, VerdictsOfPairs, FirstDifference, Demand3, PartialPair, PartialByWalks, MissingFrom}
-use Rattle.model.proofs.Paths.{Fit}
 use Rattle.model.proofs.Records.{has-at}
 use Rattle.model.proofs.Walks.{reached-address}
-use Rattle.model.proofs.Verdicts.{verdict-equal, verdict-partial, verdict-range, rules-unique}
+use Rattle.model.proofs.Verdicts.{verdict-equal, verdict-partial, verdict-range, verdict-rules, rules-unique}
 use Rattle.model.proofs.Containment.{contained-within}
 use Rattle.model.proofs.Lowest.{HasSome, DifferOn, DifferAt, lowest?, lowest-agrees}
-use Rattle.model.proofs.ListLaw.{list-of-reached, list-only, list-reached, list-same}
+use Rattle.model.proofs.Uniqueness.{list-unique}
+use Rattle.model.proofs.ListLaw.{list-has, lists-same, list-of-reached}
+use Rattle.model.proofs.Groups.{group-list}
 use Rattle.model.proofs.Taken.{taken-fit, taken-address}
 use Rattle.model.proofs.Visits.{Ascends, ascends-map, ascends-ahead, pairs-ascending, VisitBefore, visit-before-asym, visits-in, visits-ascending, visits-length}
 use Rattle.model.proofs.Folds.{counts-total, largest-equal, FirstUnequal, first-unequal-in, FirstFound, first-unequal, place-none}
-use Rattle.model.proofs.Pairing.{Comparable, compare-exact, compare-comparable}
+use Rattle.model.proofs.GroupRows.{group-leaf, groups-ascending}
+use Rattle.model.proofs.Pairing.{bank-leaves, Comparable, compare-exact, compare-comparable}
 
 -- the two lists of a pair
 abbrev specList : Tables → Pair → Pair → List Record
 specList t r l = listOf (specGraph t) (r .spec) (l .spec)
 
 abbrev implList : Tables → Pair → Pair → List Record
-implList t r l = listOf (implGraph t) (r .impl) (l .impl)
+implList t r l = groupList (implGraph t) (r .impl) (banks t l)
 
 -- a list that is not empty has a record
 list-some : (l : List Record) → l ≢ [] → (s : Record) × (s ∈ l)
@@ -55,20 +58,20 @@ record LowestDifference (t : Tables) (r l : Pair) (a : ℤ) : Type 0 where
 
 -- ---- one pair
 
-module _ {t : Tables} (c : Comparable t) {r l : Pair} (p : r ∈ rootRows t) (q : l ∈ leafRows t) where
-  -- paths of either graph end at the leaf
-  spec-fit : Fit (specGraph t) (l .spec)
-  spec-fit = taken-fit (c .spec) (c .paired .leaves l q .0)
+module _ {t : Tables} (c : Comparable t) {r l : Pair} (p : r ∈ rootRows t) (q : l ∈ groups t) where
+  -- the list of the specification leaf is that of its reached set, and the list of the group that of its banks' joined sets
+  spec-list : IsListOf (InSpec t r l) (specList t r l)
+  spec-list = list-of-reached (taken-fit (c .spec) (c .paired .leaves l (group-leaf t q) .nodes .0))
 
-  impl-fit : Fit (implGraph t) (l .impl)
-  impl-fit = taken-fit (c .impl) (c .paired .leaves l q .1)
+  impl-list : IsListOf (InImpl t r l) (implList t r l)
+  impl-list = group-list (banks t l) (λ b m. taken-fit (c .impl) (bank-leaves t (c .paired .leaves) l (b .leaf) (map-in (λ (b : Bank). b .leaf) m)))
 
   -- an address from which a leaf bit is reached lies in 0 .. 2^55 − 1
   spec-address : {x y : ℤ} → InSpec t r l x y → Address x
-  spec-address w = let a = taken-address (c .spec) (c .paired .roots r p .0 .row) (reached-address w) in record { low = a .0; high = a .1 }
+  spec-address w = let a = taken-address (c .spec) (c .paired .roots r p .nodes .0 .row) (reached-address w) in record { low = a .0; high = a .1 }
 
   impl-address : {x y : ℤ} → InImpl t r l x y → Address x
-  impl-address w = let a = taken-address (c .impl) (c .paired .roots r p .1 .row) (reached-address w) in record { low = a .0; high = a .1 }
+  impl-address (b, m, w) = let a = taken-address (c .impl) (c .paired .roots r p .nodes .1 .row) (reached-address (w .reached)) in record { low = a .0; high = a .1 }
 
   -- sets that are the same at every address of that range are the same at every address: outside it both are empty
   same-everywhere : ((x : ℤ) → Address x → SameSets t r l x) → (x : ℤ) → SameSets t r l x
@@ -76,15 +79,15 @@ module _ {t : Tables} (c : Comparable t) {r l : Pair} (p : r ∈ rootRows t) (q 
 
   -- where the lists have the same leaf bits at x, the sets are the same there
   lists-agree : {x : ℤ} → ((y : ℤ) → HasSome (specList t r l) x y ↔ HasSome (implList t r l) x y) → SameSets t r l x
-  lists-agree {x} h y = Iff·trans (list-reached spec-fit x y) (Iff·trans (h y) (Iff·symm (list-reached impl-fit x y)))
+  lists-agree {x} h y = Iff·trans (list-has spec-list x y) (Iff·trans (h y) (Iff·symm (list-has impl-list x y)))
 
   -- where the lists differ, so do the sets
   lists-differ : {x : ℤ} → DifferAt (specList t r l) (implList t r l) x → SetsDiffer t r l x
   lists-differ {x} (y, d) = (y, go d)
     where
       go : DifferOn (specList t r l) (implList t r l) x y → (InSpec t r l x y × (InImpl t r l x y → ⊥)) ⊎ ((InSpec t r l x y → ⊥) × InImpl t r l x y)
-      go (inl (w, n)) = inl (list-reached spec-fit x y .1 w, λ k. n (list-reached impl-fit x y .0 k))
-      go (inr (n, w)) = inr (λ k. n (list-reached spec-fit x y .0 k), list-reached impl-fit x y .1 w)
+      go (inl (w, n)) = inl (list-has spec-list x y .1 w, λ k. n (list-has impl-list x y .0 k))
+      go (inr (n, w)) = inr (λ k. n (list-has spec-list x y .0 k), list-has impl-list x y .1 w)
 
   -- sets differ only at addresses of the range
   differ-address : {x : ℤ} → SetsDiffer t r l x → Address x
@@ -93,7 +96,7 @@ module _ {t : Tables} (c : Comparable t) {r l : Pair} (p : r ∈ rootRows t) (q 
 
   -- the verdict on a pair is 0 exactly where its sets are the same everywhere
   pair-equal : (verdict (specList t r l) (implList t r l) ≡ 0) ↔ ((x : ℤ) → SameSets t r l x)
-  pair-equal = Iff·trans (verdict-equal (specList t r l) (implList t r l)) (list-same spec-fit impl-fit)
+  pair-equal = Iff·trans (verdict-equal (specList t r l) (implList t r l)) (lists-same spec-list impl-list)
 
   -- the verdict on a pair is 1 exactly where it is partial by walks
   pair-partial : (verdict (specList t r l) (implList t r l) ≡ 1) ↔ PartialPair t r l
@@ -101,15 +104,15 @@ module _ {t : Tables} (c : Comparable t) {r l : Pair} (p : r ∈ rootRows t) (q 
     λ p.
         let (s, m) = list-some impl (p .some) in
         record {
-          within = λ x y w. list-reached spec-fit x y .1 (contained-within specList-is implFull .0 (p .each) x y (list-reached impl-fit x y .0 w));
-          some = (s .first, s .first -ℤ s .displacement, list-reached impl-fit (s .first) (s .first -ℤ s .displacement) .1 (s, m, has-at s (s .first) (omega (arith, ints)) (implFull s m)));
-          unequal = λ same. p .unequal (list-same spec-fit impl-fit .1 same);
+          within = λ x y w. list-has spec-list x y .1 (contained-within spec-list implFull .0 (p .each) x y (list-has impl-list x y .0 w));
+          some = (s .first, s .first -ℤ s .displacement, list-has impl-list (s .first) (s .first -ℤ s .displacement) .1 (s, m, has-at s (s .first) (omega (arith, ints)) (implFull s m)));
+          unequal = λ same. p .unequal (lists-same spec-list impl-list .1 same);
         },
     λ p.
         record {
-          unequal = λ e. p .unequal (list-same spec-fit impl-fit .0 e);
-          some = λ e. nothing e (list-reached impl-fit (p .some .0) (p .some .1) .0 (p .some .2));
-          each = contained-within specList-is implFull .1 (λ x y w. list-reached spec-fit x y .0 (p .within x y (list-reached impl-fit x y .1 w)));
+          unequal = λ e. p .unequal (lists-same spec-list impl-list .0 e);
+          some = λ e. nothing e (list-has impl-list (p .some .0) (p .some .1) .0 (p .some .2));
+          each = contained-within spec-list implFull .1 (λ x y w. list-has spec-list x y .0 (p .within x y (list-has impl-list x y .1 w)));
         },
   )
     where
@@ -119,11 +122,8 @@ module _ {t : Tables} (c : Comparable t) {r l : Pair} (p : r ∈ rootRows t) (q 
       impl : List Record
       impl = implList t r l
 
-      specList-is : IsBitmappingList (specGraph t) (r .spec) (l .spec) spec
-      specList-is = list-of-reached spec-fit
-
       implFull : (s : Record) → s ∈ impl → s .first ≤ℤ s .last
-      implFull = list-of-reached impl-fit .full
+      implFull = impl-list .full
 
       nothing : {x y : ℤ} → impl ≡ [] → HasSome impl x y → ⊥
       nothing e w = List·Memᴰ·not-nil (subst (λ (m : List Record). w .0 ∈ m) e (w .1))
@@ -142,31 +142,31 @@ verdicts t = map verdictOf (findings t)
 
 module _ (t : Tables) where
   -- every pair has its finding
-  finding-in : {r l : Pair} → r ∈ rootRows t → l ∈ leafRows t → findingOf t (record { root = r; leaf = l }) ∈ findings t
+  finding-in : {r l : Pair} → r ∈ rootRows t → l ∈ groups t → findingOf t (record { root = r; leaf = l }) ∈ findings t
   unfolding findings
-  finding-in p q = map-in (findingOf t) (visits-in (rootRows t) (leafRows t) .1 (p, q))
+  finding-in p q = map-in (findingOf t) (visits-in (rootRows t) (groups t) .1 (p, q))
 
   -- what holds of the finding of every pair holds of all findings
-  finding-all : (P : Finding → Type 0) → ((r l : Pair) → r ∈ rootRows t → l ∈ leafRows t → P (findingOf t (record { root = r; leaf = l })))
+  finding-all : (P : Finding → Type 0) → ((r l : Pair) → r ∈ rootRows t → l ∈ groups t → P (findingOf t (record { root = r; leaf = l })))
       → (f : Finding) → f ∈ findings t → P f
   unfolding findings
   finding-all P h f m =
-      let w = map-out (findingOf t) (visits (rootRows t) (leafRows t)) m in
-      let v = visits-in (rootRows t) (leafRows t) .0 (w .1) in
+      let w = map-out (findingOf t) (visits (rootRows t) (groups t)) m in
+      let v = visits-in (rootRows t) (groups t) .0 (w .1) in
       subst P (sym (w .2)) (h (w .0 .root) (w .0 .leaf) (v .0) (v .1))
 
   -- findings stand in visiting order
   findings-ascending : Ascends (λ d f. VisitBefore (d .visit) (f .visit)) (findings t)
   unfolding findings findingOf
-  findings-ascending = ascends-map (findingOf t) (λ v w b. b) (visits-ascending (pairs-ascending (t .rootPairs)) (pairs-ascending (t .leafPairs)))
+  findings-ascending = ascends-map (findingOf t) (λ v w b. b) (visits-ascending (pairs-ascending (t .rootPairs)) (groups-ascending t))
 
-  -- there is a finding for each root row with each leaf row
-  findings-length : length (findings t) ≡ length (rootRows t) * length (leafRows t)
+  -- there is a finding for each root row with each group
+  findings-length : length (findings t) ≡ length (rootRows t) * length (groups t)
   unfolding findings
-  findings-length = length-map (visits (rootRows t) (leafRows t)) (findingOf t) ∙ visits-length (rootRows t) (leafRows t)
+  findings-length = length-map (visits (rootRows t) (groups t)) (findingOf t) ∙ visits-length (rootRows t) (groups t)
 
   -- the three counts are as many as there are pairs
-  findings-total : count 0 (verdicts t) + count 1 (verdicts t) + count 2 (verdicts t) ≡ length (rootRows t) * length (leafRows t)
+  findings-total : count 0 (verdicts t) + count 1 (verdicts t) + count 2 (verdicts t) ≡ length (rootRows t) * length (groups t)
   unfolding verdictOf
   findings-total = counts-total (verdicts t) range ∙ length-map (findings t) verdictOf ∙ findings-length
     where
@@ -179,16 +179,16 @@ module _ {t : Tables} (c : Comparable t) where
   verdicts-found : {spec impl : Visit → List Record} {given : Visit → ℕ} → VerdictsOfPairs t spec impl given → inOrder t given ≡ verdicts t
   unfolding findings findingOf verdictOf
   verdicts-found {spec} {impl} {given} b =
-      let all = visits (rootRows t) (leafRows t) in
+      let all = visits (rootRows t) (groups t) in
       map-same given (λ v. verdictOf (findingOf t v)) all same ∙ sym (map-map verdictOf (findingOf t) all)
     where
-      same : (v : Visit) → v ∈ visits (rootRows t) (leafRows t) → given v ≡ verdict (specList t (v .root) (v .leaf)) (implList t (v .root) (v .leaf))
+      same : (v : Visit) → v ∈ visits (rootRows t) (groups t) → given v ≡ verdict (specList t (v .root) (v .leaf)) (implList t (v .root) (v .leaf))
       same v m =
-          let w = visits-in (rootRows t) (leafRows t) .0 m in
-          cc (rules-unique (b .rules v m), list-only (spec-fit c (w .0) (w .1)) (b .inSpec v m), list-only (impl-fit c (w .0) (w .1)) (b .inImpl v m))
+          let w = visits-in (rootRows t) (groups t) .0 m in
+          cc (rules-unique (b .rules v m), list-unique (b .inSpec v m) (spec-list c (w .0) (w .1)), list-unique (b .inImpl v m) (impl-list c (w .0) (w .1)))
 
   -- the whole verdict is 0 exactly where the sets of every pair are the same at every address of the range
-  whole-equal : (largest (verdicts t) ≡ 0) ↔ ((r l : Pair) → r ∈ rootRows t → l ∈ leafRows t → (x : ℤ) → Address x → SameSets t r l x)
+  whole-equal : (largest (verdicts t) ≡ 0) ↔ ((r l : Pair) → r ∈ rootRows t → l ∈ groups t → (x : ℤ) → Address x → SameSets t r l x)
   unfolding findingOf verdictOf
   whole-equal =
       Iff·trans (largest-equal (findings t)) (
@@ -216,7 +216,7 @@ module _ {t : Tables} (c : Comparable t) where
       record {
         root = f .visit .root;
         leaf = f .visit .leaf;
-        paired = finding-all t (λ d. (d .visit .root ∈ rootRows t) × (d .visit .leaf ∈ leafRows t)) (λ r l p q. (p, q)) f m;
+        paired = finding-all t (λ d. (d .visit .root ∈ rootRows t) × (d .visit .leaf ∈ groups t)) (λ r l p q. (p, q)) f m;
         reportedRoot = refl;
         reportedLeaf = refl;
         address = low .address;
@@ -225,7 +225,7 @@ module _ {t : Tables} (c : Comparable t) where
         first = λ q m p n b. pair-equal c p n .0 (w .equal (findingOf t (record { root = q; leaf = m })) (ahead q m p n b));
       }
     where
-      ahead : (q m : Pair) → q ∈ rootRows t → m ∈ leafRows t → VisitedBefore q m (f .visit .root) (f .visit .leaf)
+      ahead : (q m : Pair) → q ∈ rootRows t → m ∈ groups t → VisitedBefore q m (f .visit .root) (f .visit .leaf)
           → findingOf t (record { root = q; leaf = m }) ∈ w .earlier
       ahead q m p n b =
           let order = rw (w .split) at (findings-ascending t) in
@@ -254,6 +254,18 @@ module _ {t : Tables} (c : Comparable t) where
       go (some f) h = first-difference equal partial different whole h
 
 -- ---- the demand
+
+-- there are such lists and verdicts: those of the findings, so that the counts of demand 3 are bound
+pub verdicts-exist : (t : Tables) → NoneHolds (compareConditions t)
+    → VerdictsOfPairs t (λ v. findingOf t v .spec) (λ v. findingOf t v .impl) (λ v. verdictOf (findingOf t v))
+unfolding findingOf verdictOf
+verdicts-exist t h =
+    let c = compare-comparable t h in
+    record {
+      inSpec = λ v m. let w = visits-in (rootRows t) (groups t) .0 m in spec-list c (w .0) (w .1);
+      inImpl = λ v m. let w = visits-in (rootRows t) (groups t) .0 m in impl-list c (w .0) (w .1);
+      rules = λ v m. verdict-rules (specList t (v .root) (v .leaf)) (implList t (v .root) (v .leaf));
+    }
 
 -- where no condition holds, compare gives its full result
 pub compare-full : (t : Tables) → NoneHolds (compareConditions t) → compareAnswer t ≡ full (resultOf (findings t))
@@ -289,7 +301,7 @@ partial-lowest p (y, inl (w, n)) below = record { leafBit = y; specified = w; mi
 partial-lowest {x} p (y, inr (n, w)) below = absurd (n (p .within x y w))
 
 -- of a partial pair there is such an address
-pub partial-missing : (t : Tables) → NoneHolds (compareConditions t) → (r l : Pair) → r ∈ rootRows t → l ∈ leafRows t → PartialPair t r l
+pub partial-missing : (t : Tables) → NoneHolds (compareConditions t) → (r l : Pair) → r ∈ rootRows t → l ∈ groups t → PartialPair t r l
     → (x : ℤ) × MissingFrom t r l x
 partial-missing t h r l m n p =
     let c = compare-comparable t h in

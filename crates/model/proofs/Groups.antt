@@ -20,7 +20,7 @@ use Rattle.model.specs.Groups.{Bank, BankReached, GroupReached, raisedBy
 use Rattle.model.proofs.Paths.{Fit}
 use Rattle.model.proofs.Records.{record-path}
 use Rattle.model.proofs.Walks.{runs-reached, runs-full, runs-within-paths}
-use Rattle.model.proofs.Uniqueness.{list-of-same}
+use Rattle.model.proofs.Uniqueness.{list-of-same, list-unique}
 use Rattle.model.proofs.Normalisation.{normal-list, normal-length}
 use Rattle.model.proofs.Lowest.{HasSome}
 
@@ -47,7 +47,7 @@ raised-some at l x y = (
   λ (s, m, h). (raisedBy at s, map-in (raisedBy at) m, raised-has at s x y .1 h),
 )
 
--- they are empty where the records are
+-- no raised record is empty where no record is
 pub raised-full : (at : ℤ) (l : List Record) → ((s : Record) → s ∈ l → s .first ≤ℤ s .last) → (s : Record) → s ∈ map (raisedBy at) l → s .first ≤ℤ s .last
 unfolding raisedBy
 raised-full at l full s m =
@@ -110,6 +110,11 @@ banks-full g r bs s m =
 pub group-list : {g : Graph} {r : ℤ} (bs : List Bank) → ((b : Bank) → b ∈ bs → Fit g (b .leaf)) → IsListOf (GroupReached g r bs) (groupList g r bs)
 unfolding groupList
 group-list {g} {r} bs f = list-of-same (group-reached bs f) (normal-list (flatMap (bankRecords g r) bs) (banks-full g r bs))
+
+-- there is no other
+pub group-only : {g : Graph} {r : ℤ} (bs : List Bank) → ((b : Bank) → b ∈ bs → Fit g (b .leaf)) → {l : List Record} → IsListOf (GroupReached g r bs) l
+    → l ≡ groupList g r bs
+group-only bs f h = list-unique h (group-list bs f)
 
 -- that of one bank which begins at 0 is the list of its leaf
 pub group-one : (g : Graph) (r l : ℤ) → groupList g r (record { leaf = l; at = pos 0 } ∷ []) ≡ listOf g r l

@@ -18,6 +18,8 @@ pub mod GraphChecks
 pub mod Taken
 pub mod SingleChecks
 pub mod Visits
+pub mod GroupRows
+pub mod SingleLeaves
 pub mod Folds
 pub mod Pairing
 pub mod Demand

@@ -9,13 +9,26 @@ use Rattle.model.specs.Rows.{Node, Edge}
 use Rattle.model.specs.Graph.{Graph, node, firstBit, bitOffset}
 use Rattle.model.specs.Walk.{StandsOn, Reached}
 use Rattle.model.specs.Paths.{Way, stay, over}
-use Rattle.model.specs.Bitmapping.{Record, IsBitmappingList}
+use Rattle.model.specs.Bitmapping.{Record, IsListOf, IsBitmappingList}
 use Rattle.model.specs.Runs.{runs, recordOf, listOf}
 use Rattle.model.proofs.Paths.{Fit}
 use Rattle.model.proofs.Walks.{Along, halt, pass, walk-route, route-walk, runs-reached, runs-full}
 use Rattle.model.proofs.Uniqueness.{list-of-same, list-unique}
 use Rattle.model.proofs.Normalisation.{normal-list}
 use Rattle.model.proofs.Lowest.{HasSome}
+
+-- ---- the list of a set
+
+-- its records have exactly what is in the set
+pub list-has : {S : ℤ → ℤ → Type 0} {l : List Record} → IsListOf S l → (x y : ℤ) → S x y ↔ HasSome l x y
+list-has h x y = (h .complete x y, λ w. h .sound (w .0) (w .1) x y (w .2))
+
+-- the lists of two sets are equal exactly where the sets are the same
+pub lists-same : {S S′ : ℤ → ℤ → Type 0} {l m : List Record} → IsListOf S l → IsListOf S′ m → (l ≡ m) ↔ ((x y : ℤ) → S x y ↔ S′ x y)
+lists-same {S} {S′} {l} {m} h k = (
+  λ e x y. Iff·trans (subst (λ (n : List Record). S x y ↔ HasSome n x y) e (list-has h x y)) (Iff·symm (list-has k x y)),
+  λ e. list-unique (list-of-same e h) k,
+)
 
 -- ---- the list of a root and a leaf
 
@@ -31,15 +44,12 @@ list-only f h = list-unique h (list-of-reached f)
 
 -- its records have exactly what is reached
 pub list-reached : {g : Graph} {r l : ℤ} → Fit g l → (x y : ℤ) → Reached g r l x y ↔ HasSome (listOf g r l) x y
-list-reached f x y = let h = list-of-reached f in (h .complete x y, λ w. h .sound (w .0) (w .1) x y (w .2))
+list-reached f = list-has (list-of-reached f)
 
 -- two lists are equal exactly where the same is reached
 pub list-same : {g h : Graph} {r s l m : ℤ} → Fit g l → Fit h m
     → (listOf g r l ≡ listOf h s m) ↔ ((x y : ℤ) → Reached g r l x y ↔ Reached h s m x y)
-list-same {g} {h} {r} {s} {l} {m} f k = (
-  λ e x y. Iff·trans (subst (λ (n : List Record). Reached g r l x y ↔ HasSome n x y) e (list-reached f x y)) (Iff·symm (list-reached k x y)),
-  λ e. list-only k (list-of-same e (list-of-reached f)),
-)
+list-same f k = lists-same (list-of-reached f) (list-of-reached k)
 
 -- ---- the rows that it depends on
 

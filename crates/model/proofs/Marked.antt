@@ -6,8 +6,9 @@ use Rattle.model.specs.Rows.{nodesFrom, edgesFrom, pairsFrom}
 use Rattle.model.specs.Graph.{graphOf, node, firstBit, lastBit, bitOffset}
 use Rattle.model.specs.Runs.{leaving, pathsWithin, paths, empty, whole, shift, clip, across, along, runs, recordOf, touch, hull, joined, before, place, add, normal, listOf}
 use Rattle.model.specs.Verdicts.{sameRecord, sameList, contained, allContained, verdict, hasBit, bitsWithin, differsAt, changes, least, leastOf, lowest}
-use Rattle.model.specs.Compare.{visits, findingOf, findings, verdictOf, count, largest, firstUnequal, placeOf, resultOf}
-use Rattle.model.specs.Checks.{when, _then_, firstOf, checkShape, isKind, isUnit, goodExtent, goodNode, checkNode, isRow, goodOffset, goodEdge, checkEdge, each, endingAt, followed, begins, cyclic, deep, checkGraph, isRoot, isLeaf, manyPaths, checkNamed, checkOutput, clashes, checkPair, checkVisit, checkPairing, checkSingle, checkTables}
+use Rattle.model.specs.Groups.{raisedBy, bankRecords, groupList}
+use Rattle.model.specs.Compare.{sameSpec, group, isLowest, lowestRows, visits, findingOf, findings, verdictOf, count, largest, firstUnequal, placeOf, resultOf}
+use Rattle.model.specs.Checks.{when, _then_, firstOf, checkShape, isKind, isUnit, goodExtent, goodNode, checkNode, isRow, goodOffset, goodEdge, checkEdge, each, endingAt, followed, begins, cyclic, deep, checkGraph, isRoot, isLeaf, manyPaths, checkNamed, checkOutput, goodAt, sameRoot, sameImpl, clashes, checkPair, checkVisit, checkPairing, checkSingle, checkTables}
 use Rattle.model.specs.Calls.{answer, checkAnswer, numbersOf, listAnswer, compareAnswer}
 use Rattle.model.specs.Bytes.{bytes, digits, shown, spaced, same}
 use Rattle.model.specs.MapFile.{nodeTable, edgeTable, pairTable, onto, lines, feeds}
@@ -18,5 +19,5 @@ use Rattle.model.specs.Marked.{AllHold, marked}
 
 -- every case of the list holds
 pub marked-holds : AllHold marked
-unfolding flatMap keep any all isNil nodesFrom edgesFrom pairsFrom graphOf node firstBit lastBit bitOffset leaving pathsWithin paths empty whole shift clip across along runs recordOf touch hull joined before place add normal listOf sameRecord sameList contained allContained verdict hasBit bitsWithin differsAt changes least leastOf lowest visits findingOf findings verdictOf count largest firstUnequal placeOf resultOf when _then_ firstOf checkShape isKind isUnit goodExtent goodNode checkNode isRow goodOffset goodEdge checkEdge each endingAt followed begins cyclic deep checkGraph isRoot isLeaf manyPaths checkNamed checkOutput clashes checkPair checkVisit checkPairing checkSingle checkTables answer checkAnswer numbersOf listAnswer compareAnswer bytes digits shown spaced same nodeTable edgeTable pairTable onto lines feeds allowed checkBytes brokenOff checkText fieldsOf isDigit numeral magnitude negative valueOf consOption valuesOf columnOf isField layoutOf goodFields columns keyed arranged rowOf withRow stop readValues readTable rowsWith tablesOf readThird readSecond readFirst readMap lineOf findingLine resultLine report refusalReport reportedOf checkRead textAnswer printedOf printed
+unfolding flatMap keep any all isNil nodesFrom edgesFrom pairsFrom graphOf node firstBit lastBit bitOffset leaving pathsWithin paths empty whole shift clip across along runs recordOf touch hull joined before place add normal listOf sameRecord sameList contained allContained verdict hasBit bitsWithin differsAt changes least leastOf lowest raisedBy bankRecords groupList sameSpec group isLowest lowestRows visits findingOf findings verdictOf count largest firstUnequal placeOf resultOf when _then_ firstOf checkShape isKind isUnit goodExtent goodNode checkNode isRow goodOffset goodEdge checkEdge each endingAt followed begins cyclic deep checkGraph isRoot isLeaf manyPaths checkNamed checkOutput goodAt sameRoot sameImpl clashes checkPair checkVisit checkPairing checkSingle checkTables answer checkAnswer numbersOf listAnswer compareAnswer bytes digits shown spaced same nodeTable edgeTable pairTable onto lines feeds allowed checkBytes brokenOff checkText fieldsOf isDigit numeral magnitude negative valueOf consOption valuesOf columnOf isField layoutOf goodFields columns keyed arranged rowOf withRow stop readValues readTable rowsWith tablesOf readThird readSecond readFirst readMap lineOf findingLine resultLine report refusalReport reportedOf checkRead textAnswer printedOf printed
 marked-holds = (refl, (refl, (refl, (refl, (refl, (refl, (refl, (refl, (refl, (refl, (refl, (refl, (refl, (refl, (refl, (refl, (refl, (refl, (refl, (refl, tt))))))))))))))))))))

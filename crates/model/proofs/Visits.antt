@@ -1,5 +1,6 @@
--- Pair rows ascend, visits are all pairs of a root row with a leaf row, and they stand in visiting order.
+-- Pair rows ascend, visits are all pairs of a root row with a leaf row of a list, and they stand in visiting order.
 use mathlib.Core.Path.{_≡_, refl, sym, ap, subst}
+use mathlib.Core.Bool.{Bool, true, false, cond}
 use mathlib.Core.List.{List, [], _∷_, _++_, map, flatMap, List·Memᴰ·head, List·Memᴰ·tail, List·Memᴰ·not-nil, List·Memᴰ·cases-cons, List·Memᴰ·append-cases, Memᴰ·cast}
 use mathlib.Core.Logic.{_⊎_, inl, inr, _↔_, ⊎-elim}
 use Prim.Native.Nat.{ℕ, suc, _*_, _≤_, _<_}
@@ -7,8 +8,8 @@ use native.Mathlib.Nat.{le-of-lt, suc-mul}
 use native.Mathlib.Omega.{arith}
 use lib.IntN.{ℤ}
 use lib.ListN.{length, length-append, length-map}
-use Rattle.lists.specs.Lists.{_∈_}
-use Rattle.lists.proofs.Membership.{map-in, map-out, flatMap-in, flatMap-out}
+use Rattle.lists.specs.Lists.{_∈_, keep}
+use Rattle.lists.proofs.Membership.{keep-out, map-in, map-out, flatMap-in, flatMap-out}
 use Rattle.model.specs.Rows.{Pair, pairsFrom, pairRows}
 use Rattle.model.specs.Compare.{Visit, visits}
 use Rattle.model.specs.Demands.{VisitedBefore}
@@ -48,6 +49,16 @@ module _ {A : Type 0} {Before : A → A → Type 0} where
   ascends-ahead (z ∷ k) l asym (more h a) m b =
       ⊎-elim (λ e. List·Memᴰ·head e) (λ n. List·Memᴰ·tail (ascends-ahead k l asym a n b)) (List·Memᴰ·cases-cons m)
 
+  -- what is kept of a list in order stands in that order
+  pub ascends-keep : (ok : A → Bool) {l : List A} → Ascends Before l → Ascends Before (keep ok l)
+  unfolding keep
+  ascends-keep ok none = none
+  ascends-keep ok (more {x} {l} h a) = go (ok x) (ascends-keep ok a)
+    where
+      go : (t : Bool) → Ascends Before (keep ok l) → Ascends Before (cond t (x ∷ keep ok l) (keep ok l))
+      go true b = more (λ y m. h y (keep-out ok l m .0)) b
+      go false b = b
+
 -- the images of a list in order, by a function that keeps the order
 pub ascends-map : {A B : Type 0} {Before : A → A → Type 0} {After : B → B → Type 0} (f : A → B) → ((x y : A) → Before x y → After (f x) (f y)) → {l : List A}
     → Ascends Before l → Ascends After (map f l)
@@ -65,14 +76,16 @@ rows-from : (i : ℕ) (ps : List ℤ) {p : Pair} → p ∈ pairsFrom i ps → i 
 unfolding pairsFrom
 rows-from i [] m = absurd (List·Memᴰ·not-nil m)
 rows-from i (s ∷ []) m = absurd (List·Memᴰ·not-nil m)
-rows-from i (s ∷ k ∷ ps) {p} m =
+rows-from i (s ∷ k ∷ []) m = absurd (List·Memᴰ·not-nil m)
+rows-from i (s ∷ k ∷ a ∷ ps) {p} m =
     ⊎-elim (λ e. let q : p .row ≡ i = ap (λ (d : Pair). d .row) e in omega arith) (λ n. le-of-lt (rows-from (suc i) ps n)) (List·Memᴰ·cases-cons m)
 
 pairsFrom-ascend : (i : ℕ) (ps : List ℤ) → Ascends RowBefore (pairsFrom i ps)
 unfolding pairsFrom
 pairsFrom-ascend i [] = none
 pairsFrom-ascend i (s ∷ []) = none
-pairsFrom-ascend i (s ∷ k ∷ ps) = more (λ p m. rows-from (suc i) ps m) (pairsFrom-ascend (suc i) ps)
+pairsFrom-ascend i (s ∷ k ∷ []) = none
+pairsFrom-ascend i (s ∷ k ∷ a ∷ ps) = more (λ p m. rows-from (suc i) ps m) (pairsFrom-ascend (suc i) ps)
 
 -- pair rows ascend
 pub pairs-ascending : (ps : List ℤ) → Ascends RowBefore (pairRows ps)

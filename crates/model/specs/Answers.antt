@@ -36,6 +36,7 @@ refusalOf (reason.Characters l) = numbered 12 6 l
 refusalOf (reason.Names l) = numbered 13 6 l
 refusalOf (reason.Values l) = numbered 14 6 l
 refusalOf reason.NoCaller = numbered 15 7 0
+refusalOf (reason.At t r) = numbered 16 t r
 
 -- verdict 0 equal, 1 partial, 2 different
 abbrev pub verdictNumber : Verdict → ℕ

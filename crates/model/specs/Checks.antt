@@ -10,11 +10,12 @@ use lib.Signed.{leZ, ltZ}
 use lib.ListN.{length}
 use Rattle.integers.specs.Integers.{eqZ}
 use Rattle.lists.specs.Lists.{keep, any, isNil}
-use Rattle.model.specs.Limits.{nodeWidth, edgeWidth, pairWidth, maxNodes, maxEdges, maxPairs, maxUnits, maxChain, maxPaths, rootStride}
+use Rattle.model.specs.Limits.{nodeWidth, edgeWidth, pairWidth, maxNodes, maxEdges, maxPairs, maxUnits, lastAt, maxChain, maxPaths, rootStride}
 use Rattle.model.specs.Rows.{Node, Edge, Pair, nodeRows, edgeRows}
 use Rattle.model.specs.Graph.{Graph, graphOf, node, space, segment, block}
 use Rattle.model.specs.Runs.{paths}
-use Rattle.model.specs.Compare.{Tables, specGraph, implGraph, rootRows, leafRows, Visit, visits}
+use Rattle.model.specs.Groups.{leavesOf}
+use Rattle.model.specs.Compare.{Tables, specGraph, implGraph, rootRows, leafRows, banks, Visit, allVisits}
 use Rattle.model.specs.Refusals.{Refusal}
 
 -- the refusal, if the test passes
@@ -145,21 +146,37 @@ checkNamed g r l = when (not (isRoot g r)) 7 4 0 then when (not (isLeaf g l)) 7 
 unfoldable pub checkOutput : ℕ → ℕ → Option Refusal
 checkOutput output room = when (ltb room output) 11 7 0
 
--- ---- a pairing: 7 a paired node is no root, or no leaf; 8 a node stands in an earlier row on the same side; 10 in visiting order
+-- ---- a pairing: 7 a paired node is no root, or no leaf; 16 `at` is outside 0 .. lastAt, or not 0 in a root row; 8 a root stands in an earlier row on the same side,
+-- or an implementation leaf in an earlier row; 10 in visiting order
 
--- an earlier row has one of its nodes
-unfoldable pub clashes : Pair → Pair → Bool
-clashes p q = ltb (q .row) (p .row) && (eqZ (q .spec) (p .spec) || eqZ (q .impl) (p .impl))
+-- `at` is in 0 .. most
+unfoldable pub goodAt : ℤ → Pair → Bool
+goodAt most p = leZ (pos 0) (p .at) && leZ (p .at) most
 
--- 7 before 8 for one row
-unfoldable pub checkPair : ℕ → (ℤ → Bool) → (ℤ → Bool) → List Pair → Pair → Option Refusal
-checkPair t spec impl rows p = when (not (spec (p .spec) && impl (p .impl))) 7 t (p .row) then when (any (clashes p) rows) 8 t (p .row)
+-- two root rows have a node in common on the same side
+unfoldable pub sameRoot : Pair → Pair → Bool
+sameRoot q p = eqZ (q .spec) (p .spec) || eqZ (q .impl) (p .impl)
+
+-- two leaf rows have the same implementation leaf
+unfoldable pub sameImpl : Pair → Pair → Bool
+sameImpl q p = eqZ (q .impl) (p .impl)
+
+-- q is an earlier row, and stands in this relation to p
+unfoldable pub clashes : (Pair → Pair → Bool) → Pair → Pair → Bool
+clashes same p q = ltb (q .row) (p .row) && same q p
+
+-- 7, then 16, then 8 for one row
+unfoldable pub checkPair : ℕ → (ℤ → Bool) → (ℤ → Bool) → ℤ → (Pair → Pair → Bool) → List Pair → Pair → Option Refusal
+checkPair t spec impl most same rows p =
+    when (not (spec (p .spec) && impl (p .impl))) 7 t (p .row)
+    then when (not (goodAt most p)) 16 t (p .row)
+    then when (any (clashes same p) rows) 8 t (p .row)
 
 -- 10 for one pair, specification first
-unfoldable pub checkVisit : Graph → Graph → Visit → Option Refusal
-checkVisit s i v =
-    when (manyPaths s (v .root .spec) (v .leaf .spec ∷ [])) 10 1 (v .root .row * rootStride + v .leaf .row)
-    then when (manyPaths i (v .root .impl) (v .leaf .impl ∷ [])) 10 3 (v .root .row * rootStride + v .leaf .row)
+unfoldable pub checkVisit : Tables → Visit → Option Refusal
+checkVisit t v =
+    when (manyPaths (specGraph t) (v .root .spec) (v .leaf .spec ∷ [])) 10 1 (v .root .row * rootStride + v .leaf .row)
+    then when (manyPaths (implGraph t) (v .root .impl) (leavesOf (banks t (v .leaf)))) 10 3 (v .root .row * rootStride + v .leaf .row)
 
 -- shapes of 4 and 5, 9 for 4 and for 5, rows of 4, rows of 5, then 10
 unfoldable pub checkPairing : Tables → Option Refusal
@@ -168,9 +185,9 @@ checkPairing t =
     then checkShape 5 pairWidth maxPairs (t .leafPairs)
     then when (isNil (rootRows t)) 9 4 0
     then when (isNil (leafRows t)) 9 5 0
-    then firstOf (checkPair 4 (isRoot (specGraph t)) (isRoot (implGraph t)) (rootRows t)) (rootRows t)
-    then firstOf (checkPair 5 (isLeaf (specGraph t)) (isLeaf (implGraph t)) (leafRows t)) (leafRows t)
-    then firstOf (checkVisit (specGraph t) (implGraph t)) (visits (rootRows t) (leafRows t))
+    then firstOf (checkPair 4 (isRoot (specGraph t)) (isRoot (implGraph t)) (pos 0) sameRoot (rootRows t)) (rootRows t)
+    then firstOf (checkPair 5 (isLeaf (specGraph t)) (isLeaf (implGraph t)) lastAt sameImpl (leafRows t)) (leafRows t)
+    then firstOf (checkVisit t) (allVisits t)
 
 -- ---- the calls
 

@@ -1,14 +1,17 @@
--- The comparison of two graphs: pairs in visiting order, and the full result. Assumes nothing.
-use mathlib.Core.Bool.{cond}
+-- The comparison of two graphs: groups of leaf rows, pairs in visiting order, and the full result. Assumes nothing.
+use mathlib.Core.Bool.{Bool, not, cond, _&&_}
 use mathlib.Core.List.{List, [], _∷_, map, flatMap}
 use mathlib.Core.Option.{Option, none, some}
 use Prim.Native.Nat.{ℕ, suc, max}
-use lib.Dec.{eqb}
+use lib.Dec.{eqb, ltb}
 use lib.IntN.{ℤ, pos, negsuc}
+use Rattle.integers.specs.Integers.{eqZ}
+use Rattle.lists.specs.Lists.{keep, any}
 use Rattle.model.specs.Rows.{Pair, pairRows}
 use Rattle.model.specs.Graph.{Graph, graphOf}
 use Rattle.model.specs.Bitmapping.{Record}
 use Rattle.model.specs.Runs.{listOf}
+use Rattle.model.specs.Groups.{Bank, groupList}
 use Rattle.model.specs.Verdicts.{verdict, lowest}
 
 -- the six tables of a comparison; root pairs and leaf pairs are together the pairing
@@ -33,16 +36,52 @@ rootRows t = pairRows (t .rootPairs)
 abbrev pub leafRows : Tables → List Pair
 leafRows t = pairRows (t .leafPairs)
 
--- a visit: one root row with one leaf row
+-- ---- groups: the leaf rows with one specification leaf, each of which gives a bank
+
+-- leaf row q has the specification leaf of leaf row p
+unfoldable pub sameSpec : Pair → Pair → Bool
+sameSpec p q = eqZ (q .spec) (p .spec)
+
+-- the group of leaf row l among the leaf rows: those with its specification leaf, neighbours or not
+unfoldable pub group : List Pair → Pair → List Pair
+group rows l = keep (sameSpec l) rows
+
+-- the bank of a leaf row: its implementation leaf, which begins at leaf bit `at` of the specification leaf
+abbrev pub bankOf : Pair → Bank
+bankOf p = record { leaf = p .impl; at = p .at }
+
+-- the banks of the group of leaf row l
+abbrev pub banks : Tables → Pair → List Bank
+banks t l = map bankOf (group (leafRows t) l)
+
+-- leaf row p is the lowest of its group: no earlier row has its specification leaf
+unfoldable pub isLowest : List Pair → Pair → Bool
+isLowest rows p = not (any (λ q. ltb (q .row) (p .row) && sameSpec p q) rows)
+
+-- the rows among them that are the lowest of their groups, in their order
+unfoldable pub lowestRows : List Pair → List Pair
+lowestRows rows = keep (isLowest rows) rows
+
+-- the groups, each by its lowest row
+abbrev pub groups : Tables → List Pair
+groups t = lowestRows (leafRows t)
+
+-- ---- visits
+
+-- a visit, or a pair where verdicts and counts are meant: one root row with one group, which is told by its lowest row
 pub record Visit : Type 0 where
   pub root : Pair
   pub leaf : Pair
 
--- visiting order: root row by root row, within it leaf row by leaf row
+-- visiting order: root row by root row, within it group by group
 unfoldable pub visits : List Pair → List Pair → List Visit
 visits roots leaves = flatMap (λ r. map (λ l. record { root = r; leaf = l }) leaves) roots
 
--- what a visit finds: the bitmapping list of the specification and that of the implementation
+-- all visits of a comparison: each root row with each group
+abbrev pub allVisits : Tables → List Visit
+allVisits t = visits (rootRows t) (groups t)
+
+-- what a visit finds: the bitmapping list of the specification leaf and the list of the group
 pub record Finding : Type 0 where
   pub visit : Visit
   pub spec : List Record
@@ -51,11 +90,11 @@ pub record Finding : Type 0 where
 -- the finding of a visit
 unfoldable pub findingOf : Tables → Visit → Finding
 findingOf t v =
-    record { visit = v; spec = listOf (specGraph t) (v .root .spec) (v .leaf .spec); impl = listOf (implGraph t) (v .root .impl) (v .leaf .impl) }
+    record { visit = v; spec = listOf (specGraph t) (v .root .spec) (v .leaf .spec); impl = groupList (implGraph t) (v .root .impl) (banks t (v .leaf)) }
 
 -- what all visits find, in visiting order
 unfoldable pub findings : Tables → List Finding
-findings t = map (findingOf t) (visits (rootRows t) (leafRows t))
+findings t = map (findingOf t) (allVisits t)
 
 -- the verdict on a pair
 unfoldable pub verdictOf : Finding → ℕ
@@ -76,7 +115,7 @@ unfoldable pub firstUnequal : List Finding → Option Finding
 firstUnequal [] = none
 firstUnequal (f ∷ t) = cond (eqb (verdictOf f) 0) (firstUnequal t) (some f)
 
--- a place in the comparison: root row, leaf row and bit address
+-- a place in the comparison: root row, lowest leaf row of the group, and bit address
 pub record Place : Type 0 where
   pub root : ℤ
   pub leaf : ℤ

@@ -52,7 +52,7 @@ unfoldable pub edgeNumbers : ℤ → List Values → List ℤ
 edgeNumbers side rows = numbersUnder (bytes "side") side (bytes "from" ∷ bytes "to" ∷ bytes "offset" ∷ []) rows
 
 unfoldable pub pairNumbers : ℤ → List Values → List ℤ
-pairNumbers role rows = numbersUnder (bytes "role") role (bytes "spec" ∷ bytes "impl" ∷ []) rows
+pairNumbers role rows = numbersUnder (bytes "role") role (bytes "spec" ∷ bytes "impl" ∷ bytes "at" ∷ []) rows
 
 -- the text keeps the file rules and its tables are these: three tables, an empty line after the first and the second.
 -- Side 0 is the specification, 1 the implementation; role 0 root, 1 leaf

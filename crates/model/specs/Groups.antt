@@ -10,20 +10,24 @@ use Rattle.model.specs.Walk.{Reached}
 use Rattle.model.specs.Bitmapping.{Record}
 use Rattle.model.specs.Runs.{paths, runs, recordOf, normal}
 
--- a bank: a leaf, and the leaf bit of the group at which it begins
+-- a bank: a leaf, and the specification leaf bit where it begins: its leaf bit 0 is leaf bit `at` of the specification leaf
 pub record Bank : Type 0 where
   pub leaf : ℤ
   pub at : ℤ
 
--- root bit x reaches leaf bit y of the group in this bank: the walk adds `at` to the bank's leaf bit
+-- root bit x reaches specification leaf bit y in this bank: the walk adds `at` to the bank's leaf bit
 pub record BankReached (g : Graph) (r : ℤ) (b : Bank) (x y : ℤ) : Type 0 where
   pub bit : ℤ
   pub reached : Reached g r (b .leaf) x bit
   pub raised : y ≡ bit +ℤ b .at
 
--- it reaches it in some bank: the banks' reached sets join
+-- root bit x reaches specification leaf bit y in one of these banks: the banks' reached sets join
 abbrev pub GroupReached : Graph → ℤ → List Bank → ℤ → ℤ → Type 0
 GroupReached g r bs x y = (b : Bank) × (b ∈ bs) × BankReached g r b x y
+
+-- the leaves of banks
+abbrev pub leavesOf : List Bank → List ℤ
+leavesOf bs = map (λ b. b .leaf) bs
 
 -- ---- the list of a group, computed
 
@@ -41,4 +45,4 @@ groupList g r bs = normal (flatMap (bankRecords g r) bs)
 
 -- how many paths lead from a root to the banks of a group, together
 unfoldable pub groupPaths : Graph → ℤ → List Bank → ℕ
-groupPaths g r bs = length (flatMap (paths g r) (map (λ b. b .leaf) bs))
+groupPaths g r bs = length (flatMap (paths g r) (leavesOf bs))

@@ -10,7 +10,7 @@ abbrev pub edgeWidth : ℕ
 edgeWidth = 3
 
 abbrev pub pairWidth : ℕ
-pairWidth = 2
+pairWidth = 3
 
 -- numbers of a record in a list
 abbrev pub recordWidth : ℕ
@@ -38,7 +38,12 @@ maxBits = 2 ^ 55
 abbrev pub lastAddress : ℤ
 lastAddress = pos (maxBits - 1)
 
--- bit addresses lie below this, bit offsets and displacements within: a bit address plus or less one of these is a number of 64 bits
+-- the highest specification leaf bit where a bank may begin
+abbrev pub lastAt : ℤ
+lastAt = pos (maxBits - 1)
+
+-- bit addresses lie below this, bit offsets within: a bit address plus or less a bit offset is a number of 64 bits. Displacements of a group may be lower
+-- (`Subtractable`)
 abbrev pub addressRoom : ℕ
 addressRoom = 2 ^ 62
 
@@ -46,7 +51,7 @@ addressRoom = 2 ^ 62
 abbrev pub maxChain : ℕ
 maxChain = 64
 
--- paths from a root to a leaf at most
+-- paths from a root to a leaf, or to the banks of a group together, at most
 abbrev pub maxPaths : ℕ
 maxPaths = 1024
 

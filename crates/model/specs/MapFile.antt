@@ -12,7 +12,7 @@ use Rattle.model.specs.Limits.{maxText, maxDigits}
 use Rattle.model.specs.Bytes.{Bytes, bytes, lineFeed, blank, dash, shown, spaced}
 use Rattle.model.specs.Refusals.{Condition, refuse, _next_}
 
--- a table of the file: its names, of which the key tells the side or role of a row, and the names that a names line may have
+-- a table of the file: the names that its names line must have, of which the key tells the side or role of a row, and the optional names, which it may have or lack
 pub record Table : Type 0 where
   pub key : Bytes
   pub names : List Bytes
@@ -30,7 +30,7 @@ unfoldable pub edgeTable : Table
 edgeTable = record { key = bytes "side"; names = bytes "side" ∷ bytes "from" ∷ bytes "to" ∷ bytes "offset" ∷ []; optional = [] }
 
 unfoldable pub pairTable : Table
-pairTable = record { key = bytes "role"; names = bytes "role" ∷ bytes "spec" ∷ bytes "impl" ∷ []; optional = [] }
+pairTable = record { key = bytes "role"; names = bytes "role" ∷ bytes "spec" ∷ bytes "impl" ∷ []; optional = bytes "at" ∷ [] }
 
 -- a byte in front of the first line
 unfoldable pub onto : ℕ → List Bytes → List Bytes

@@ -63,7 +63,7 @@ implEdges offset = pos 0 ∷ pos 1 ∷ pos 64 ∷ pos 1 ∷ pos 2 ∷ offset ∷
 -- P1, with its specification edge so many times over
 abbrev pub parallel : ℕ → Tables
 parallel k =
-    record { specNodes = specNodes; specEdges = times k specEdges; implNodes = implNodes 12; implEdges = implEdges (pos 0); rootPairs = pos 0 ∷ pos 0 ∷ []; leafPairs = pos 1 ∷ pos 2 ∷ [] }
+    record { specNodes = specNodes; specEdges = times k specEdges; implNodes = implNodes 12; implEdges = implEdges (pos 0); rootPairs = pos 0 ∷ pos 0 ∷ pos 0 ∷ []; leafPairs = pos 1 ∷ pos 2 ∷ pos 0 ∷ [] }
 
 -- a chain of k edges
 abbrev pub chainNodes : ℕ → List ℤ

@@ -1,4 +1,4 @@
--- The conditions for a refusal, each a proposition in the words of document 01, and for each call their order. Assumes nothing.
+-- The conditions for a refusal, each a proposition in the words of documents 01 and 02, and for each call their order. Assumes nothing.
 use mathlib.Core.Path.{_≡_}
 use mathlib.Core.Logic.{_≢_, _⊎_}
 use mathlib.Core.List.{List, [], _∷_, _++_, flatMap}
@@ -7,11 +7,12 @@ use lib.IntN.{ℤ, pos, negℤ, _+ℤ_}
 use lib.Signed.{_<ℤ_}
 use lib.ListN.{length}
 use Rattle.lists.specs.Lists.{_∈_}
-use Rattle.model.specs.Limits.{nodeWidth, edgeWidth, pairWidth, maxNodes, maxEdges, maxPairs, maxUnits, rootStride}
+use Rattle.model.specs.Limits.{nodeWidth, edgeWidth, pairWidth, maxNodes, maxEdges, maxPairs, maxUnits, lastAt, rootStride}
 use Rattle.model.specs.Rows.{Node, Edge, Pair, nodeRows, edgeRows}
 use Rattle.model.specs.Graph.{Graph, graphOf, NodeRow, node, space, segment, block}
 use Rattle.model.specs.Paths.{Root, Leaf, Cycle, LongChain, ManyPaths}
-use Rattle.model.specs.Compare.{Tables, specGraph, implGraph, rootRows, leafRows, Visit, visits}
+use Rattle.model.specs.Groups.{leavesOf}
+use Rattle.model.specs.Compare.{Tables, specGraph, implGraph, rootRows, leafRows, banks, Visit, allVisits}
 
 -- a refusal: its number, and the table and row that it names
 pub record Refusal : Type 0 where
@@ -121,37 +122,62 @@ namedConditions g r l = refuse 7 4 0 (Root g r → ⊥) next refuse 7 5 0 (Leaf 
 unfoldable pub outputConditions : ℕ → ℕ → List Condition
 outputConditions output room = refuse 11 7 0 (room < output)
 
--- ---- a pairing: 7 a paired node is no root, or no leaf, of its graph; 8 a node stands in an earlier row of that table on the same side
+-- ---- a pairing: 7 a paired node is no root, or no leaf, of its graph; 16 `at` is outside 0 .. lastAt, or not 0 in a root row; 8 a root stands in an earlier row
+-- of that table on the same side, or an implementation leaf in an earlier row
 
 pub data NotPaired (Spec Impl : ℤ → Type 0) (p : Pair) : Type 0 where
   noSpec : (Spec (p .spec) → ⊥) → NotPaired Spec Impl p
   noImpl : (Impl (p .impl) → ⊥) → NotPaired Spec Impl p
 
-pub record PairedBefore (rows : List Pair) (p : Pair) : Type 0 where
+-- `at` is outside 0 .. most
+pub data BadAt (most : ℤ) (p : Pair) : Type 0 where
+  lowAt : p .at <ℤ pos 0 → BadAt most p
+  highAt : most <ℤ p .at → BadAt most p
+
+-- two root rows have a node in common on the same side
+abbrev pub SameRoot : Pair → Pair → Type 0
+SameRoot q p = (q .spec ≡ p .spec) ⊎ (q .impl ≡ p .impl)
+
+-- two leaf rows have the same implementation leaf
+abbrev pub SameImpl : Pair → Pair → Type 0
+SameImpl q p = q .impl ≡ p .impl
+
+-- an earlier row of the table stands in this relation to the row
+pub record PairedBefore (Same : Pair → Pair → Type 0) (rows : List Pair) (p : Pair) : Type 0 where
   pub earlier : Pair
   pub row : earlier ∈ rows
   pub before : earlier .row < p .row
-  pub same : (earlier .spec ≡ p .spec) ⊎ (earlier .impl ≡ p .impl)
+  pub same : Same earlier p
 
-unfoldable pub pairConditions : ℕ → (ℤ → Type 0) → (ℤ → Type 0) → List Pair → Pair → List Condition
-pairConditions t Spec Impl rows p = refuse 7 t (p .row) (NotPaired Spec Impl p) next refuse 8 t (p .row) (PairedBefore rows p)
+-- 7, 16 and 8 of a row
+unfoldable pub pairConditions : ℕ → (ℤ → Type 0) → (ℤ → Type 0) → ℤ → (Pair → Pair → Type 0) → List Pair → Pair → List Condition
+pairConditions t Spec Impl most Same rows p =
+    refuse 7 t (p .row) (NotPaired Spec Impl p) next refuse 16 t (p .row) (BadAt most p) next refuse 8 t (p .row) (PairedBefore Same rows p)
 
--- 10 in visiting order, specification first
-unfoldable pub visitConditions : Graph → Graph → Visit → List Condition
-visitConditions s i v =
-    refuse 10 1 (v .root .row * rootStride + v .leaf .row) (ManyPaths s (v .root .spec) (v .leaf .spec ∷ []))
-    next refuse 10 3 (v .root .row * rootStride + v .leaf .row) (ManyPaths i (v .root .impl) (v .leaf .impl ∷ []))
+-- root rows: `at` is 0, no root stands twice on a side
+unfoldable pub rootConditions : Tables → List Condition
+rootConditions t = flatMap (pairConditions 4 (Root (specGraph t)) (Root (implGraph t)) (pos 0) SameRoot (rootRows t)) (rootRows t)
 
--- shape of 4, of 5, 9 for 4, 9 for 5 (no root pair, no leaf pair), rows of 4, rows of 5 (7 before 8), then 10
+-- leaf rows: `at` is in 0 .. lastAt, no implementation leaf stands twice
+unfoldable pub leafConditions : Tables → List Condition
+leafConditions t = flatMap (pairConditions 5 (Leaf (specGraph t)) (Leaf (implGraph t)) lastAt SameImpl (leafRows t)) (leafRows t)
+
+-- 10 for a root row and a group, at the group's lowest row: more than 1,024 paths to the specification leaf, or to all banks of the group together
+unfoldable pub visitConditions : Tables → Visit → List Condition
+visitConditions t v =
+    refuse 10 1 (v .root .row * rootStride + v .leaf .row) (ManyPaths (specGraph t) (v .root .spec) (v .leaf .spec ∷ []))
+    next refuse 10 3 (v .root .row * rootStride + v .leaf .row) (ManyPaths (implGraph t) (v .root .impl) (leavesOf (banks t (v .leaf))))
+
+-- shape of 4, of 5, 9 for 4, 9 for 5 (no root pair, no leaf pair), rows of 4, rows of 5 (7 before 16 before 8), then 10 in visiting order, specification first
 unfoldable pub pairingConditions : Tables → List Condition
 pairingConditions t =
     shapeConditions 4 pairWidth maxPairs (t .rootPairs)
     next shapeConditions 5 pairWidth maxPairs (t .leafPairs)
     next refuse 9 4 0 (rootRows t ≡ [])
     next refuse 9 5 0 (leafRows t ≡ [])
-    next flatMap (pairConditions 4 (Root (specGraph t)) (Root (implGraph t)) (rootRows t)) (rootRows t)
-    next flatMap (pairConditions 5 (Leaf (specGraph t)) (Leaf (implGraph t)) (leafRows t)) (leafRows t)
-    next flatMap (visitConditions (specGraph t) (implGraph t)) (visits (rootRows t) (leafRows t))
+    next rootConditions t
+    next leafConditions t
+    next flatMap (visitConditions t) (allVisits t)
 
 -- ---- the calls
 

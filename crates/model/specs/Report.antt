@@ -12,7 +12,7 @@ use Rattle.model.specs.Refusals.{Refusal}
 unfoldable pub lineOf : List ℤ → Bytes
 lineOf vs = spaced (map shown vs) ++ (lineFeed ∷ [])
 
--- a line for a pair with a record on either side: pair rows, verdict and list lengths; none for another
+-- a line for a pair with a record on either side: root row, lowest leaf row of the group, verdict and list lengths; none for another
 unfoldable pub findingLine : Finding → Bytes
 findingLine f =
     cond (isNil (f .spec) && isNil (f .impl)) []

@@ -19,11 +19,13 @@ pub record Edge : Type 0 where
   pub to : ℤ
   pub offset : ℤ
 
--- a row of root pairs or of leaf pairs: a specification node and an implementation node (000, 2.6.4)
+-- a row of root pairs or of leaf pairs: a specification node and an implementation node (000, 2.6.4), and in a leaf pair the specification leaf bit where the
+-- implementation leaf begins, which is 0 in a root pair (document 02, item 3)
 pub record Pair : Type 0 where
   pub row : ℕ
   pub spec : ℤ
   pub impl : ℤ
+  pub at : ℤ
 
 -- the node rows, the first of them row i; numbers left over at the end are no row
 unfoldable pub nodesFrom : ℕ → List ℤ → List Node
@@ -44,7 +46,8 @@ edgesFrom i (f ∷ t ∷ o ∷ rest) = record { row = i; from = f; to = t; offse
 unfoldable pub pairsFrom : ℕ → List ℤ → List Pair
 pairsFrom i [] = []
 pairsFrom i (s ∷ []) = []
-pairsFrom i (s ∷ m ∷ rest) = record { row = i; spec = s; impl = m } ∷ pairsFrom (suc i) rest
+pairsFrom i (s ∷ m ∷ []) = []
+pairsFrom i (s ∷ m ∷ a ∷ rest) = record { row = i; spec = s; impl = m; at = a } ∷ pairsFrom (suc i) rest
 
 -- the rows of a whole table
 abbrev pub nodeRows : List ℤ → List Node

@@ -6,12 +6,12 @@ ghost use Rattle.integers.specs.Integers.{minZ, maxZ};
 ghost use Rattle.model.specs.Answers.{verdictNumber};
 ghost use Rattle.model.specs.Quantities.{Addable, Scalable, Movable, Subtractable};
 
-// Numbers of a node row, of an edge row and of a pair.
+// Numbers of a node row, of an edge row and of a pair row.
 pub const NODE_WIDTH: usize = 4;
 
 pub const EDGE_WIDTH: usize = 3;
 
-pub const PAIR_WIDTH: usize = 2;
+pub const PAIR_WIDTH: usize = 3;
 
 // Numbers of a record in a list.
 pub const RECORD_WIDTH: usize = 3;
@@ -23,7 +23,7 @@ pub const MAX_EDGES: usize = 2600;
 
 pub const MAX_PAIRS: usize = 1000;
 
-// Edges of a chain, and paths from a root to a leaf, at most.
+// Edges of a chain, and paths from a root to a leaf or to the banks of a group together, at most.
 pub const MAX_CHAIN: usize = 64;
 
 pub const MAX_PATHS: usize = 1024;
@@ -34,10 +34,13 @@ pub const MAX_NUMBERS: usize = 3072;
 // Base + range of a node, and the size of an offset, in address units, at most: 2^48.
 pub const MAX_UNITS: i64 = 281474976710656;
 
+// The highest leaf bit at which a bank may begin: 2^55 - 1.
+pub const LAST_AT: i64 = 36028797018963967;
+
 // Digits of a value in a text at most.
 pub const MAX_DIGITS: usize = 18;
 
-// What a root row counts for in the place of a pair in visiting order: its place is root row × ROOT_STRIDE + leaf row.
+// What a root row counts for in the place of a pair in visiting order: its place is root row × ROOT_STRIDE + lowest leaf row of the group.
 pub const ROOT_STRIDE: usize = 1000;
 
 // Callers of a tally, and counts of each: equal, partial, different and refused.
@@ -172,6 +175,7 @@ pub enum Reason {
     Names { line: usize },
     Values { line: usize },
     NoCaller,
+    At { table: usize, row: usize },
 }
 
 // The verdict on a pair, or on two graphs.

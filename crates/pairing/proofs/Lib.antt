@@ -1,4 +1,3 @@
 pub mod Classes
 pub mod Pairs
 pub mod Marks
-pub mod Pairing

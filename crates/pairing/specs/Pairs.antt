@@ -1,19 +1,16 @@
--- The rows of a pairing, as the code reads them, and their checks. Assumes nothing.
+-- The rows of a pair table, as the code reads them, and their checks. Assumes nothing.
 use mathlib.Core.Path.{_≡_}
-use mathlib.Core.Bool.{Bool, not, cond}
+use mathlib.Core.Bool.{Bool, not, cond, _||_}
 use mathlib.Core.List.{List}
 use mathlib.Core.Option.{Option}
-use Prim.Native.Nat.{ℕ, _+_, _*_, _≤_, _<_}
+use Prim.Native.Nat.{ℕ, _≤_, _<_}
 use lib.Dec.{eqb}
-use lib.IntN.{ℤ, pos}
+use lib.IntN.{ℤ}
 use lib.ListN.{length, getD}
-use Rattle.lists.specs.Lists.{isNil}
-use Rattle.model.specs.Limits.{pairWidth, maxPairs}
 use Rattle.model.specs.Rows.{Pair, pairRows}
-use Rattle.model.specs.Compare.{Tables, specGraph, implGraph}
+use Rattle.model.specs.Compare.{Tables}
 use Rattle.model.specs.Refusals.{Refusal}
-use Rattle.model.specs.Checks.{when, _then_, firstOf, checkShape, isRoot, isLeaf, checkPair}
-use Rattle.pairing.specs.Classes.{root, leaf, hasClass}
+use Rattle.model.specs.Checks.{when, _then_, firstOf, goodAt, sameRoot, sameImpl, checkPair}
 
 -- the columns of a pair row that name a node: 0 that of the specification, 1 that of the implementation
 abbrev pub nodeColumns : ℕ
@@ -23,40 +20,43 @@ nodeColumns = 2
 abbrev pub nodeIn : ℕ → Pair → ℤ
 nodeIn column p = cond (eqb column 0) (p .spec) (p .impl)
 
--- refusals 7 and 8 of a pair table, whose nodes are to pass these tests
-abbrev pub checkPairs : ℕ → (ℤ → Bool) → (ℤ → Bool) → List ℤ → Option Refusal
-checkPairs t spec impl ps = firstOf (checkPair t spec impl (pairRows ps)) (pairRows ps)
+-- when two rows are the same: as root rows where a specification node may stand once, and else as leaf rows
+abbrev pub sameBy : Bool → Pair → Pair → Bool
+sameBy specOnce = cond specOnce sameRoot sameImpl
 
--- refusal 9: a pair table without a row
-abbrev pub checkSome : ℕ → List ℤ → Option Refusal
-checkSome t ps = when (isNil (pairRows ps)) 9 t 0
+-- refusals 7, 16 and 8 of a pair table, whose nodes are to pass these tests
+abbrev pub checkPairs : ℕ → (ℤ → Bool) → (ℤ → Bool) → ℤ → (Pair → Pair → Bool) → List ℤ → Option Refusal
+checkPairs t spec impl most same ps = firstOf (checkPair t spec impl most same (pairRows ps)) (pairRows ps)
 
--- refusals 1 and 9 of the tables of root pairs and of leaf pairs: shapes of 4 and 5, 9 for 4 and for 5
-unfoldable pub checkSizes : List ℤ → List ℤ → Option Refusal
-checkSizes roots leaves =
-    checkShape 4 pairWidth maxPairs roots then checkShape 5 pairWidth maxPairs leaves then checkSome 4 roots then checkSome 5 leaves
+-- the six tables
+abbrev pub tablesOf : List ℤ → List ℤ → List ℤ → List ℤ → List ℤ → List ℤ → Tables
+tablesOf sn se mn me rp lp = record { specNodes = sn; specEdges = se; implNodes = mn; implEdges = me; rootPairs = rp; leafPairs = lp }
 
--- refusals 7 and 8 of the tables of root pairs and of leaf pairs, whose nodes have these classes
-unfoldable pub checkClassified : List ℕ → List ℕ → List ℤ → List ℤ → Option Refusal
-checkClassified spec impl roots leaves =
-    checkPairs 4 (hasClass spec root) (hasClass impl root) roots then checkPairs 5 (hasClass spec leaf) (hasClass impl leaf) leaves
-
--- the check of a pairing but for its paths: sizes, rows of 4, rows of 5
-unfoldable pub checkPairingRows : Tables → Option Refusal
-checkPairingRows t =
-    checkSizes (t .rootPairs) (t .leafPairs)
-    then checkPairs 4 (isRoot (specGraph t)) (isRoot (implGraph t)) (t .rootPairs)
-    then checkPairs 5 (isLeaf (specGraph t)) (isLeaf (implGraph t)) (t .leafPairs)
+-- ---- marks of the nodes that earlier rows have
 
 -- the mark of a node is set
 abbrev pub isMarked : ℕ → Bool
 isMarked mark = not (eqb mark 0)
+
+-- the mark of a node that a row has: set where the node may stand once
+abbrev pub markOf : Bool → ℕ
+markOf once = cond once 1 0
 
 -- marks for so many nodes, none of them set
 pub record Unmarked (count : ℕ) (marks : List ℕ) : Type 0 where
   pub room : count ≤ length marks
   pub unset : (v : ℕ) → v < count → getD marks v 0 ≡ 0
 
--- the six tables
-abbrev pub tablesOf : List ℤ → List ℤ → List ℤ → List ℤ → List ℤ → List ℤ → Tables
-tablesOf sn se mn me rp lp = record { specNodes = sn; specEdges = se; implNodes = mn; implEdges = me; rootPairs = rp; leafPairs = lp }
+-- ---- the checks of a row whose nodes pass their tests
+
+-- refusal 16 of row p
+abbrev pub checkAt : ℕ → ℤ → Pair → Option Refusal
+checkAt t most p = when (not (goodAt most p)) 16 t (p .row)
+
+-- refusal 8 of row k, whose nodes have these marks
+abbrev pub checkMarks : ℕ → ℕ → ℕ → ℕ → Option Refusal
+checkMarks t k specMark implMark = when (isMarked specMark || isMarked implMark) 8 t k
+
+-- refusal 16, then 8 of row p
+abbrev pub checkRow : ℕ → ℤ → ℕ → ℕ → Pair → Option Refusal
+checkRow t most specMark implMark p = checkAt t most p then checkMarks t (p .row) specMark implMark

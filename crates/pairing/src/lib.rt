@@ -1,102 +1,35 @@
-// The check of a pairing: shapes, empty tables, and the rows one by one, but for the paths between paired nodes.
+// The rows of a pair table: the nodes and the number that they hold, and their checks one by one.
 ghost use mathlib.Core.Path.{_≡_};
 ghost use mathlib.Core.Bool.{_&&_, _||_};
+ghost use mathlib.Core.Option.{Option};
 ghost use Prim.Native.Nat.{_+_, _*_, _≤_, _<_};
 ghost use lib.IntN.{pos};
 ghost use lib.Signed.{_≤ℤ_};
 ghost use lib.ListN.{length};
 ghost use Rattle.model.specs.Limits.{pairWidth, maxNodes};
-ghost use Rattle.model.specs.Rows.{nodeRows, edgeRows};
-ghost use Rattle.model.specs.Graph.{graphOf};
-ghost use Rattle.model.specs.Taken.{TakenTables};
+ghost use Rattle.model.specs.Refusals.{Refusal};
+ghost use Rattle.model.specs.Checks.{_then_};
 ghost use Rattle.model.specs.Calls.{answer};
 ghost use Rattle.model.specs.Answers.{checkedAnswer};
-ghost use Rattle.pairing.specs.Classes.{Classifiable, classesOver, kindClass, kindsOver, enteredClass, enteredBy, EntersWithin, hasClass};
 ghost use Rattle.tables.specs.Tables.{pairAt};
-ghost use Rattle.pairing.specs.Pairs.{nodeColumns, nodeIn, checkPairs, checkSome, checkSizes, checkClassified, checkPairingRows, isMarked, Unmarked, tablesOf};
-use model::BLOCK;
+ghost use Rattle.pairing.specs.Classes.{hasClass};
+ghost use Rattle.pairing.specs.Pairs.{nodeColumns, nodeIn, sameBy, checkPairs, isMarked, markOf, Unmarked, checkAt, checkMarks, checkRow};
 use model::Checked;
-use model::EDGE_WIDTH;
-use model::LEAF_PAIRS;
 use model::MAX_NODES;
-use model::MAX_PAIRS;
-use model::NODE_WIDTH;
 use model::PAIR_WIDTH;
-use model::ROOT_PAIRS;
 use model::Reason;
-use tables::check_shape;
-use tables::edge_to;
 
 // Columns of a pair table.
 pub const SPEC_COLUMN: usize = 0;
 
 pub const IMPL_COLUMN: usize = 1;
 
-// Classes of nodes.
-const OTHER: usize = 0;
-
-const ROOT: usize = 1;
-
-const LEAF: usize = 2;
+pub const AT_COLUMN: usize = 2;
 
 // Marks of nodes.
 const UNSEEN: usize = 0;
 
 const SEEN: usize = 1;
-
-// The class of a node of this kind that no edge enters.
-fn kind_class(kind: i64) -> usize
-    ensures { λ r. ⌜ r ≡ kindClass kind ⌝ }
-{
-    if kind == BLOCK {
-        return LEAF;
-    }
-    ROOT
-}
-
-// The class of a node that an edge enters, which had this class.
-fn entered_class(class: usize) -> usize
-    ensures { λ r. ⌜ r ≡ enteredClass class ⌝ }
-{
-    if class == ROOT {
-        return OTHER;
-    }
-    class
-}
-
-// Sets class[v], for each node v, to the class of a node of its kind that no edge enters.
-fn classify_kinds(nodes: &[i64], class: &mut [usize])
-    requires { ⌜ length (nodeRows (now nodes)) ≤ length (now class) ⌝ }
-    ensures { λ _. ⌜ now (class .exit) ≡ kindsOver (now (nodes .entry)) (now (class .entry)) ⌝ }
-{
-    let mut v: usize = 0;
-    while NODE_WIDTH * v + NODE_WIDTH <= nodes.len() {
-        class[v] = kind_class(nodes[NODE_WIDTH * v]);
-        v += 1;
-    }
-}
-
-// Sets class[v] to OTHER for each root v that an edge enters.
-fn enter_edges(edges: &[i64], class: &mut [usize])
-    requires { ⌜ EntersWithin (now edges) (now class) ⌝ }
-    ensures { λ _. ⌜ now (class .exit) ≡ enteredBy (edgeRows (now (edges .entry))) (now (class .entry)) ⌝ }
-{
-    let mut e: usize = 0;
-    while EDGE_WIDTH * e + EDGE_WIDTH <= edges.len() {
-        let to = edge_to(edges, e);
-        class[to] = entered_class(class[to]);
-        e += 1;
-    }
-}
-
-// Sets class[v], for each node v, to ROOT, LEAF or OTHER. One pass over the nodes and one over the edges.
-pub fn classify(nodes: &[i64], edges: &[i64], class: &mut [usize])
-    requires { ⌜ Classifiable (now nodes) (now edges) (now class) ⌝ }
-    ensures { λ _. ⌜ now (class .exit) ≡ classesOver (graphOf (now (nodes .entry)) (now (edges .entry))) (now (class .entry)) ⌝ }
-{
-    classify_kinds(nodes, class);
-    enter_edges(edges, class);
-}
 
 // Whether v is a node with this class.
 fn has_class(v: i64, class: &[usize], wanted: usize) -> bool
@@ -136,6 +69,14 @@ pub fn impl_node(pairs: &[i64], row: usize) -> usize
     pair_node(pairs, IMPL_COLUMN, row)
 }
 
+// The specification leaf bit where the implementation leaf of a pair row begins.
+pub fn pair_at(pairs: &[i64], row: usize) -> i64
+    requires { ⌜ pairWidth * row + pairWidth ≤ length (now pairs) ⌝ }
+    ensures { λ r. ⌜ r ≡ pairAt (now (pairs .entry)) row .at ⌝ }
+{
+    pairs[PAIR_WIDTH * row + AT_COLUMN]
+}
+
 // Whether both nodes of pair row k have the wanted class.
 fn both_have_class(
     pairs: &[i64],
@@ -166,20 +107,90 @@ fn one_marked(spec_mark: usize, impl_mark: usize) -> bool
     impl_mark != UNSEEN
 }
 
-// Refusals 7 and 8 of a pair table. The marks say which nodes earlier rows have; none is set at the start.
+// Refusal 16 of row k: `at` is outside 0 .. most.
+fn check_at(pairs: &[i64], k: usize, table: usize, most: i64) -> Checked
+    requires { ⌜ pairWidth * k + pairWidth ≤ length (now pairs) ⌝ }
+    ensures { λ r. ⌜ checkedAnswer r ≡ answer (checkAt table most (pairAt (now (pairs .entry)) k)) tt ⌝ }
+{
+    let at = pair_at(pairs, k);
+    if at < 0 {
+        return Checked::Refused(Reason::At {
+            table: table,
+            row: k,
+        });
+    }
+    if most < at {
+        return Checked::Refused(Reason::At {
+            table: table,
+            row: k,
+        });
+    }
+    Checked::Taken
+}
+
+// Refusal 8 of row k: the mark of one of its nodes is set.
+fn check_marks(k: usize, table: usize, spec_mark: usize, impl_mark: usize) -> Checked
+    ensures { λ r. ⌜ checkedAnswer r ≡ answer (checkMarks table k «spec_mark» «impl_mark») tt ⌝ }
+{
+    if one_marked(spec_mark, impl_mark) {
+        return Checked::Refused(Reason::PairedBefore {
+            table: table,
+            row: k,
+        });
+    }
+    Checked::Taken
+}
+
+// The first refusal of two.
+fn first_refusal(one: Checked, other: Checked) -> Checked
+    ensures { λ r. ⌜ ((a b : Option Refusal) → checkedAnswer one ≡ answer a tt → checkedAnswer other ≡ answer b tt → checkedAnswer r ≡ answer (a then b) tt) ⌝ }
+{
+    if let Checked::Refused(r) = one {
+        return Checked::Refused(r);
+    }
+    other
+}
+
+// Refusals 16 and 8 of row k, whose nodes have these marks.
+fn check_row(
+    pairs: &[i64],
+    k: usize,
+    table: usize,
+    most: i64,
+    spec_mark: usize,
+    impl_mark: usize,
+) -> Checked
+    requires { ⌜ pairWidth * k + pairWidth ≤ length (now pairs) ⌝ }
+    ensures { λ r. ⌜ checkedAnswer r ≡ answer (checkRow table most «spec_mark» «impl_mark» (pairAt (now (pairs .entry)) k)) tt ⌝ }
+{
+    let at = check_at(pairs, k, table, most);
+    let before = check_marks(k, table, spec_mark, impl_mark);
+    first_refusal(at, before)
+}
+
+// The mark of a node that a row has: set where the node may stand in one row only.
+fn mark_of(once: bool) -> usize
+    ensures { λ r. ⌜ r ≡ markOf once ⌝ }
+{
+    if once { SEEN } else { UNSEEN }
+}
+
+// Refusals 7, 16 and 8 of a pair table. The marks say which nodes earlier rows have; none is set at the start.
 fn check_unmarked(
     pairs: &[i64],
     table: usize,
     spec_class: &[usize],
     impl_class: &[usize],
     wanted: usize,
+    most: i64,
+    spec_once: bool,
     spec_marks: &mut [usize],
     impl_marks: &mut [usize],
 ) -> Checked
     requires { ⌜ Unmarked (length (now «spec_class»)) (now «spec_marks») × Unmarked (length (now «impl_class»)) (now «impl_marks») ⌝ }
     ensures { λ r. ⌜
         checkedAnswer r
-        ≡ answer (checkPairs table (hasClass (now («spec_class» .entry)) wanted) (hasClass (now («impl_class» .entry)) wanted) (now (pairs .entry))) tt ⌝ }
+        ≡ answer (checkPairs table (hasClass (now («spec_class» .entry)) wanted) (hasClass (now («impl_class» .entry)) wanted) most (sameBy «spec_once») (now (pairs .entry))) tt ⌝ }
 {
     let mut k: usize = 0;
     while PAIR_WIDTH * k + PAIR_WIDTH <= pairs.len() {
@@ -191,31 +202,34 @@ fn check_unmarked(
         }
         let spec = spec_node(pairs, k);
         let implementation = impl_node(pairs, k);
-        if one_marked(spec_marks[spec], impl_marks[implementation]) {
-            return Checked::Refused(Reason::PairedBefore {
-                table: table,
-                row: k,
-            });
+        let spec_mark = spec_marks[spec];
+        let impl_mark = impl_marks[implementation];
+        let c = check_row(pairs, k, table, most, spec_mark, impl_mark);
+        if let Checked::Refused(r) = c {
+            return Checked::Refused(r);
         }
-        spec_marks[spec] = SEEN;
+        spec_marks[spec] = mark_of(spec_once);
         impl_marks[implementation] = SEEN;
         k += 1;
     }
     Checked::Taken
 }
 
-// Refusals 7 and 8: the first row with a node that has not the wanted class, or that an earlier row has on the same side. One pass over the rows.
+// Refusals 7, 16 and 8: the first row with a node that has not the wanted class, or with `at` outside 0 .. most, or with the
+// implementation node of an earlier row, or, where `spec_once`, with the specification node of one. One pass over the rows.
 pub fn check_pairs(
     pairs: &[i64],
     table: usize,
     spec_class: &[usize],
     impl_class: &[usize],
     wanted: usize,
+    most: i64,
+    spec_once: bool,
 ) -> Checked
     requires { ⌜ (length (now «spec_class») ≤ maxNodes) × (length (now «impl_class») ≤ maxNodes) ⌝ }
     ensures { λ r. ⌜
         checkedAnswer r
-        ≡ answer (checkPairs table (hasClass (now («spec_class» .entry)) wanted) (hasClass (now («impl_class» .entry)) wanted) (now (pairs .entry))) tt ⌝ }
+        ≡ answer (checkPairs table (hasClass (now («spec_class» .entry)) wanted) (hasClass (now («impl_class» .entry)) wanted) most (sameBy «spec_once») (now (pairs .entry))) tt ⌝ }
 {
     let mut spec_marks = [UNSEEN; MAX_NODES];
     let mut impl_marks = [UNSEEN; MAX_NODES];
@@ -225,87 +239,9 @@ pub fn check_pairs(
         spec_class,
         impl_class,
         wanted,
+        most,
+        spec_once,
         &mut spec_marks,
         &mut impl_marks,
-    )
-}
-
-// Refusal 9: the pair table has no row.
-fn check_some(pairs: &[i64], table: usize) -> Checked
-    ensures { λ r. ⌜ checkedAnswer r ≡ answer (checkSome table (now (pairs .entry))) tt ⌝ }
-{
-    if pairs.len() < PAIR_WIDTH {
-        return Checked::Refused(Reason::NoPair { table: table });
-    }
-    Checked::Taken
-}
-
-// Refusals 1 and 9 of the two pair tables.
-fn check_sizes(root_pairs: &[i64], leaf_pairs: &[i64]) -> Checked
-    ensures { λ r. ⌜ checkedAnswer r ≡ answer (checkSizes (now («root_pairs» .entry)) (now («leaf_pairs» .entry))) tt ⌝ }
-{
-    let c = check_shape(root_pairs, PAIR_WIDTH, MAX_PAIRS, ROOT_PAIRS);
-    if let Checked::Refused(r) = c {
-        return Checked::Refused(r);
-    }
-    let c = check_shape(leaf_pairs, PAIR_WIDTH, MAX_PAIRS, LEAF_PAIRS);
-    if let Checked::Refused(r) = c {
-        return Checked::Refused(r);
-    }
-    let c = check_some(root_pairs, ROOT_PAIRS);
-    if let Checked::Refused(r) = c {
-        return Checked::Refused(r);
-    }
-    check_some(leaf_pairs, LEAF_PAIRS)
-}
-
-// Refusals 7 and 8 of the two pair tables, by the classes of all nodes.
-fn check_classified(
-    root_pairs: &[i64],
-    leaf_pairs: &[i64],
-    spec_class: &[usize],
-    impl_class: &[usize],
-) -> Checked
-    requires { ⌜ (length (now «spec_class») ≤ maxNodes) × (length (now «impl_class») ≤ maxNodes) ⌝ }
-    ensures { λ r. ⌜
-        checkedAnswer r
-        ≡ answer (checkClassified (now («spec_class» .entry)) (now («impl_class» .entry)) (now («root_pairs» .entry)) (now («leaf_pairs» .entry))) tt ⌝ }
-{
-    let c = check_pairs(root_pairs, ROOT_PAIRS, spec_class, impl_class, ROOT);
-    if let Checked::Refused(r) = c {
-        return Checked::Refused(r);
-    }
-    check_pairs(leaf_pairs, LEAF_PAIRS, spec_class, impl_class, LEAF)
-}
-
-// Refusals 1, 9, 7 and 8 of the pairing of two taken graphs.
-pub fn check_pairing(
-    spec_nodes: &[i64],
-    spec_edges: &[i64],
-    impl_nodes: &[i64],
-    impl_edges: &[i64],
-    root_pairs: &[i64],
-    leaf_pairs: &[i64],
-) -> Checked
-    requires { ⌜ TakenTables (now «spec_nodes») (now «spec_edges») × TakenTables (now «impl_nodes») (now «impl_edges») ⌝ }
-    ensures { λ r. ⌜
-        checkedAnswer r
-        ≡ answer (checkPairingRows (tablesOf (now («spec_nodes» .entry)) (now («spec_edges» .entry)) (now («impl_nodes» .entry)) (now («impl_edges» .entry)) (now («root_pairs» .entry)) (now («leaf_pairs» .entry)))) tt ⌝ }
-{
-    let c = check_sizes(root_pairs, leaf_pairs);
-    if let Checked::Refused(r) = c {
-        return Checked::Refused(r);
-    }
-    let mut spec_class = [OTHER; MAX_NODES];
-    let mut impl_class = [OTHER; MAX_NODES];
-    classify(spec_nodes, spec_edges, &mut spec_class);
-    classify(impl_nodes, impl_edges, &mut impl_class);
-    let specs = spec_nodes.len() / NODE_WIDTH;
-    let impls = impl_nodes.len() / NODE_WIDTH;
-    check_classified(
-        root_pairs,
-        leaf_pairs,
-        &spec_class[..specs],
-        &impl_class[..impls],
     )
 }

@@ -8,6 +8,7 @@ use lib.ListN.{length}
 use Rattle.model.specs.Limits.{pairWidth, maxPaths}
 use Rattle.model.specs.Compare.{Tables, Visit, Finding, findingOf}
 use Rattle.tables.specs.Tables.{pairAt}
+use Rattle.grouping.specs.Links.{groupCount, groupRow}
 use Rattle.pathlimit.specs.Inputs.{Ready}
 use Rattle.sorting.specs.Rows.{rowWidth}
 use Rattle.arrivals.specs.State.{stateRoom}
@@ -15,7 +16,7 @@ use Rattle.arrivals.specs.Sweep.{Swept}
 use Rattle.totals.specs.declared.Found.{Found}
 use Rattle.totals.specs.Kept.{IsFinding}
 
--- root row i with leaf row j
+-- root row i with the group of leaf row j
 abbrev pub visitAt : Tables → ℕ → ℕ → Visit
 visitAt t i j = record { root = pairAt (t .rootPairs) i; leaf = pairAt (t .leafPairs) j }
 
@@ -30,30 +31,32 @@ pub record Rooms (specState implState spare : List ℤ) : Type 0 where
   pub list : length spare ≡ rowWidth * maxPaths
 
 -- what the pairs of root row i start from: both graphs swept from the roots of the row
-pub record PairReady (t : Tables) (i : ℕ) (specPlan implPlan : List ℕ) (specState implState spare : List ℤ) : Type 0 where
-  pub ready : Ready t specPlan implPlan
+pub record PairReady (t : Tables) (i : ℕ) (specPlan implPlan links : List ℕ) (specState implState spare : List ℤ) : Type 0 where
+  pub ready : Ready t specPlan implPlan links
   pub rooms : Rooms specState implState spare
   pub row : i < length (t .rootPairs) / pairWidth
   pub spec : Swept (t .specNodes) (t .specEdges) specPlan (natAbs (pairAt (t .rootPairs) i .spec)) specState
   pub impl : Swept (t .implNodes) (t .implEdges) implPlan (natAbs (pairAt (t .rootPairs) i .impl)) implState
 
--- what is found of root row i and leaf row j is their finding, whose lists have at most 1,024 records, and the next pair of the row can be found
-pub record PairFound (t : Tables) (i j : ℕ) (specPlan implPlan : List ℕ) (specState implState spare : List ℤ) (asked : Bool) (r : Found) : Type 0 where
-  pub ready : PairReady t i specPlan implPlan specState implState spare
+-- what is found of root row i and the group of leaf row j is their finding, whose lists have at most 1,024 records, and the next pair of the root row can be found
+pub record PairFound (t : Tables) (i j : ℕ) (specPlan implPlan links : List ℕ) (specState implState spare : List ℤ) (asked : Bool) (r : Found) : Type 0 where
+  pub ready : PairReady t i specPlan implPlan links specState implState spare
   pub found : IsFinding (findingAt t i j) asked r
   pub few : (r .spec ≤ maxPaths) × (r .implementation ≤ maxPaths)
 
 -- ---- whichever the root pairs: t gives the tables of a comparison for its root pairs
 
--- leaf row j of a comparison whose graphs are swept from the roots of some root row
-pub record Findable (t : List ℤ → Tables) (j : ℕ) (specPlan implPlan : List ℕ) (specState implState spare : List ℤ) : Type 0 where
+-- leaf row j is the lowest of a group, in a comparison whose graphs are swept from the roots of some root row
+pub record Findable (t : List ℤ → Tables) (j : ℕ) (specPlan implPlan links : List ℕ) (specState implState spare : List ℤ) : Type 0 where
   pub rootPairs : List ℤ
   pub rootRow : ℕ
-  pub ready : PairReady (t rootPairs) rootRow specPlan implPlan specState implState spare
-  pub leafRow : j < length (t rootPairs .leafPairs) / pairWidth
+  pub ready : PairReady (t rootPairs) rootRow specPlan implPlan links specState implState spare
+  pub group : ℕ
+  pub there : group < groupCount links
+  pub lowest : j ≡ groupRow links group
 
--- the pair of leaf row j is found: whichever root row the graphs were swept from
-abbrev pub FoundOfRow : (List ℤ → Tables) → ℕ → List ℕ → List ℕ → List ℤ → List ℤ → List ℤ → List ℤ → List ℤ → List ℤ → Bool → Found → Type 0
-FoundOfRow t j specPlan implPlan specState implState spare specState′ implState′ spare′ asked r =
-    (rootPairs : List ℤ) (i : ℕ) → PairReady (t rootPairs) i specPlan implPlan specState implState spare
-    → PairFound (t rootPairs) i j specPlan implPlan specState′ implState′ spare′ asked r
+-- the pair of the group of leaf row j is found, whichever root row the graphs were swept from
+abbrev pub FoundAnyRoot : (List ℤ → Tables) → ℕ → List ℕ → List ℕ → List ℕ → List ℤ → List ℤ → List ℤ → List ℤ → List ℤ → List ℤ → Bool → Found → Type 0
+FoundAnyRoot t j specPlan implPlan links specState implState spare specState′ implState′ spare′ asked r =
+    (rootPairs : List ℤ) (i : ℕ) → PairReady (t rootPairs) i specPlan implPlan links specState implState spare
+    → PairFound (t rootPairs) i j specPlan implPlan links specState′ implState′ spare′ asked r

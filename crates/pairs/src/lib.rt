@@ -1,15 +1,15 @@
-// One pair of a comparison: the lists of its leaf row are asked of two graphs that are swept from its roots, and are judged.
+// One pair of a comparison: the list of its specification leaf and that of its group are asked of two graphs that are swept from its roots, and are judged.
 ghost use Rattle.pairing.specs.Pairs.{tablesOf};
-ghost use Rattle.pairs.specs.Found.{Findable, FoundOfRow};
+ghost use Rattle.pairs.specs.Found.{Findable, FoundAnyRoot};
 use groups::list_at;
+use groups::list_group;
 use judging::judge;
-use pairing::impl_node;
 use pairing::spec_node;
 use sorting::ROW_WIDTH;
 use totals::Found;
 
-// What is found of one pair, once both graphs are swept from the roots of its root row: the list of each leaf is asked, and the two are judged; where `asked`
-// and the lists are not equal the lowest address at which they differ is looked for, else it is -1. What stands in `spare` afterwards is space that was
+// What is found of one pair, once both graphs are swept from the roots of its root row: the list of the specification leaf and that of the group of
+// `leaf_row`, its lowest, are asked, and the two are judged; where `asked` and the lists are not equal the lowest address at which they differ is looked for, else it is -1. What stands in `spare` afterwards is space that was
 // worked in.
 pub fn pair_found(
     spec_nodes: &[i64],
@@ -17,6 +17,7 @@ pub fn pair_found(
     impl_nodes: &[i64],
     impl_edges: &[i64],
     leaf_pairs: &[i64],
+    links: &[usize],
     spec_plan: &[usize],
     impl_plan: &[usize],
     spec_state: &mut [i64],
@@ -27,11 +28,11 @@ pub fn pair_found(
 ) -> Found
     requires { ⌜
         Findable (λ roots. tablesOf (now «spec_nodes») (now «spec_edges») (now «impl_nodes») (now «impl_edges») roots (now «leaf_pairs»)) «leaf_row»
-        (now «spec_plan») (now «impl_plan») (now «spec_state») (now «impl_state») (now spare) ⌝ }
+        (now «spec_plan») (now «impl_plan») (now links) (now «spec_state») (now «impl_state») (now spare) ⌝ }
     ensures { λ r. ⌜
-        FoundOfRow
+        FoundAnyRoot
         (λ roots. tablesOf (now («spec_nodes» .entry)) (now («spec_edges» .entry)) (now («impl_nodes» .entry)) (now («impl_edges» .entry)) roots
-        (now («leaf_pairs» .entry))) «leaf_row» (now («spec_plan» .entry)) (now («impl_plan» .entry))
+        (now («leaf_pairs» .entry))) «leaf_row» (now («spec_plan» .entry)) (now («impl_plan» .entry)) (now (links .entry))
         (now («spec_state» .entry)) (now («impl_state» .entry)) (now (spare .entry))
         (now («spec_state» .exit)) (now («impl_state» .exit)) (now (spare .exit)) asked r ⌝ }
 {
@@ -44,12 +45,13 @@ pub fn pair_found(
         spec_state,
         spare,
     );
-    let impl_leaf = impl_node(leaf_pairs, leaf_row);
-    let implementation = list_at(
+    let implementation = list_group(
         impl_nodes,
         impl_edges,
         impl_plan,
-        impl_leaf,
+        leaf_pairs,
+        links,
+        leaf_row,
         impl_state,
         spare,
     );

@@ -12,7 +12,8 @@ use Rattle.model.specs.Rows.{Pair}
 use Rattle.model.specs.Graph.{graphOf, NodeRow}
 use Rattle.model.specs.Paths.{Root}
 use Rattle.model.specs.Taken.{TakenTables}
-use Rattle.model.specs.Compare.{Tables, specGraph, implGraph, rootRows, leafRows, visits}
+use Rattle.model.specs.Compare.{Tables, rootRows, leafRows, group, groups, visits}
+use Rattle.model.proofs.GroupRows.{group-leaf, group-in}
 use Rattle.model.specs.Checks.{firstOf, checkVisit}
 use Rattle.model.proofs.Checks.{first-agree, first-flatMap}
 use Rattle.tables.proofs.Rows.{nodes-length, graph-nodes-length}
@@ -21,16 +22,16 @@ use Rattle.forward.specs.Forward.{Planned}
 use Rattle.tables.specs.Tables.{pairAt}
 use Rattle.pathlimit.specs.Inputs.{Plans}
 use Rattle.pathlimit.specs.Counting.{Countable, Counted}
-use Rattle.pathlimit.specs.Checks.{checkPaths, checkRow, checkCounts, checkLeaf, LeavesCounted}
+use Rattle.pathlimit.specs.Checks.{checkPaths, checkRow, checkCounts, checkGroup, GroupsCounted}
 use Rattle.pathlimit.proofs.Inputs.{row-roots, root-row-below}
-use Rattle.pathlimit.proofs.Leaves.{leaf-many}
+use Rattle.pathlimit.proofs.Leaves.{leaf-count, leaf-many, banks-many}
 
 -- ---- all root rows
 
 -- the first refusal of all pairs in visiting order is that of the root rows one after the other
 pub paths-rows : (t : Tables) → checkPaths t ≡ firstOf (checkRow t) (rootRows t)
 unfolding visits checkRow
-paths-rows t = first-flatMap (checkVisit (specGraph t) (implGraph t)) (λ r l. record { root = r; leaf = l }) (rootRows t) (leafRows t)
+paths-rows t = first-flatMap (checkVisit t) (λ r l. record { root = r; leaf = l }) (rootRows t) (groups t)
 
 -- ---- one root row
 
@@ -44,7 +45,7 @@ countable : {ns es : List ℤ} {plan counts : List ℕ} {r : ℤ} (root : ℕ) �
 countable {ns} {es} root k p top e h =
     record { tables = k; planned = p; top = subst (Root (graphOf ns es)) (sym e) top; room = omega (arith, h, k .nodes .few, nodes-length ns) }
 
-module _ {t : Tables} {specPlan implPlan : List ℕ} (k : Plans t specPlan implPlan) (i : ℕ) (h : i < length (t .rootPairs) / pairWidth) where
+module _ {t : Tables} {specPlan implPlan links : List ℕ} (k : Plans t specPlan implPlan links) (i : ℕ) (h : i < length (t .rootPairs) / pairWidth) where
   -- the paths from each can be counted
   pub spec-countable : {counts : List ℕ} {s : ℕ} → pos s ≡ pairAt (t .rootPairs) i .spec → maxNodes ≤ length counts
       → Countable (t .specNodes) (t .specEdges) specPlan s counts
@@ -54,28 +55,31 @@ module _ {t : Tables} {specPlan implPlan : List ℕ} (k : Plans t specPlan implP
       → Countable (t .implNodes) (t .implEdges) implPlan m counts
   impl-countable {m = m} e room = countable m (k .inputs .impl) (k .implPlanned) (row-roots (k .inputs) i h .1) e room
 
-  -- the leaf rows can be checked by counts with room for all nodes
-  pub leaves-counted : (specCounts implCounts : List ℕ) → maxNodes ≤ length specCounts → maxNodes ≤ length implCounts
-      → LeavesCounted (t .leafPairs) i specCounts implCounts
-  leaves-counted specCounts implCounts s m =
+  -- the groups can be checked by counts from the roots, with room for all nodes
+  pub groups-counted : {specCounts implCounts : List ℕ} {m : ℕ} → maxNodes ≤ length specCounts → maxNodes ≤ length implCounts
+      → Counted (t .implNodes) (t .implEdges) implPlan m implCounts → GroupsCounted (t .leafPairs) links i specCounts implCounts
+  groups-counted {specCounts} {implCounts} s r counted =
       record {
-        rows = k .inputs .leafShape .few;
         row = root-row-below (k .inputs) i h;
-        within = λ p n.
-            let l = k .inputs .leaves p n in
-            (node-within (length specCounts) (k .inputs .spec) (l .0 .row) s, node-within (length implCounts) (k .inputs .impl) (l .1 .row) m);
+        within = λ p n. node-within (length specCounts) (k .inputs .spec) (k .inputs .leaves p n .0 .row) s;
+        sums = record {
+          linked = k .linked;
+          rows = k .inputs .leafShape .few;
+          within = λ p n. node-within (length implCounts) (k .inputs .impl) (k .inputs .leaves p n .1 .row) r;
+          stopped = λ p n. omega (arith, leaf-count (k .implLeading) counted (p .impl) (map-in (λ (x : Pair). x .impl) n) (k .inputs .leaves p n .1 .row));
+        };
       }
 
-  -- by the counts from its roots each leaf row has the refusal that its paths have
+  -- by the counts from its roots each group has the refusal that its paths have
   pub row-checked : {specCounts implCounts : List ℕ} {s m : ℕ} → pos s ≡ pairAt (t .rootPairs) i .spec → pos m ≡ pairAt (t .rootPairs) i .impl
       → Counted (t .specNodes) (t .specEdges) specPlan s specCounts → Counted (t .implNodes) (t .implEdges) implPlan m implCounts
-      → firstOf (checkLeaf specCounts implCounts i) (leafRows t) ≡ checkRow t (pairAt (t .rootPairs) i)
-  unfolding checkLeaf checkCounts checkRow checkVisit
+      → firstOf (checkGroup (leafRows t) specCounts implCounts i) (groups t) ≡ checkRow t (pairAt (t .rootPairs) i)
+  unfolding checkGroup checkCounts checkRow checkVisit
   row-checked {specCounts} {implCounts} {s} {m} p q sc ic =
-      first-agree (checkLeaf specCounts implCounts i)
-      (λ l. checkVisit (specGraph t) (implGraph t) (record { root = pairAt (t .rootPairs) i; leaf = l })) (leafRows t)
+      first-agree (checkGroup (leafRows t) specCounts implCounts i) (λ l. checkVisit t (record { root = pairAt (t .rootPairs) i; leaf = l })) (groups t)
       (λ l n.
-      let leaf = k .inputs .leaves l n in
-      let spec = leaf-many (k .specLeading) sc (l .spec) (map-in (λ (x : Pair). x .spec) n) (leaf .0 .row) in
-      let impl = leaf-many (k .implLeading) ic (l .impl) (map-in (λ (x : Pair). x .impl) n) (leaf .1 .row) in
+      let own = group-leaf t n in
+      let spec = leaf-many (k .specLeading) sc (l .spec) (map-in (λ (x : Pair). x .spec) own) (k .inputs .leaves l own .0 .row) in
+      let impl = banks-many (k .implLeading) ic (group (leafRows t) l) (λ b o.
+      let c = group-in t l b .0 o .0 in (map-in (λ (x : Pair). x .impl) c, k .inputs .leaves b c .1 .row)) in
       rw (spec, impl, p, q) refl)

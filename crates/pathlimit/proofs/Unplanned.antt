@@ -1,25 +1,27 @@
 -- Plans without an edge: no edge enters a paired leaf, so that no path leads to one and no pair is refused.
-use mathlib.Core.Path.{_≡_, refl, ap, subst, _∙_}
+use mathlib.Core.Path.{_≡_, refl, sym, ap, subst, _∙_}
 use mathlib.Core.Logic.{_≢_, ⊎-elim}
-use mathlib.Core.List.{List, map, List·Memᴰ·not-nil}
+use mathlib.Core.List.{List, [], _∷_, map, flatMap, List·Memᴰ·head, List·Memᴰ·tail, List·Memᴰ·not-nil}
 use mathlib.Core.Option.{none}
 use Prim.Native.Nat.{ℕ, _+_}
 use native.Mathlib.Omega.{arith}
 use lib.IntN.{ℤ}
-use lib.ListN.{length, take}
+use lib.ListN.{length, take, length-append}
 use Rattle.integers.proofs.Linear.{ints}
 use Rattle.lists.specs.Lists.{_∈_}
-use Rattle.lists.proofs.Membership.{map-in}
+use Rattle.lists.proofs.Membership.{map-in, map-out}
 use Rattle.model.specs.Rows.{Edge, Pair}
 use Rattle.model.specs.Graph.{Graph, graphOf, node, block}
 use Rattle.model.specs.Paths.{Root, Leaf}
 use Rattle.model.specs.Runs.{paths}
 use Rattle.model.specs.Taken.{TakenTables}
-use Rattle.model.specs.Compare.{Tables, specGraph, implGraph, rootRows, leafRows, visits}
+use Rattle.model.specs.Groups.{Bank, leavesOf, groupPaths}
+use Rattle.model.specs.Compare.{Tables, specGraph, implGraph, rootRows, leafRows, banks, groups, visits}
 use Rattle.model.specs.Checks.{when, _then_, manyPaths, checkVisit}
 use Rattle.model.proofs.Checks.{first-none}
 use Rattle.model.proofs.Visits.{visits-in}
-use Rattle.model.proofs.Paths.{many-one}
+use Rattle.model.proofs.GroupRows.{group-leaf, bank-out}
+use Rattle.model.proofs.Paths.{paths-one}
 use Rattle.tables.specs.Tables.{edgeAt}
 use Rattle.reach.specs.Counting.{pathCount}
 use Rattle.entering.specs.Entering.{Covered, entering}
@@ -49,20 +51,39 @@ unplanned-paths {ns} {es} plan {r} {l} k root leaf covered bare =
     count-entering {r = r} {w = l} (k .graph .acyclic) (k .graph .short) (root-other root leaf)
     ∙ total-none (λ e. pathCount g r (e .from)) (entering g l) out
 
--- where neither plan has an edge no pair is refused
-pub unplanned-taken : {t : Tables} {sp mp : List ℕ} → Plans t sp mp → plannedCount sp + plannedCount mp ≡ 0 → checkPaths t ≡ none
-unfolding when _then_ checkVisit
-unplanned-taken {t} {sp} {mp} k bare =
-    first-none (checkVisit (specGraph t) (implGraph t)) (visits (rootRows t) (leafRows t))
+-- where no path leads to each of some leaves, none leads to them together
+pub no-paths : (g : Graph) (r : ℤ) (ls : List ℤ) → ((l : ℤ) → l ∈ ls → length (paths g r l) ≡ 0) → length (flatMap (paths g r) ls) ≡ 0
+unfolding flatMap
+no-paths g r [] h = refl
+no-paths g r (l ∷ ls) h =
+    omega (arith, length-append (paths g r l) (flatMap (paths g r) ls), h l (List·Memᴰ·head refl), no-paths g r ls (λ m n. h m (List·Memᴰ·tail n)))
+
+module _ {t : Tables} {sp mp links : List ℕ} (k : Plans t sp mp links) (bare : plannedCount sp + plannedCount mp ≡ 0) {r l : Pair} (m : r ∈ rootRows t)
+    (n : l ∈ leafRows t) where
+  -- where neither plan has an edge no path leads from a paired root to a paired leaf of the specification
+  pub spec-unreached : length (paths (specGraph t) (r .spec) (l .spec)) ≡ 0
+  spec-unreached =
+      unplanned-paths sp (k .inputs .spec) (k .inputs .roots r m .0) (k .inputs .leaves l n .0)
+      (leaf-entering (k .specLeading) (l .spec) (map-in (λ (x : Pair). x .spec) n)) (omega (arith, bare))
+
+  -- nor to the banks of a group
+  pub group-unreached : groupPaths (implGraph t) (r .impl) (banks t l) ≡ 0
+  unfolding groupPaths
+  group-unreached =
+      no-paths (implGraph t) (r .impl) (leavesOf (banks t l)) (λ v o.
+      let (b, i, e) = map-out (λ (b : Bank). b .leaf) (banks t l) o in
+      let (p, j, s, f) = bank-out t l i in
+      let own : p .impl ≡ v = ap (λ (b : Bank). b .leaf) (sym f) ∙ sym e in
+      subst (λ (w : ℤ). length (paths (implGraph t) (r .impl) w) ≡ 0) own
+      (unplanned-paths mp (k .inputs .impl) (k .inputs .roots r m .1) (k .inputs .leaves p j .1)
+      (leaf-entering (k .implLeading) (p .impl) (map-in (λ (x : Pair). x .impl) j)) (omega (arith, bare))))
+
+-- so that no pair is refused
+pub unplanned-taken : {t : Tables} {sp mp links : List ℕ} → Plans t sp mp links → plannedCount sp + plannedCount mp ≡ 0 → checkPaths t ≡ none
+unfolding when _then_ checkVisit manyPaths groupPaths
+unplanned-taken {t} k bare =
+    first-none (checkVisit t) (visits (rootRows t) (groups t))
     (λ v m.
-    let w = visits-in (rootRows t) (leafRows t) .0 m in
-    let root = k .inputs .roots (v .root) (w .0) in
-    let leaf = k .inputs .leaves (v .leaf) (w .1) in
-    let spec = leaf-entering (k .specLeading) (v .leaf .spec) (map-in (λ (x : Pair). x .spec) (w .1)) in
-    let impl = leaf-entering (k .implLeading) (v .leaf .impl) (map-in (λ (x : Pair). x .impl) (w .1)) in
-    rw (
-      many-one (specGraph t) (v .root .spec) (v .leaf .spec),
-      many-one (implGraph t) (v .root .impl) (v .leaf .impl),
-      unplanned-paths sp (k .inputs .spec) (root .0) (leaf .0) spec (omega (arith, bare)),
-      unplanned-paths mp (k .inputs .impl) (root .1) (leaf .1) impl (omega (arith, bare)),
-    ) refl)
+    let w = visits-in (rootRows t) (groups t) .0 m in
+    let own = group-leaf t (w .1) in
+    rw (paths-one (specGraph t) (v .root .spec) (v .leaf .spec), spec-unreached k bare (w .0) own, group-unreached k bare (w .0) own) refl)

@@ -1,9 +1,10 @@
-// Refusal 10: the first pair in visiting order with more than MAX_PATHS paths. One count of the paths from a root in each graph serves all leaf rows.
+// Refusal 10: the first pair in visiting order with more than MAX_PATHS paths. One count of the paths from a root in each graph serves all groups.
 ghost use mathlib.Core.Path.{_≡_};
 ghost use Prim.Native.Nat.{_/_, _≤_, _<_};
 ghost use lib.ListN.{length};
 ghost use Rattle.model.specs.Limits.{pairWidth, maxNodes};
 ghost use Rattle.model.specs.Rows.{pairRows};
+ghost use Rattle.model.specs.Compare.{lowestRows};
 ghost use Rattle.model.specs.Checks.{firstOf};
 ghost use Rattle.model.specs.Calls.{answer};
 ghost use Rattle.model.specs.Answers.{checkedAnswer};
@@ -11,9 +12,12 @@ ghost use Rattle.tables.specs.Tables.{pairAt};
 ghost use Rattle.pairing.specs.Pairs.{tablesOf};
 ghost use Rattle.pathlimit.specs.Inputs.{Plans};
 ghost use Rattle.pathlimit.specs.Counting.{Countable, Counted};
-ghost use Rattle.pathlimit.specs.Checks.{checkPaths, checkRow, checkCounts, checkLeaf, LeavesCounted};
+ghost use Rattle.pathlimit.specs.Checks.{checkPaths, checkRow, checkCounts, checkGroup, GroupsCounted};
 use forward::planned_count;
 use forward::planned_row;
+use grouping::group_count;
+use grouping::group_row;
+use grouping::group_total;
 use model::Checked;
 use model::IMPL_EDGES;
 use model::MAX_PATHS;
@@ -70,34 +74,38 @@ fn check_counts(place: usize, spec_count: usize, impl_count: usize) -> Checked
     Checked::Taken
 }
 
-// Refusal 10 of a root row with the leaf rows one after the other, by the counts of the paths from its roots.
-fn check_leaves(
+// Refusal 10 of a root row with the groups one after the other, by the counts of the paths from its roots: at the specification leaf of a group, and at its banks
+// together. A group is told by its lowest row.
+fn check_groups(
     leaf_pairs: &[i64],
+    links: &[usize],
     root_row: usize,
     spec_counts: &[usize],
     impl_counts: &[usize],
 ) -> Checked
-    requires { ⌜ LeavesCounted (now «leaf_pairs») «root_row» (now «spec_counts») (now «impl_counts») ⌝ }
+    requires { ⌜ GroupsCounted (now «leaf_pairs») (now links) «root_row» (now «spec_counts») (now «impl_counts») ⌝ }
     ensures { λ r. ⌜
         checkedAnswer r
-        ≡ answer (firstOf (checkLeaf (now («spec_counts» .entry)) (now («impl_counts» .entry)) «root_row») (pairRows (now («leaf_pairs» .entry)))) tt ⌝ }
+        ≡ answer (firstOf (checkGroup (pairRows (now («leaf_pairs» .entry))) (now («spec_counts» .entry)) (now («impl_counts» .entry)) «root_row»)
+        (lowestRows (pairRows (now («leaf_pairs» .entry))))) tt ⌝ }
 {
-    let count = leaf_pairs.len() / PAIR_WIDTH;
-    let mut leaf_row: usize = 0;
-    while leaf_row < count {
+    let count = group_count(links);
+    let mut k: usize = 0;
+    while k < count {
+        let leaf_row = group_row(links, k);
         let spec_leaf = spec_node(leaf_pairs, leaf_row);
-        let impl_leaf = impl_node(leaf_pairs, leaf_row);
         let place = root_row * ROOT_STRIDE + leaf_row;
-        let c = check_counts(place, spec_counts[spec_leaf], impl_counts[impl_leaf]);
+        let impl_count = group_total(leaf_pairs, links, leaf_row, impl_counts);
+        let c = check_counts(place, spec_counts[spec_leaf], impl_count);
         if let Checked::Refused(r) = c {
             return Checked::Refused(r);
         }
-        leaf_row += 1;
+        k += 1;
     }
     Checked::Taken
 }
 
-// Refusal 10 of a root row: the paths from its two roots are counted, then its leaf rows are checked.
+// Refusal 10 of a root row: the paths from its two roots are counted, then the groups are checked.
 fn check_row(
     spec_nodes: &[i64],
     spec_edges: &[i64],
@@ -107,13 +115,14 @@ fn check_row(
     leaf_pairs: &[i64],
     spec_plan: &[usize],
     impl_plan: &[usize],
+    links: &[usize],
     root_row: usize,
     spec_counts: &mut [usize],
     impl_counts: &mut [usize],
 ) -> Checked
     requires { ⌜
         Plans (tablesOf (now «spec_nodes») (now «spec_edges») (now «impl_nodes») (now «impl_edges») (now «root_pairs») (now «leaf_pairs»))
-        (now «spec_plan») (now «impl_plan»)
+        (now «spec_plan») (now «impl_plan») (now links)
         × (maxNodes ≤ length (now «spec_counts»)) × (maxNodes ≤ length (now «impl_counts»)) × («root_row» < length (now «root_pairs») / pairWidth) ⌝ }
     ensures { λ r. ⌜
         checkedAnswer r
@@ -126,7 +135,7 @@ fn check_row(
     let impl_root = impl_node(root_pairs, root_row);
     count_from(spec_nodes, spec_edges, spec_plan, spec_root, spec_counts);
     count_from(impl_nodes, impl_edges, impl_plan, impl_root, impl_counts);
-    check_leaves(leaf_pairs, root_row, spec_counts, impl_counts)
+    check_groups(leaf_pairs, links, root_row, spec_counts, impl_counts)
 }
 
 // Refusal 10: the first pair in visiting order with more than MAX_PATHS paths, the specification first. Where neither plan has an edge no path leads
@@ -140,12 +149,13 @@ pub fn check_paths(
     leaf_pairs: &[i64],
     spec_plan: &[usize],
     impl_plan: &[usize],
+    links: &[usize],
     spec_counts: &mut [usize],
     impl_counts: &mut [usize],
 ) -> Checked
     requires { ⌜
         Plans (tablesOf (now «spec_nodes») (now «spec_edges») (now «impl_nodes») (now «impl_edges») (now «root_pairs») (now «leaf_pairs»))
-        (now «spec_plan») (now «impl_plan»)
+        (now «spec_plan») (now «impl_plan») (now links)
         × (maxNodes ≤ length (now «spec_counts»)) × (maxNodes ≤ length (now «impl_counts»)) ⌝ }
     ensures { λ r. ⌜
         checkedAnswer r
@@ -168,6 +178,7 @@ pub fn check_paths(
             leaf_pairs,
             spec_plan,
             impl_plan,
+            links,
             root_row,
             spec_counts,
             impl_counts,

@@ -6,6 +6,7 @@ use Prim.Native.Nat.{ℕ, _<_}
 use native.Mathlib.Omega.{arith}
 use lib.IntN.{ℤ}
 use lib.ListN.{length, drop}
+use Rattle.integers.proofs.Linear.{ints}
 use Rattle.lists.specs.Lists.{_∈_}
 use Rattle.lists.proofs.Membership.{map-out}
 use Rattle.model.specs.Rows.{Edge, Pair, edgeRows}
@@ -21,14 +22,16 @@ use Rattle.model.specs.declared.Checked.{Checked}
 use Rattle.model.specs.declared.Checked.the-variants.{Taken, Refused}
 use Rattle.model.proofs.Checks.{then-none, answer-some, answer-none}
 use Rattle.tables.proofs.Checks.{checked, then-on, then-stops}
+use Rattle.tables.proofs.Rows.{graph-nodes-length}
+use Rattle.grouping.specs.Links.{linkRoom, Linkable}
 use Rattle.depth.specs.Order.{edgeOrder}
 use Rattle.depth.specs.Passes.{orderOf}
 use Rattle.depth.specs.Check.{GraphChecked}
 use Rattle.depth.proofs.GraphCheck.{checked-taken, checked-order}
 use Rattle.reach.proofs.Turns.{order-front}
 use Rattle.forward.specs.Forward.{nodesIn, planRoom, Plannable}
-use Rattle.pairing.specs.Pairs.{checkPairingRows}
-use Rattle.pairing.proofs.Pairing.{check-pairing-rows}
+use Rattle.paircheck.specs.Pairing.{checkPairingRows}
+use Rattle.paircheck.proofs.Pairing.{check-pairing-rows}
 use Rattle.pathlimit.specs.Checks.{checkPaths}
 use Rattle.pathlimit.specs.Inputs.{Inputs, AllFew, Plans}
 use Rattle.prepare.specs.Prepared.{Prepared}
@@ -41,7 +44,7 @@ pub taken-none : {given : Checked} (a : Option Refusal) → given ≡ Taken → 
 taken-none a g e = answer-none tt a .0 (sym e ∙ ap checkedAnswer g)
 
 -- what the checks say of the tables
-module _ {t : Tables} {given : Checked} {sp mp : List ℕ} (p : Prepared t given sp mp) where
+module _ {t : Tables} {given : Checked} {sp mp links : List ℕ} (p : Prepared t given sp mp links) where
   pub prepared-none : given ≡ Taken → checkTables t ≡ none
   prepared-none g = taken-none (checkTables t) g (p .answers)
 
@@ -64,7 +67,7 @@ module _ (t : Tables) where
     rest-on g = r ∙ then-on a b (ap checkedAnswer (sym g) ∙ p)
 
     -- a check that refuses gives it
-    pub rest-refused : {reason : Reason} {sp mp : List ℕ} → given ≡ Refused reason → Prepared t (Refused reason) sp mp
+    pub rest-refused : {reason : Reason} {sp mp links : List ℕ} → given ≡ Refused reason → Prepared t (Refused reason) sp mp links
     rest-refused g =
         record {
           answers = then-stops a b (ap checkedAnswer (sym g) ∙ p) ∙ sym r;
@@ -72,7 +75,8 @@ module _ (t : Tables) where
         }
 
   -- behind the plans the check of the paths is left
-  pub rest-paths : {given : Checked} {sp mp : List ℕ} → Plans t sp mp → checkedAnswer given ≡ checked (checkPaths t) → Rest (checkPaths t) → Prepared t given sp mp
+  pub rest-paths : {given : Checked} {sp mp links : List ℕ} → Plans t sp mp links → checkedAnswer given ≡ checked (checkPaths t) → Rest (checkPaths t)
+      → Prepared t given sp mp links
   rest-paths k p r = record { answers = p ∙ sym r; ready = λ g. record { plans = k; few = paths-few t (taken-none (checkPaths t) g p) } }
 
 -- ---- a graph that is taken
@@ -107,6 +111,16 @@ module _ {t : Tables} (k : Inputs t) where
 
   pub impl-rows : (l : ℤ) → l ∈ nodesIn 1 (t .leafPairs) → NodeRow (implGraph t) l
   impl-rows l m = let w = map-out (λ (p : Pair). p .impl) (leafRows t) m in subst (NodeRow (implGraph t)) (sym (w .2)) (k .leaves (w .0) (w .1) .1 .row)
+
+  -- so that the groups of leaf pairs can be linked
+  pub leaves-linkable : {links : List ℕ} → length links ≡ linkRoom → Linkable (t .leafPairs) links
+  leaves-linkable room =
+      record {
+        few = k .leafShape .few;
+        within = λ p m. let row = k .leaves p m .0 .row in
+            record { low = row .low; high = omega (arith, ints, row .high, k .spec .nodes .few, graph-nodes-length (t .specNodes) (t .specEdges)) };
+        room = room;
+      }
 
 -- ---- tables that are not refused
 

@@ -10,7 +10,7 @@ use Rattle.model.specs.declared.Checked.{Checked}
 use Rattle.model.specs.declared.Checked.the-variants.{Taken}
 use Rattle.pathlimit.specs.Inputs.{Ready}
 
--- their answer and, where they take the tables, both graphs planned for a comparison
-pub record Prepared (t : Tables) (given : Checked) (specPlan implPlan : List ℕ) : Type 0 where
+-- their answer and, where they take the tables, both graphs planned and the groups of leaf pairs linked for a comparison
+pub record Prepared (t : Tables) (given : Checked) (specPlan implPlan links : List ℕ) : Type 0 where
   pub answers : checkedAnswer given ≡ answer (checkTables t) tt
-  pub ready : given ≡ Taken → Ready t specPlan implPlan
+  pub ready : given ≡ Taken → Ready t specPlan implPlan links

@@ -1,23 +1,25 @@
-// What comes before a comparison: all checks of its tables, and the plans of both graphs.
+// What comes before a comparison: all checks of its tables, the plans of both graphs, and the links of groups.
 ghost use mathlib.Core.Path.{_≡_};
 ghost use lib.ListN.{length};
 ghost use Rattle.forward.specs.Forward.{planRoom};
+ghost use Rattle.grouping.specs.Links.{linkRoom};
 ghost use Rattle.pairing.specs.Pairs.{tablesOf};
 ghost use Rattle.prepare.specs.Prepared.{Prepared};
 use depth::check_graph_with;
 use forward::plan_graph;
+use grouping::link_banks;
 use model::Checked;
 use model::IMPL_NODES;
 use model::MAX_EDGES;
 use model::SPEC_NODES;
+use paircheck::check_pairing;
 use pairing::IMPL_COLUMN;
 use pairing::SPEC_COLUMN;
-use pairing::check_pairing;
 use pathlimit::check_paths;
 
-// Checks the tables of a comparison, and makes for each graph the plan of the edges that lead to its paired leaves. The work space of the first graph, and that of
+// Checks the tables of a comparison, makes for each graph the plan of the edges that lead to its paired leaves, and links the groups of leaf pairs. The work space of the first graph, and that of
 // the second, has its edges in order, then the counts of its paths; a plan is work space before it is made. Where the tables are refused, what stands in
-// the plans is space that was worked in.
+// the plans and the links is space that was worked in.
 pub fn prepare(
     spec_nodes: &[i64],
     spec_edges: &[i64],
@@ -27,13 +29,14 @@ pub fn prepare(
     leaf_pairs: &[i64],
     spec_plan: &mut [usize],
     impl_plan: &mut [usize],
+    links: &mut [usize],
 ) -> Checked
-    requires { ⌜ (length (now «spec_plan») ≡ planRoom) × (length (now «impl_plan») ≡ planRoom) ⌝ }
+    requires { ⌜ (length (now «spec_plan») ≡ planRoom) × (length (now «impl_plan») ≡ planRoom) × (length (now links) ≡ linkRoom) ⌝ }
     ensures { λ r. ⌜
         Prepared
         (tablesOf (now («spec_nodes» .entry)) (now («spec_edges» .entry)) (now («impl_nodes» .entry)) (now («impl_edges» .entry))
         (now («root_pairs» .entry)) (now («leaf_pairs» .entry)))
-        r (now («spec_plan» .exit)) (now («impl_plan» .exit)) ⌝ }
+        r (now («spec_plan» .exit)) (now («impl_plan» .exit)) (now (links .exit)) ⌝ }
 {
     let mut first = [0usize; MAX_EDGES];
     let mut second = [0usize; MAX_EDGES];
@@ -72,6 +75,7 @@ pub fn prepare(
         IMPL_COLUMN,
         impl_plan,
     );
+    link_banks(leaf_pairs, links);
     check_paths(
         spec_nodes,
         spec_edges,
@@ -81,6 +85,7 @@ pub fn prepare(
         leaf_pairs,
         spec_plan,
         impl_plan,
+        links,
         &mut first,
         &mut second,
     )

@@ -1,30 +1,36 @@
 -- The refusals of tables are small: a row is looked at only once the shape of its table is good.
 use mathlib.Core.Path.{_≡_, refl, ap}
 use mathlib.Core.Bool.{Bool, true, false, not, _||_}
+use mathlib.Core.Logic.{_≢_}
 use mathlib.Core.List.{List, [], _∷_, List·Memᴰ·head, List·Memᴰ·tail}
 use mathlib.Core.Option.{Option, none, some}
 use Prim.Native.Nat.{ℕ, suc, _+_, _*_, _%_, _≤_, _<_}
 use native.Mathlib.Omega.{arith}
 use lib.Dec.{eqb, ltb}
-use lib.IntN.{ℤ}
+use lib.IntN.{ℤ, pos}
 use lib.ListN.{length}
 use Rattle.lists.specs.Lists.{_∈_, isNil}
-use Rattle.model.specs.Limits.{nodeWidth, edgeWidth, pairWidth, maxNodes, maxEdges, maxPairs, rootStride}
-use Rattle.model.specs.Rows.{nodeRows, edgeRows, pairRows}
-use Rattle.model.specs.Graph.{Graph, graphOf}
-use Rattle.model.specs.Compare.{Tables, specGraph, implGraph, rootRows, leafRows, visits}
+use Rattle.model.specs.Limits.{nodeWidth, edgeWidth, pairWidth, maxNodes, maxEdges, maxPairs, lastAt, rootStride}
+use Rattle.model.specs.Rows.{Pair, nodeRows, edgeRows, pairRows}
+use Rattle.model.specs.Graph.{graphOf}
+use Rattle.model.specs.Compare.{Tables, specGraph, implGraph, rootRows, leafRows, groups, visits}
 use Rattle.model.specs.Refusals.{Refusal}
-use Rattle.model.specs.Checks.{when, _then_, firstOf, checkShape, checkNode, checkEdge, cyclic, deep, checkGraph, isRoot, isLeaf, checkPair, checkVisit, checkPairing, checkTables}
+use Rattle.model.specs.Checks.{when, _then_, firstOf, checkShape, checkNode, checkEdge, cyclic, deep, checkGraph, isRoot, isLeaf, sameRoot, sameImpl, checkPair, checkVisit, checkPairing, checkTables}
 use Rattle.model.proofs.Visits.{visits-in}
+use Rattle.model.proofs.GroupRows.{group-leaf}
 use Rattle.model.proofs.Taken.{shape-taken}
 use Rattle.tables.proofs.Rows.{node-own, edge-own, pair-own}
-use Rattle.refusals.specs.Small.{SmallCheck}
+use Rattle.refusals.specs.Small.{lastNumber, SmallCheck}
 
 -- ---- one check after the other
 
-pub when-small : (b : Bool) {n t r : ℕ} → (1 ≤ n) × (n ≤ 14) → t < 8 → r < 10000000 → SmallCheck (when b n t r)
+-- the number of a refusal that a text can get
+abbrev pub NumberOfText : ℕ → Type 0
+NumberOfText n = (1 ≤ n) × (n ≤ lastNumber) × (n ≢ 15)
+
+pub when-small : (b : Bool) {n t r : ℕ} → NumberOfText n → t < 8 → r < 10000000 → SmallCheck (when b n t r)
 unfolding when
-when-small true h i j = record { least = h .0; number = h .1; table = i; row = j }
+when-small true h i j = record { least = h .0; number = h .1; noCaller = h .2; table = i; row = j }
 when-small false h i j = tt
 
 pub then-small : (a b : Option Refusal) → SmallCheck a → (a ≡ none → SmallCheck b) → SmallCheck (a then b)
@@ -65,22 +71,25 @@ graph-small t ns es h =
 -- ---- the pairing
 
 -- the refusals of pair rows are small
-pairs-small : (t : ℕ) (spec impl : ℤ → Bool) (ps : List ℤ) → t < 8 → length ps ≤ pairWidth * maxPairs
-    → SmallCheck (firstOf (checkPair t spec impl (pairRows ps)) (pairRows ps))
+pairs-small : (t : ℕ) (spec impl : ℤ → Bool) (most : ℤ) (same : Pair → Pair → Bool) (ps : List ℤ) → t < 8 → length ps ≤ pairWidth * maxPairs
+    → SmallCheck (firstOf (checkPair t spec impl most same (pairRows ps)) (pairRows ps))
 unfolding checkPair
-pairs-small t spec impl ps h few =
-    first-small (checkPair t spec impl (pairRows ps)) (pairRows ps) (λ p m.
+pairs-small t spec impl most same ps h few =
+    first-small (checkPair t spec impl most same (pairRows ps)) (pairRows ps) (λ p m.
     let row : p .row < 10000000 = omega (arith, pair-own ps m .0) in
-    then-small (when _ 7 t (p .row)) _ (when-small _ (omega arith) (omega arith) row) (λ _. when-small _ (omega arith) (omega arith) row))
+    then-small (when _ 7 t (p .row)) _ (when-small _ (omega arith) (omega arith) row) (λ _.
+    then-small (when _ 16 t (p .row)) _ (when-small _ (omega arith) (omega arith) row) (λ _. when-small _ (omega arith) (omega arith) row)))
 
 -- so are those of visits
-visits-refused : (s i : Graph) (ps qs : List ℤ) → length ps ≤ pairWidth * maxPairs → length qs ≤ pairWidth * maxPairs
-    → SmallCheck (firstOf (checkVisit s i) (visits (pairRows ps) (pairRows qs)))
+visits-refused : (t : Tables) → length (t .rootPairs) ≤ pairWidth * maxPairs → length (t .leafPairs) ≤ pairWidth * maxPairs
+    → SmallCheck (firstOf (checkVisit t) (visits (rootRows t) (groups t)))
 unfolding checkVisit
-visits-refused s i ps qs h j =
-    first-small (checkVisit s i) (visits (pairRows ps) (pairRows qs)) (λ v m.
-    let w = visits-in (pairRows ps) (pairRows qs) .0 m in
-    let place : v .root .row * rootStride + v .leaf .row < 10000000 = omega (arith, pair-own ps (w .0) .0, pair-own qs (w .1) .0) in
+visits-refused t h j =
+    first-small (checkVisit t) (visits (rootRows t) (groups t)) (λ v m.
+    let w = visits-in (rootRows t) (groups t) .0 m in
+    let root = pair-own (t .rootPairs) (w .0) .0 in
+    let leaf = pair-own (t .leafPairs) (group-leaf t (w .1)) .0 in
+    let place : v .root .row * rootStride + v .leaf .row < 10000000 = omega arith in
     then-small (when _ 10 1 _) _ (when-small _ (omega arith) (omega arith) place) (λ _. when-small _ (omega arith) (omega arith) place))
 
 pairing-small : (t : Tables) → SmallCheck (checkPairing t)
@@ -92,11 +101,11 @@ pairing-small t =
     let leaves = shape-taken 5 pairWidth maxPairs (t .leafPairs) e .few in
     then-small (when (isNil (rootRows t)) 9 4 0) _ (when-small (isNil (rootRows t)) (omega arith) (omega arith) (omega arith)) (λ _.
     then-small (when (isNil (leafRows t)) 9 5 0) _ (when-small (isNil (leafRows t)) (omega arith) (omega arith) (omega arith)) (λ _.
-    then-small (firstOf (checkPair 4 (isRoot (specGraph t)) (isRoot (implGraph t)) (rootRows t)) (rootRows t)) _
-    (pairs-small 4 (isRoot (specGraph t)) (isRoot (implGraph t)) (t .rootPairs) (omega arith) roots) (λ _.
-    then-small (firstOf (checkPair 5 (isLeaf (specGraph t)) (isLeaf (implGraph t)) (leafRows t)) (leafRows t)) _
-    (pairs-small 5 (isLeaf (specGraph t)) (isLeaf (implGraph t)) (t .leafPairs) (omega arith) leaves) (λ _.
-    visits-refused (specGraph t) (implGraph t) (t .rootPairs) (t .leafPairs) roots leaves))))))
+    then-small (firstOf (checkPair 4 (isRoot (specGraph t)) (isRoot (implGraph t)) (pos 0) sameRoot (rootRows t)) (rootRows t)) _
+    (pairs-small 4 (isRoot (specGraph t)) (isRoot (implGraph t)) (pos 0) sameRoot (t .rootPairs) (omega arith) roots) (λ _.
+    then-small (firstOf (checkPair 5 (isLeaf (specGraph t)) (isLeaf (implGraph t)) lastAt sameImpl (leafRows t)) (leafRows t)) _
+    (pairs-small 5 (isLeaf (specGraph t)) (isLeaf (implGraph t)) lastAt sameImpl (t .leafPairs) (omega arith) leaves) (λ _.
+    visits-refused t roots leaves))))))
 
 -- ---- all six tables
 

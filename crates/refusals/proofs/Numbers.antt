@@ -3,10 +3,11 @@ use Prim.Native.Nat.{_≤_}
 use native.Mathlib.Omega.{arith}
 use Rattle.model.specs.Answers.{refusalOf}
 use Rattle.model.specs.declared.Reason.{Reason}
-use Rattle.model.specs.declared.Reason.the-variants.{Shape, Node, Edge, FromBlock, Cycle, LongChain, NotRootOrLeaf, PairedBefore, NoPair, ManyPaths, LongOutput, Characters, Names, Values, NoCaller}
+use Rattle.model.specs.declared.Reason.the-variants.{Shape, Node, Edge, FromBlock, Cycle, LongChain, NotRootOrLeaf, PairedBefore, NoPair, ManyPaths, LongOutput, Characters, Names, Values, NoCaller, At}
+use Rattle.refusals.specs.Small.{lastNumber}
 
--- none is higher than 15
-pub number-few : (r : Reason) → refusalOf r .number ≤ 15
+-- none is higher than the last
+pub number-few : (r : Reason) → refusalOf r .number ≤ lastNumber
 number-few (Shape t) = omega arith
 number-few (Node t r) = omega arith
 number-few (Edge t r) = omega arith
@@ -22,3 +23,4 @@ number-few (Characters l) = omega arith
 number-few (Names l) = omega arith
 number-few (Values l) = omega arith
 number-few NoCaller = omega arith
+number-few (At t r) = omega arith

@@ -22,7 +22,7 @@ use Rattle.model.specs.Reader.{Layout, allowed, checkBytes, brokenOff, checkTex
 use Rattle.model.specs.TextCheck.{Reported, reportedOf, checkRead, textAnswer, reportOf, textGives}
 use Rattle.model.proofs.Checks.{then-none}
 use Rattle.refusals.specs.Small.{SmallRefusal, SmallCheck, SmallAnswer}
-use Rattle.refusals.proofs.Checks.{when-small, then-small, tables-small}
+use Rattle.refusals.proofs.Checks.{NumberOfText, when-small, then-small, tables-small}
 
 -- ---- 12
 
@@ -92,9 +92,9 @@ row-reading last row (stopped r) s = s
 row-reading last row (rows rs ls n) s = s
 
 module _ (most : ℕ) (low : most < 10000000) where
-  stop-small : (number n : ℕ) → (1 ≤ number) × (number ≤ 14) → n ≤ most → SmallReading most (stop number n)
+  stop-small : (number n : ℕ) → NumberOfText number → n ≤ most → SmallReading most (stop number n)
   unfolding stop
-  stop-small number n h i = record { least = h .0; number = h .1; table = omega arith; row = omega arith }
+  stop-small number n h i = record { least = h .0; number = h .1; noCaller = h .2; table = omega arith; row = omega arith }
 
   values-small : (last : Bool) (y : Layout) (n : ℕ) (ls : List Bytes) → n + length ls ≤ most → SmallReading most (readValues last y n ls)
   unfolding readValues

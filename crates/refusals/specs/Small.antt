@@ -1,7 +1,8 @@
 -- Refusals by their numbers, and the range of those that the text check gives: small enough to be printed and to be coded as one number. Assumes
 -- nothing.
+use mathlib.Core.Logic.{_≢_}
 use mathlib.Core.Option.{Option, none, some}
-use Prim.Native.Nat.{_≤_, _<_}
+use Prim.Native.Nat.{ℕ, _≤_, _<_}
 use Rattle.model.specs.Refusals as model
 use Rattle.model.specs.Calls.{Answer, refused, full}
 use Rattle.refusals.specs.declared.Refusal.{Refusal}
@@ -10,10 +11,15 @@ use Rattle.refusals.specs.declared.Refusal.{Refusal}
 abbrev pub refusalNumbers : Refusal → model.Refusal
 refusalNumbers r = record { number = r .number; table = r .table; row = r .row }
 
--- the number is one of 1 to 14, the table one of eight, and the row has at most seven digits
+-- the highest number of a refusal
+abbrev pub lastNumber : ℕ
+lastNumber = 16
+
+-- the number is one of 1 to 16 and not 15, which is about a caller, the table one of eight, and the row has at most seven digits
 pub record SmallRefusal (r : model.Refusal) : Type 0 where
   pub least : 1 ≤ r .number
-  pub number : r .number ≤ 14
+  pub number : r .number ≤ lastNumber
+  pub noCaller : r .number ≢ 15
   pub table : r .table < 8
   pub row : r .row < 10000000
 

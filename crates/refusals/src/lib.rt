@@ -45,5 +45,6 @@ pub fn refusal_numbers(reason: Reason) -> Refusal
         Reason::Names { line } => numbered(13, TEXT, line),
         Reason::Values { line } => numbered(14, TEXT, line),
         Reason::NoCaller => numbered(15, OUTPUT, 0),
+        Reason::At { table, row } => numbered(16, table, row),
     }
 }

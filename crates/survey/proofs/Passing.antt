@@ -7,15 +7,18 @@ use native.Mathlib.Nat.{mul-le-mul}
 use native.Mathlib.Numerals.{add-one}
 use native.Mathlib.Omega.{arith}
 use lib.IntN.{ℤ}
-use lib.ListN.{length, drop, length-append, length-map}
+use lib.ListN.{length, drop, length-append, length-map, drop-of-length-le}
 use Rattle.lists.specs.Lists.{_∈_}
+use Rattle.lists.proofs.Kept.{keep-length}
 use Rattle.model.specs.Limits.{pairWidth, maxPairs}
 use Rattle.model.specs.Rows.{Pair, pairsFrom}
-use Rattle.model.specs.Compare.{Tables, rootRows, leafRows, Visit, visits, Finding, findingOf, findings}
+use Rattle.model.specs.Compare.{Tables, rootRows, leafRows, isLowest, lowestRows, groups, Visit, visits, Finding, findingOf, findings}
 use Rattle.model.specs.Report.{findingLine}
 use Rattle.model.proofs.Visits.{visits-length}
 use Rattle.tables.specs.Tables.{pairAt}
 use Rattle.tables.proofs.Rows.{pairs-rest, pairs-end, pairs-length}
+use Rattle.grouping.specs.Links.{groupCount, groupRow, Linked}
+use Rattle.grouping.proofs.Passing.{group-next}
 use Rattle.pathlimit.specs.Inputs.{Inputs}
 use Rattle.pairs.specs.Found.{findingAt}
 use Rattle.reporting.specs.Lines.{maxVisits}
@@ -40,19 +43,20 @@ rows-next ps i h = subst (λ (k : ℕ). rowsLeft ps i ≡ pairAt ps i ∷ rowsLe
 rows-none : (ps : List ℤ) (i : ℕ) → length ps / pairWidth ≤ i → rowsLeft ps i ≡ []
 rows-none ps i h = pairs-end ps i (omega arith)
 
--- the findings of root row i from leaf row j on
+-- the findings of root row i from group k on
 abbrev pub pairsLeft : Tables → ℕ → ℕ → List Finding
-pairsLeft t i j = map (findingOf t) (map (λ l. record { root = pairAt (t .rootPairs) i; leaf = l }) (rowsLeft (t .leafPairs) j))
+pairsLeft t i k = map (findingOf t) (map (λ l. record { root = pairAt (t .rootPairs) i; leaf = l }) (drop k (groups t)))
 
-pub pairs-next : (t : Tables) (i j : ℕ) → j < length (t .leafPairs) / pairWidth → pairsLeft t i j ≡ findingAt t i j ∷ pairsLeft t i (j + 1)
-pairs-next t i j h = rw (rows-next (t .leafPairs) j h) refl
+module _ (t : Tables) {links : List ℕ} (linked : Linked (t .leafPairs) links) (i k : ℕ) where
+  pub pairs-next : k < groupCount links → pairsLeft t i k ≡ findingAt t i (groupRow links k) ∷ pairsLeft t i (k + 1)
+  pairs-next h = rw (add-one k, group-next linked k h) refl
 
-pub pairs-none : (t : Tables) (i j : ℕ) → length (t .leafPairs) / pairWidth ≤ j → pairsLeft t i j ≡ []
-pairs-none t i j h = rw (rows-none (t .leafPairs) j h) refl
+  pub pairs-none : groupCount links ≤ k → pairsLeft t i k ≡ []
+  pairs-none h = rw (drop-of-length-le (groups t) {i = k} (omega (arith, h, linked .count))) refl
 
 -- the findings from root row i on
 unfoldable pub findingsLeft : Tables → ℕ → List Finding
-findingsLeft t i = map (findingOf t) (visits (rowsLeft (t .rootPairs) i) (leafRows t))
+findingsLeft t i = map (findingOf t) (visits (rowsLeft (t .rootPairs) i) (groups t))
 
 pub findings-all : (t : Tables) → findingsLeft t 0 ≡ findings t
 unfolding findingsLeft findings
@@ -68,26 +72,30 @@ findings-none t i h = rw (rows-none (t .rootPairs) i h) refl
 
 -- ---- how many there are
 
--- as many findings of a root row as leaf rows
-pub row-count : (t : Tables) (i : ℕ) → length (rowFindings t i) ≡ length (t .leafPairs) / pairWidth
+-- as many findings of a root row as groups
+pub row-count : (t : Tables) (i : ℕ) → length (rowFindings t i) ≡ length (groups t)
 row-count t i =
     let visited : Pair → Visit = λ l. record { root = pairAt (t .rootPairs) i; leaf = l } in
-    length-map (map visited (leafRows t)) (findingOf t) ∙ length-map (leafRows t) visited ∙ pairs-length (t .leafPairs)
+    length-map (map visited (groups t)) (findingOf t) ∙ length-map (groups t) visited
 
--- in all, root rows times leaf rows
-pub findings-count : (t : Tables) → length (findings t) ≡ length (t .rootPairs) / pairWidth * (length (t .leafPairs) / pairWidth)
+-- in all, root rows times groups
+pub findings-count : (t : Tables) → length (findings t) ≡ length (t .rootPairs) / pairWidth * length (groups t)
 unfolding findings
 findings-count t =
-    length-map (visits (rootRows t) (leafRows t)) (findingOf t)
-    ∙ visits-length (rootRows t) (leafRows t)
-    ∙ rw (pairs-length (t .rootPairs), pairs-length (t .leafPairs)) refl
+    length-map (visits (rootRows t) (groups t)) (findingOf t)
+    ∙ visits-length (rootRows t) (groups t)
+    ∙ rw (pairs-length (t .rootPairs)) refl
+
+-- groups are no more than leaf rows
+pub groups-few : {t : Tables} → Inputs t → length (groups t) ≤ maxPairs
+unfolding lowestRows
+groups-few {t} k = omega (arith, keep-length (isLowest (leafRows t)) (leafRows t), pairs-length (t .leafPairs), k .leafShape .few)
 
 -- at most 1,000,000
 pub findings-few : {t : Tables} → Inputs t → length (findings t) ≤ maxVisits
 findings-few {t} k =
     let roots : length (t .rootPairs) / pairWidth ≤ maxPairs = omega (arith, k .rootShape .few) in
-    let leaves : length (t .leafPairs) / pairWidth ≤ maxPairs = omega (arith, k .leafShape .few) in
-    omega (arith, findings-count t, mul-le-mul roots leaves)
+    omega (arith, findings-count t, mul-le-mul roots (groups-few k))
 
 -- ---- what is kept
 
@@ -124,30 +132,32 @@ module _ {all : List Finding} {lines : List ℕ} {k : Kept} where
 
 -- ---- the pairs of a root row
 
-module _ (t : Tables) (i j : ℕ) where
-  -- there is room for what is found of root row i and leaf row j
-  pub pair-room : j < length (t .leafPairs) / pairWidth → {lines lines′ : List ℕ} {k k′ : Kept} → RowRoom t lines k
-      → ((fs : List Finding) → KeptOf fs lines k → Passed (fs ++ rowFindings t i) (pairsLeft t i j) lines′ k′) → RoomFor 1 k′
-  pair-room h {lines′ = lines′} room passed =
-      let p = passed (room .fs) (room .kept) in
-      record {
-        fs = p .fs;
-        lines = lines′;
-        kept = p .kept;
-        few = omega (arith, planned-count p, ap length (pairs-next t i j h), length-append (room .fs) (rowFindings t i), row-count t i, room .few);
-      }
+module _ (t : Tables) {links : List ℕ} (linked : Linked (t .leafPairs) links) (i k : ℕ) where
+  module _ (h : k < groupCount links) where
+    -- there is room for what is found of root row i and group k
+    pub pair-room : {lines lines′ : List ℕ} {kept kept′ : Kept} → RowRoom t lines kept
+        → ((fs : List Finding) → KeptOf fs lines kept → Passed (fs ++ rowFindings t i) (pairsLeft t i k) lines′ kept′) → RoomFor 1 kept′
+    pair-room {lines′ = lines′} room passed =
+        let p = passed (room .fs) (room .kept) in
+        record {
+          fs = p .fs;
+          lines = lines′;
+          kept = p .kept;
+          few = omega (arith, planned-count p, ap length (pairs-next t linked i k h), length-append (room .fs) (rowFindings t i), row-count t i, room .few);
+        }
 
-  -- and once it is added one more is kept
-  pub pair-passed : j < length (t .leafPairs) / pairWidth → {all : List Finding} {asked : Bool} {f : Found} {lines lines′ : List ℕ} {k k′ : Kept}
-      → Passed all (pairsLeft t i j) lines k → IsFinding (findingAt t i j) asked f → asked ≡ isAsked k → Added k lines i j f k′ lines′ → Passed all (pairsLeft t i (j + 1)) lines′ k′
-  unfolding findingOf
-  pair-passed h {all} {f = f} {lines} {k = k} p q e a =
-      passed-on (subst (λ (l : List Finding). Passed all l lines k) (pairs-next t i j h) p) (λ fs kept. a .kept fs (findingAt t i j) refl refl (subst (λ (b : Bool). IsFinding (findingAt t i j) b f) e q) kept)
+    -- and once it is added one more is kept
+    pub pair-passed : {all : List Finding} {asked : Bool} {f : Found} {lines lines′ : List ℕ} {kept kept′ : Kept} {j : ℕ} → j ≡ groupRow links k
+        → Passed all (pairsLeft t i k) lines kept → IsFinding (findingAt t i j) asked f → asked ≡ isAsked kept → Added kept lines i j f kept′ lines′
+        → Passed all (pairsLeft t i (k + 1)) lines′ kept′
+    unfolding findingOf
+    pair-passed {all} {asked} {f} {lines} {kept = kept} {j = j} at p q e a =
+        let next = pairs-next t linked i k h ∙ ap (λ (g : ℕ). findingAt t i g ∷ pairsLeft t i (k + 1)) (sym at) in
+        passed-on (subst (λ (l : List Finding). Passed all l lines kept) next p) (λ fs were. a .kept fs (findingAt t i j) refl refl (subst (λ (b : Bool). IsFinding (findingAt t i j) b f) e q) were)
 
-  -- behind the last leaf row all are kept
-  pub pairs-passed : length (t .leafPairs) / pairWidth ≤ j → {all : List Finding} {lines : List ℕ} {k : Kept} → Passed all (pairsLeft t i j) lines k
-      → KeptOf all lines k
-  pairs-passed h {all} {lines} {k} p = passed-end (subst (λ (l : List Finding). Passed all l lines k) (pairs-none t i j h) p)
+  -- behind the last group all are kept
+  pub pairs-passed : groupCount links ≤ k → {all : List Finding} {lines : List ℕ} {kept : Kept} → Passed all (pairsLeft t i k) lines kept → KeptOf all lines kept
+  pairs-passed h {all} {lines} {kept} p = passed-end (subst (λ (l : List Finding). Passed all l lines kept) (pairs-none t linked i k h) p)
 
 -- ---- the root rows
 
@@ -191,7 +201,7 @@ surveyed inputs p whole =
 
 -- what a survey gives where no finding has a record, and as many were added as there are
 pub surveyed-bare : {t : Tables} {lines : List ℕ} {none all : Kept} {room : ℕ} → Inputs t → ((f : Finding) → f ∈ findings t → Bare f) → KeptNone none
-    → EqualAdded none (length (t .rootPairs) / pairWidth * (length (t .leafPairs) / pairWidth)) all → Surveyed t room all lines
+    → EqualAdded none (length (t .rootPairs) / pairWidth * length (groups t)) all → Surveyed t room all lines
 surveyed-bare {t} {lines} inputs bare none added =
     let kept = added .kept [] (findings t) lines (findings-count t) bare (none lines) in
     surveyed inputs (record { fs = findings t; kept = kept; split = append-nil (findings t) }) (λ _. kept)

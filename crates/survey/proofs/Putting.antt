@@ -16,7 +16,7 @@ use Rattle.pathlimit.specs.Inputs.{Inputs}
 use Rattle.totals.specs.declared.Kept.{Kept}
 use Rattle.totals.specs.Kept.{KeptOf}
 use Rattle.survey.specs.Survey.{rowFindings}
-use Rattle.survey.proofs.Passing.{findingsLeft, findings-all, findings-next, findings-none, row-count}
+use Rattle.survey.proofs.Passing.{findingsLeft, findings-all, findings-next, findings-none, row-count, groups-few}
 
 -- the lines of the root rows before row i are written: with those of the root rows that are left they are the lines of all
 pub record Putting (t : Tables) (i : ℕ) (old out : Bytes) (at : ℕ) : Type 0 where
@@ -45,7 +45,7 @@ module _ (t : Tables) (i : ℕ) {old out : Bytes} {at : ℕ} (p : Putting t i ol
       (room : maxPairs ≤ length lines) where
     -- the lines of root row i are held
     pub row-held : k .count ≤ length lines
-    row-held = omega (arith, kept .count, row-count t i, inputs .leafShape .few, room)
+    row-held = omega (arith, kept .count, row-count t i, groups-few inputs, room)
 
     -- and come next
     next : (p .done ++ linesOf (take (k .count) lines)) ++ flatMap findingLine (findingsLeft t (i + 1)) ≡ flatMap findingLine (findings t)

@@ -1,4 +1,4 @@
-// What is kept of all pairs of a comparison, root row by root row, since one sweep of each graph serves all leaves of a root; and their lines, written row
+// What is kept of all pairs of a comparison, root row by root row, since one sweep of each graph serves all groups of leaves; and their lines, written row
 // by row.
 ghost use mathlib.Core.List.{flatMap};
 ghost use Prim.Native.Nat.{_/_, _≤_, _<_};
@@ -14,6 +14,8 @@ ghost use Rattle.survey.specs.Survey.{RowSweepable, RowSwept, RowFindabl
 use arrivals::STATE_ROOM;
 use arrivals::sweep_root;
 use forward::planned_count;
+use grouping::group_count;
+use grouping::group_row;
 use model::MAX_NUMBERS;
 use model::PAIR_WIDTH;
 use pairing::impl_node;
@@ -69,7 +71,7 @@ fn sweep_row(
     );
 }
 
-// What is kept with the pairs of one root row, leaf row by leaf row, once both graphs are swept from its roots. The address of a pair is asked for while no
+// What is kept with the pairs of one root row, group by group, once both graphs are swept from its roots. A group is told by its lowest row. The address of a pair is asked for while no
 // pair was unequal: that of a later one is not kept.
 fn found_of_pairs(
     spec_nodes: &[i64],
@@ -77,6 +79,7 @@ fn found_of_pairs(
     impl_nodes: &[i64],
     impl_edges: &[i64],
     leaf_pairs: &[i64],
+    links: &[usize],
     spec_plan: &[usize],
     impl_plan: &[usize],
     spec_state: &mut [i64],
@@ -88,23 +91,25 @@ fn found_of_pairs(
 ) -> Kept
     requires { ⌜
         RowFindable (λ roots. tablesOf (now «spec_nodes») (now «spec_edges») (now «impl_nodes») (now «impl_edges») roots (now «leaf_pairs»)) «root_row»
-        (now «spec_plan») (now «impl_plan») (now «spec_state») (now «impl_state») (now spare) (now lines) kept ⌝ }
+        (now «spec_plan») (now «impl_plan») (now links) (now «spec_state») (now «impl_state») (now spare) (now lines) kept ⌝ }
     ensures { λ r. ⌜
         RowFound
         (λ roots. tablesOf (now («spec_nodes» .entry)) (now («spec_edges» .entry)) (now («impl_nodes» .entry)) (now («impl_edges» .entry)) roots
-        (now («leaf_pairs» .entry))) «root_row» (now («spec_plan» .entry)) (now («impl_plan» .entry))
+        (now («leaf_pairs» .entry))) «root_row» (now («spec_plan» .entry)) (now («impl_plan» .entry)) (now (links .entry))
         (now («spec_state» .entry)) (now («impl_state» .entry)) (now (spare .entry)) (now (lines .entry)) kept (now (lines .exit)) r ⌝ }
 {
-    let count = leaf_pairs.len() / PAIR_WIDTH;
+    let count = group_count(links);
     let mut kept = kept;
-    let mut leaf_row: usize = 0;
-    while leaf_row < count {
+    let mut group: usize = 0;
+    while group < count {
+        let leaf_row = group_row(links, group);
         let found = pair_found(
             spec_nodes,
             spec_edges,
             impl_nodes,
             impl_edges,
             leaf_pairs,
+            links,
             spec_plan,
             impl_plan,
             spec_state,
@@ -114,7 +119,7 @@ fn found_of_pairs(
             address_asked(kept),
         );
         kept = with_pair(lines, kept, root_row, leaf_row, found);
-        leaf_row += 1;
+        group += 1;
     }
     kept
 }
@@ -127,6 +132,7 @@ fn found_of_all(
     impl_edges: &[i64],
     root_pairs: &[i64],
     leaf_pairs: &[i64],
+    links: &[usize],
     spec_plan: &[usize],
     impl_plan: &[usize],
     spec_state: &mut [i64],
@@ -137,7 +143,7 @@ fn found_of_all(
 ) -> Kept
     requires { ⌜
         Ready (tablesOf (now «spec_nodes») (now «spec_edges») (now «impl_nodes») (now «impl_edges») (now «root_pairs») (now «leaf_pairs»))
-        (now «spec_plan») (now «impl_plan»)
+        (now «spec_plan») (now «impl_plan») (now links)
         × Rooms (now «spec_state») (now «impl_state») (now spare) ⌝ }
     ensures { λ r. ⌜
         Surveyed
@@ -170,6 +176,7 @@ fn found_of_all(
             impl_nodes,
             impl_edges,
             leaf_pairs,
+            links,
             spec_plan,
             impl_plan,
             spec_state,
@@ -194,6 +201,7 @@ pub fn survey(
     impl_edges: &[i64],
     root_pairs: &[i64],
     leaf_pairs: &[i64],
+    links: &[usize],
     spec_plan: &[usize],
     impl_plan: &[usize],
     room: usize,
@@ -201,7 +209,7 @@ pub fn survey(
 ) -> Kept
     requires { ⌜
         Ready (tablesOf (now «spec_nodes») (now «spec_edges») (now «impl_nodes») (now «impl_edges») (now «root_pairs») (now «leaf_pairs»))
-        (now «spec_plan») (now «impl_plan») ⌝ }
+        (now «spec_plan») (now «impl_plan») (now links) ⌝ }
     ensures { λ r. ⌜
         Surveyed
         (tablesOf (now («spec_nodes» .entry)) (now («spec_edges» .entry)) (now («impl_nodes» .entry)) (now («impl_edges» .entry))
@@ -210,7 +218,7 @@ pub fn survey(
     if planned_count(spec_plan) + planned_count(impl_plan) == 0 {
         return with_equal(
             no_pair(),
-            root_pairs.len() / PAIR_WIDTH * (leaf_pairs.len() / PAIR_WIDTH),
+            root_pairs.len() / PAIR_WIDTH * group_count(links),
         );
     }
     let mut spec_state = [0i64; STATE_ROOM];
@@ -223,6 +231,7 @@ pub fn survey(
         impl_edges,
         root_pairs,
         leaf_pairs,
+        links,
         spec_plan,
         impl_plan,
         &mut spec_state,
@@ -241,6 +250,7 @@ fn put_rows(
     impl_edges: &[i64],
     root_pairs: &[i64],
     leaf_pairs: &[i64],
+    links: &[usize],
     spec_plan: &[usize],
     impl_plan: &[usize],
     spec_state: &mut [i64],
@@ -251,7 +261,7 @@ fn put_rows(
 ) -> usize
     requires { ⌜
         Ready (tablesOf (now «spec_nodes») (now «spec_edges») (now «impl_nodes») (now «impl_edges») (now «root_pairs») (now «leaf_pairs»))
-        (now «spec_plan») (now «impl_plan»)
+        (now «spec_plan») (now «impl_plan») (now links)
         × Rooms (now «spec_state») (now «impl_state») (now spare) × (maxPairs ≤ length (now lines))
         × (length (flatMap findingLine (findings (tablesOf (now «spec_nodes») (now «spec_edges») (now «impl_nodes») (now «impl_edges») (now «root_pairs») (now «leaf_pairs»))))
         ≤ length (now out)) ⌝ }
@@ -283,6 +293,7 @@ fn put_rows(
             impl_nodes,
             impl_edges,
             leaf_pairs,
+            links,
             spec_plan,
             impl_plan,
             spec_state,
@@ -306,6 +317,7 @@ pub fn put_all(
     impl_edges: &[i64],
     root_pairs: &[i64],
     leaf_pairs: &[i64],
+    links: &[usize],
     spec_plan: &[usize],
     impl_plan: &[usize],
     lines: &mut [usize],
@@ -313,7 +325,7 @@ pub fn put_all(
 ) -> usize
     requires { ⌜
         Ready (tablesOf (now «spec_nodes») (now «spec_edges») (now «impl_nodes») (now «impl_edges») (now «root_pairs») (now «leaf_pairs»))
-        (now «spec_plan») (now «impl_plan»)
+        (now «spec_plan») (now «impl_plan») (now links)
         × (maxPairs ≤ length (now lines))
         × (length (flatMap findingLine (findings (tablesOf (now «spec_nodes») (now «spec_edges») (now «impl_nodes») (now «impl_edges») (now «root_pairs») (now «leaf_pairs»))))
         ≤ length (now out)) ⌝ }
@@ -332,6 +344,7 @@ pub fn put_all(
         impl_edges,
         root_pairs,
         leaf_pairs,
+        links,
         spec_plan,
         impl_plan,
         &mut spec_state,

@@ -11,7 +11,7 @@ use Rattle.reporting.specs.Lines.{linesOf}
 
 -- tables that are ready to be compared, and their lines, so many, in front of `lines` where there is room for all of them; in any case there is room for
 -- those of a root row
-pub record Reportable (t : Tables) (specPlan implPlan lines : List ℕ) (count : ℕ) : Type 0 where
-  pub ready : Ready t specPlan implPlan
+pub record Reportable (t : Tables) (specPlan implPlan links lines : List ℕ) (count : ℕ) : Type 0 where
+  pub ready : Ready t specPlan implPlan links
   pub held : count ≤ length lines → linesOf (take count lines) ≡ flatMap findingLine (findings t)
   pub room : maxPairs ≤ length lines

@@ -14,6 +14,7 @@ ghost use Rattle.reporting.specs.Lines.{reportFrom, SmallResult};
 ghost use Rattle.tablecheck.specs.Reports.{Reportable};
 ghost use Rattle.tablecheck.specs.Outcomes.{Gives};
 use forward::PLAN_ROOM;
+use grouping::LINK_ROOM;
 use model::Checked;
 use model::Reason;
 use model::Verdict;
@@ -43,6 +44,7 @@ fn put_pairs(
     impl_edges: &[i64],
     root_pairs: &[i64],
     leaf_pairs: &[i64],
+    links: &[usize],
     spec_plan: &[usize],
     impl_plan: &[usize],
     lines: &mut [usize],
@@ -50,7 +52,7 @@ fn put_pairs(
     out: &mut [u8],
 ) -> usize
     requires { ⌜
-        Reportable (tablesOf (now «spec_nodes») (now «spec_edges») (now «impl_nodes») (now «impl_edges») (now «root_pairs») (now «leaf_pairs»)) (now «spec_plan») (now «impl_plan») (now lines)
+        Reportable (tablesOf (now «spec_nodes») (now «spec_edges») (now «impl_nodes») (now «impl_edges») (now «root_pairs») (now «leaf_pairs»)) (now «spec_plan») (now «impl_plan») (now links) (now lines)
         count
         × (length (flatMap findingLine (findings (tablesOf (now «spec_nodes») (now «spec_edges») (now «impl_nodes») (now «impl_edges») (now «root_pairs») (now «leaf_pairs»)))) ≤ length (now out)) ⌝ }
     ensures { λ n. ⌜
@@ -69,6 +71,7 @@ fn put_pairs(
         impl_edges,
         root_pairs,
         leaf_pairs,
+        links,
         spec_plan,
         impl_plan,
         lines,
@@ -84,6 +87,7 @@ fn put_report(
     impl_edges: &[i64],
     root_pairs: &[i64],
     leaf_pairs: &[i64],
+    links: &[usize],
     spec_plan: &[usize],
     impl_plan: &[usize],
     lines: &mut [usize],
@@ -91,7 +95,7 @@ fn put_report(
     out: &mut [u8],
 ) -> usize
     requires { ⌜
-        Reportable (tablesOf (now «spec_nodes») (now «spec_edges») (now «impl_nodes») (now «impl_edges») (now «root_pairs») (now «leaf_pairs»)) (now «spec_plan») (now «impl_plan») (now lines)
+        Reportable (tablesOf (now «spec_nodes») (now «spec_edges») (now «impl_nodes») (now «impl_edges») (now «root_pairs») (now «leaf_pairs»)) (now «spec_plan») (now «impl_plan») (now links) (now lines)
         (kept .count)
         × SmallResult (comparisonResult (kept .result))
         × (length (reportFrom (flatMap findingLine (findings (tablesOf (now «spec_nodes») (now «spec_edges») (now «impl_nodes») (now «impl_edges») (now «root_pairs») (now «leaf_pairs»))))
@@ -113,6 +117,7 @@ fn put_report(
             impl_edges,
             root_pairs,
             leaf_pairs,
+            links,
             spec_plan,
             impl_plan,
             lines,
@@ -141,6 +146,7 @@ pub fn check_tables(
 {
     let mut spec_plan = [0usize; PLAN_ROOM];
     let mut impl_plan = [0usize; PLAN_ROOM];
+    let mut links = [0usize; LINK_ROOM];
     let c = prepare(
         spec_nodes,
         spec_edges,
@@ -150,6 +156,7 @@ pub fn check_tables(
         leaf_pairs,
         &mut spec_plan,
         &mut impl_plan,
+        &mut links,
     );
     if let Checked::Refused(reason) = c {
         return Outcome::Refused(reason);
@@ -163,6 +170,7 @@ pub fn check_tables(
         impl_edges,
         root_pairs,
         leaf_pairs,
+        &links,
         &spec_plan,
         &impl_plan,
         room,
@@ -183,6 +191,7 @@ pub fn check_tables(
         impl_edges,
         root_pairs,
         leaf_pairs,
+        &links,
         &spec_plan,
         &impl_plan,
         &mut lines,

@@ -190,15 +190,17 @@ unfolding pairsFrom
 pairs-rest ps i h =
     rw (
       drop-next ps (pairWidth * i) (pairWidth * i + 1) (omega arith) (omega arith),
-      drop-next ps (pairWidth * i + 1) (pairWidth * suc i) (omega arith) (omega arith),
+      drop-next ps (pairWidth * i + 1) (pairWidth * i + 2) (omega arith) (omega arith),
+      drop-next ps (pairWidth * i + 2) (pairWidth * suc i) (omega arith) (omega arith),
     )
 
--- fewer than two numbers are no row
+-- fewer numbers than a pair row has are no row
 pairs-short : (i : ℕ) (l : List ℤ) → length l < pairWidth → pairsFrom i l ≡ []
 unfolding pairsFrom
 pairs-short i [] h = refl
 pairs-short i (s ∷ []) h = refl
-pairs-short i (s ∷ m ∷ l) h = absurd (omega arith)
+pairs-short i (s ∷ m ∷ []) h = refl
+pairs-short i (s ∷ m ∷ a ∷ l) h = absurd (omega arith)
 
 -- the pair rows from row i on, where it is not there
 pub pairs-end : (ps : List ℤ) (i : ℕ) → length ps < pairWidth * i + pairWidth → pairsFrom i (drop (pairWidth * i) ps) ≡ []

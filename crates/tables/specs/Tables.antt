@@ -24,7 +24,8 @@ edgeAt es e =
 
 -- row k of a pair table
 abbrev pub pairAt : List ℤ → ℕ → Pair
-pairAt ps k = record { row = k; spec = getD ps (pairWidth * k) (pos 0); impl = getD ps (pairWidth * k + 1) (pos 0) }
+pairAt ps k =
+    record { row = k; spec = getD ps (pairWidth * k) (pos 0); impl = getD ps (pairWidth * k + 1) (pos 0); at = getD ps (pairWidth * k + 2) (pos 0) }
 
 -- what was read of a node row, as row v
 abbrev pub nodeOf : ℕ → NodeRow → Node

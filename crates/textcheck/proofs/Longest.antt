@@ -17,7 +17,9 @@ use Rattle.lists.specs.Lists.{_∈_, isNil}
 use Rattle.model.specs.Bytes.{Bytes, lineFeed, blank, shown, spaced}
 use Rattle.model.specs.Rows.{Pair}
 use Rattle.model.specs.Limits.{maxPairs}
-use Rattle.model.specs.Compare.{Tables, specGraph, implGraph, visits, Finding, findingOf, verdictOf, Place, nowhere, Result, rootRows, leafRows, findings, resultOf}
+use Rattle.model.proofs.GroupRows.{group-leaf}
+use Rattle.model.proofs.Groups.{group-list-few}
+use Rattle.model.specs.Compare.{Tables, specGraph, implGraph, banks, visits, Finding, findingOf, verdictOf, Place, nowhere, Result, rootRows, groups, findings, resultOf}
 use Rattle.model.specs.Checks.{checkTables}
 use Rattle.model.specs.Refusals.{NoneHolds, compareConditions, outputConditions}
 use Rattle.model.specs.Report.{lineOf, findingLine, resultLine, report}
@@ -130,17 +132,17 @@ module _ (t : Tables) (taken : checkTables t ≡ none) where
   inputs = tables-inputs t taken
 
   -- rows of pairs have at most three digits
-  rows-low : {r l : Pair} → r ∈ rootRows t → l ∈ leafRows t → (r .row < maxPairs) × (l .row < maxPairs)
+  rows-low : {r l : Pair} → r ∈ rootRows t → l ∈ groups t → (r .row < maxPairs) × (l .row < maxPairs)
   rows-low p q =
-      (omega (arith, pair-own (t .rootPairs) p .0, inputs .0 .rootShape .few), omega (arith, pair-own (t .leafPairs) q .0, inputs .0 .leafShape .few))
+      (omega (arith, pair-own (t .rootPairs) p .0, inputs .0 .rootShape .few), omega (arith, pair-own (t .leafPairs) (group-leaf t q) .0, inputs .0 .leafShape .few))
 
   -- and lists at most four
   findings-small : (f : Finding) → f ∈ findings t → SmallFinding f
   unfolding findings findingOf
   findings-small f m =
-      let w = map-out (findingOf t) (visits (rootRows t) (leafRows t)) m in
+      let w = map-out (findingOf t) (visits (rootRows t) (groups t)) m in
       let v = w .0 in
-      let paired = visits-in (rootRows t) (leafRows t) .0 (w .1) in
+      let paired = visits-in (rootRows t) (groups t) .0 (w .1) in
       let low = rows-low (paired .0) (paired .1) in
       let few = inputs .1 v (w .1) in
       rw (w .2)
@@ -148,7 +150,7 @@ module _ (t : Tables) (taken : checkTables t ≡ none) where
         root = low .0;
         leaf = low .1;
         spec = omega (arith, list-few (specGraph t) (v .root .spec) (v .leaf .spec), few .0);
-        impl = omega (arith, list-few (implGraph t) (v .root .impl) (v .leaf .impl), few .1);
+        impl = omega (arith, group-list-few (implGraph t) (v .root .impl) (banks t (v .leaf)), few .1);
       })
 
   difference-short : {res : Result} → FirstDifference t res → ShortPlace (res .place)
@@ -186,13 +188,13 @@ result-longest res low small place =
 
 -- ---- the report
 
-findings-count : (t : Tables) → length (findings t) ≡ length (rootRows t) * length (leafRows t)
+findings-count : (t : Tables) → length (findings t) ≡ length (rootRows t) * length (groups t)
 unfolding findings
-findings-count t = length-map (visits (rootRows t) (leafRows t)) (findingOf t) ∙ visits-length (rootRows t) (leafRows t)
+findings-count t = length-map (visits (rootRows t) (groups t)) (findingOf t) ∙ visits-length (rootRows t) (groups t)
 
 -- the report of tables that meet no condition has at most 131 bytes and 20 for each pair
 pub report-longest : (t : Tables) → NoneHolds (compareConditions t)
-    → length (report (findings t)) ≤ 131 + 20 * (length (rootRows t) * length (leafRows t))
+    → length (report (findings t)) ≤ 131 + 20 * (length (rootRows t) * length (groups t))
 report-longest t h =
     let taken = settled-none (checkTables t) (compareConditions t) (compare-settled t) .1 h in
     let res = resultOf (findings t) in
@@ -208,7 +210,7 @@ report-longest t h =
     ))
 
 -- so with a buffer of that length no condition is met: refusal 11 is not given
-pub longest-held : (t : Tables) (room : ℕ) → NoneHolds (compareConditions t) → 131 + 20 * (length (rootRows t) * length (leafRows t)) ≤ room
+pub longest-held : (t : Tables) (room : ℕ) → NoneHolds (compareConditions t) → 131 + 20 * (length (rootRows t) * length (groups t)) ≤ room
     → NoneHolds (reportConditions room t)
 unfolding reportConditions outputConditions
 longest-held t room h fits =

@@ -83,7 +83,7 @@ pub record RoomFor (n : ℕ) (k : Kept) : Type 0 where
   pub kept : KeptOf fs lines k
   pub few : length fs + n ≤ maxVisits
 
--- what is found of the pair of root row i and leaf row j can be added
+-- what is found of the pair of root row i and the group of lowest row j can be added
 pub record PairAddable (k : Kept) (i j : ℕ) (r : Found) : Type 0 where
   pub room : RoomFor 1 k
   pub small : SmallLine i j (r .spec) (r .implementation)

@@ -17,7 +17,7 @@ free-row-requires c κs = swept-free (c .before .before .pre .state)
 append-bank-requires : tie.Need-append-bank-requires
 append-bank-requires c κs =
     let f = c .before .before in
-    (askable-appendable (start f .pre) (f .free-row .ensures), zero-small (c .before .leaf-start .ensures))
+    (askable-appendable (start f .pre) (f .free-row .ensures), zero-small (c .before .leaf-bit .ensures))
 
 join-banks-requires : tie.Need-join-banks-requires
 join-banks-requires c κs =
@@ -32,7 +32,7 @@ returns c root w =
     let b = m .before .before .before .before in
     let f = b .before .before .before in
     let s = start f in
-    one-answered (s .args .leaf) (b .before .before .leaf-start .ensures)
+    one-answered (s .args .leaf) (b .before .before .leaf-bit .ensures)
     (m .join-banks .ensures (s .args .nodes .now) (s .args .edges .now) (s .args .plan .now) root _ (b .append-bank .ensures root [] (gathering-start w (f .free-row .ensures))))
 
 pub list-at-spec : {M : Type 1} → statement M

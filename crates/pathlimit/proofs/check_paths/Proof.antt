@@ -15,24 +15,25 @@ use Rattle.tables.proofs.Checks.{checked, Left, left-none, left-on, left-stops}
 use Rattle.pairing.specs.Pairs.{tablesOf}
 use Rattle.tables.proofs.Rows.{pairs-rest, pairs-end}
 use Rattle.pathlimit.specs.Checks.{checkRow}
+use Rattle.pathlimit.proofs.Inputs.{root-row-below}
 use Rattle.pathlimit.proofs.Rows.{paths-rows}
 use Rattle.pathlimit.proofs.Unplanned.{unplanned-taken}
 use Rattle.pathlimit.proofs.check_paths.Statement.{statement}
 use Rattle.pathlimit.proofs.check_paths.Tie as tie
 
 abbrev Inv-loop : tie.InvT-loop
-Inv-loop spec-nodes spec-edges impl-nodes impl-edges root-pairs leaf-pairs spec-plan impl-plan spec-counts₀ impl-counts₀ count root-row₀ spec-counts impl-counts root-row =
+Inv-loop spec-nodes spec-edges impl-nodes impl-edges root-pairs leaf-pairs spec-plan impl-plan links spec-counts₀ impl-counts₀ count root-row₀ spec-counts impl-counts root-row =
     (length spec-counts ≡ length spec-counts₀) × (length impl-counts ≡ length impl-counts₀)
     × Left (checkRow (tablesOf spec-nodes spec-edges impl-nodes impl-edges root-pairs leaf-pairs)) (pairRows root-pairs)
     (pairsFrom root-row (drop (pairWidth * root-row) root-pairs))
 
 abbrev μ-loop : tie.MeasureT-loop
-μ-loop spec-nodes spec-edges impl-nodes impl-edges root-pairs leaf-pairs spec-plan impl-plan spec-counts₀ impl-counts₀ count root-row₀ spec-counts impl-counts root-row =
+μ-loop spec-nodes spec-edges impl-nodes impl-edges root-pairs leaf-pairs spec-plan impl-plan links spec-counts₀ impl-counts₀ count root-row₀ spec-counts impl-counts root-row =
     count - root-row
 
 -- the entry of the function, from where the edges of both plans are counted, and from the loop
 abbrev entry : tie.After-planned-count2 Inv-loop μ-loop → tie.Start Inv-loop μ-loop
-entry c = c .before .before .before .before .before .before
+entry c = c .before .before .before .before .before .before .before
 
 abbrev start : tie.At-loop Inv-loop μ-loop → tie.Start Inv-loop μ-loop
 start l = entry (l .before .before)
@@ -46,11 +47,11 @@ tables s =
 -- the counts keep their sizes in a turn
 sizes : (k : tie.After-check-row Inv-loop μ-loop)
     → let s = start (k .before .before .before .before) in
-    let after = k .check-row .last .1 .1 .1 .1 .1 .1 .1 .1 .1 in
+    let after = k .check-row .last .1 .1 .1 .1 .1 .1 .1 .1 .1 .1 in
     (length (after .0) ≡ length (s .args .spec-counts .now)) × (length (after .1 .0) ≡ length (s .args .impl-counts .now))
 sizes k =
     let l = k .before .before .before .before in
-    let kept = k .check-row .kept .1 .1 .1 .1 .1 .1 .1 .1 .1 in
+    let kept = k .check-row .kept .1 .1 .1 .1 .1 .1 .1 .1 .1 .1 in
     (kept .0 ∙ l .loop .inv .0, kept .1 .0 ∙ l .loop .inv .1)
 
 returns : tie.Need-returns Inv-loop μ-loop
@@ -86,7 +87,9 @@ returns-2 c =
     ∙ ap checked (sym (paths-rows (tables s)))
 
 add-root-row : tie.Need-add-root-row Inv-loop μ-loop
-add-root-row c = omega arith
+add-root-row c =
+    let t = c .before .before .before .before .before .before .before .before .before in
+    omega (arith, root-row-below (start (t .before) .pre .0 .inputs) (t .before .loop .root-row) (t .loop-test .taken))
 
 loop-less : tie.Need-loop-less Inv-loop μ-loop
 loop-less c = omega arith

@@ -7,13 +7,13 @@ use Rattle.model.specs.Paths.{Root}
 use Rattle.tables.proofs.Checks.{checked}
 use Rattle.tables.specs.Tables.{pairAt}
 use Rattle.pathlimit.proofs.Inputs.{row-roots}
-use Rattle.pathlimit.proofs.Rows.{spec-countable, impl-countable, leaves-counted, row-checked}
+use Rattle.pathlimit.proofs.Rows.{spec-countable, impl-countable, groups-counted, row-checked}
 use Rattle.pathlimit.proofs.check_row.Statement.{statement}
 use Rattle.pathlimit.proofs.check_row.Tie as tie
 
 -- the entry of the function, from where both roots are read
 abbrev start : tie.After-impl-node → tie.Start
-start k = k .before .before .before .before .before .before
+start k = k .before .before .before .before .before .before .before
 
 -- the nodes of the root row are roots
 roots : (s : tie.Start)
@@ -23,10 +23,10 @@ roots : (s : tie.Start)
 roots s = row-roots (s .pre .0 .inputs) (s .args .root-row) (s .pre .3)
 
 spec-node-requires : tie.Need-spec-node-requires
-spec-node-requires c κs = let s = c .before .before .before .before in (omega (arith, s .pre .3), roots s .0 .row .low)
+spec-node-requires c κs = let s = c .before .before .before .before .before in (omega (arith, s .pre .3), roots s .0 .row .low)
 
 impl-node-requires : tie.Need-impl-node-requires
-impl-node-requires c κs = let s = c .before .before .before .before .before in (omega (arith, s .pre .3), roots s .1 .row .low)
+impl-node-requires c κs = let s = c .before .before .before .before .before .before in (omega (arith, s .pre .3), roots s .1 .row .low)
 
 count-from-requires : tie.Need-count-from-requires
 count-from-requires c κs =
@@ -40,13 +40,13 @@ count-from-requires-2 c κs =
     let s = start k in
     impl-countable (s .pre .0) (s .args .root-row) (s .pre .3) (k .impl-node .ensures) (s .pre .2)
 
-check-leaves-requires : tie.Need-check-leaves-requires
-check-leaves-requires c κs =
+check-groups-requires : tie.Need-check-groups-requires
+check-groups-requires c κs =
     let second = c .before .before .before .before in
     let first = second .before .before .before .before in
     let s = start (first .before .before) in
-    leaves-counted (s .pre .0) (s .args .root-row) (s .pre .3) _ _
-    (omega (arith, s .pre .1, first .count-from .kept .1 .1 .1 .1 .0)) (omega (arith, s .pre .2, second .count-from2 .kept .1 .1 .1 .1 .0))
+    groups-counted (s .pre .0) (s .args .root-row) (s .pre .3)
+    (omega (arith, s .pre .1, first .count-from .kept .1 .1 .1 .1 .0)) (omega (arith, s .pre .2, second .count-from2 .kept .1 .1 .1 .1 .0)) (second .count-from2 .ensures)
 
 returns : tie.Need-returns
 returns c =
@@ -54,7 +54,7 @@ returns c =
     let first = second .before .before .before .before in
     let k = first .before .before in
     let s = start k in
-    c .check-leaves .ensures
+    c .check-groups .ensures
     ∙ ap checked
     (row-checked (s .pre .0) (s .args .root-row) (s .pre .3) (k .before .spec-node .ensures) (k .impl-node .ensures) (first .count-from .ensures)
     (second .count-from2 .ensures))
@@ -67,7 +67,7 @@ check-row-spec =
     impl-node-requires
     count-from-requires
     count-from-requires-2
-    check-leaves-requires
+    check-groups-requires
     (λ c. search needs)
     (λ c. search needs)
     returns)

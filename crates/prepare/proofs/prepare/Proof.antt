@@ -9,11 +9,12 @@ use Rattle.model.specs.Limits.{maxEdges}
 use Rattle.model.specs.Compare.{Tables}
 use Rattle.model.specs.Refusals.{Refusal}
 use Rattle.model.specs.Checks.{_then_, checkGraph}
-use Rattle.pairing.specs.Pairs.{tablesOf, checkPairingRows}
+use Rattle.pairing.specs.Pairs.{tablesOf}
+use Rattle.paircheck.specs.Pairing.{checkPairingRows}
 use Rattle.pathlimit.specs.Checks.{checkPaths}
 use Rattle.pathlimit.specs.Inputs.{Inputs, Plans}
 use Rattle.prepare.proofs.Inputs.{pairing-inputs}
-use Rattle.prepare.proofs.Checks.{taken-none, Rest, rest-all, rest-on, rest-refused, rest-paths, graph-taken, graph-plannable, spec-rows, impl-rows}
+use Rattle.prepare.proofs.Checks.{taken-none, Rest, rest-all, rest-on, rest-refused, rest-paths, graph-taken, graph-plannable, spec-rows, impl-rows, leaves-linkable}
 use Rattle.prepare.proofs.prepare.Statement.{statement}
 use Rattle.prepare.proofs.prepare.Tie as tie
 
@@ -25,7 +26,7 @@ tables s =
 
 -- the entry of the function, from behind each check
 abbrev spec-start : tie.After-enum-told → tie.Start
-spec-start k = k .before .before .before .before .before .before .before .before .before .before
+spec-start k = k .before .before .before .before .before .before .before .before .before .before .before
 
 abbrev impl-start : tie.After-enum-told2 → tie.Start
 impl-start k = spec-start (k .before .before .before .before .before .before .before .before)
@@ -67,11 +68,17 @@ inputs k =
     (graph-taken (impl .before .before .before .before .before .check-graph-with2 .ensures) (impl .enum-told2 .given .1))
     (taken-none (checkPairingRows t) (k .enum-told3 .given .1) (k .before .before .check-pairing .ensures))
 
--- both graphs are planned for them
-plans : (b : tie.After-plan-graph2)
-    → let a = b .before .before .before .before .before in
-    Plans (tables (pairing-start (a .before .before .before))) (a .plan-graph .last .1 .1 .1 .1 .1 .0) (b .plan-graph2 .last .1 .1 .1 .1 .1 .0)
-plans b =
+-- the plan of the implementation, from where the groups of leaf pairs are linked
+abbrev planned : tie.After-link-banks → tie.After-plan-graph2
+planned n = n .before .before .before .before
+
+-- both graphs are planned for them, and the groups linked
+plans : (n : tie.After-link-banks)
+    → let b = planned n in
+    let a = b .before .before .before .before .before in
+    Plans (tables (pairing-start (a .before .before .before))) (a .plan-graph .last .1 .1 .1 .1 .1 .0) (b .plan-graph2 .last .1 .1 .1 .1 .1 .0) (n .link-banks .last .1 .0)
+plans n =
+    let b = planned n in
     let a = b .before .before .before .before .before in
     record {
       inputs = inputs (a .before .before .before);
@@ -79,12 +86,13 @@ plans b =
       implPlanned = b .plan-graph2 .ensures .0;
       specLeading = a .plan-graph .ensures .1;
       implLeading = b .plan-graph2 .ensures .1;
+      linked = n .link-banks .ensures;
     }
 
 returns : tie.Need-returns
 returns c =
     let k = c .before .before .before .before .before .before in
-    let t = tables (k .before .before .before .before .before) in
+    let t = tables (k .before .before .before .before .before .before) in
     rest-refused t (checkGraph 0 (t .specNodes) (t .specEdges)) (impl-left t) (rest-all t) (k .check-graph-with .ensures .answers) (c .before .c .given .1)
 
 returns-2 : tie.Need-returns-2
@@ -121,42 +129,48 @@ plan-graph-requires-2 c κs =
     graph-plannable (impl .before .before .before .before .before .check-graph-with2 .ensures) (impl .enum-told2 .given .1) (omega arith) (impl-rows (inputs k))
     (impl .before .before .before .before .before .check-graph-with2 .kept .1 .1 .1 .0 ∙ pairing-start k .pre .1)
 
+link-banks-requires : tie.Need-link-banks-requires
+link-banks-requires c κs =
+    let k = c .before .before .before .before .before .before .before .before .before .before .before in
+    leaves-linkable (inputs k) (pairing-start k .pre .2)
+
 slice-aggregate-check-paths : tie.Need-slice-aggregate-check-paths
 slice-aggregate-check-paths c =
-    let spec = c .before .before .before .before .before .before .before .before .before .before .before .before .before .before .before .before .before .before .before .before .before .before .before .before in
+    let spec = planned (c .before .before .before .before .before .before) .before .before .before .before .before .before .before .before .before .before .before .before .before .before .before .before .before .before .before in
     let room = spec .before .before .before .before .before .check-graph-with .kept .1 .1 .1 .1 .0 ∙ length-replicate {A = ℕ} maxEdges 0 in
     search (needs, room)
 
 check-paths-requires : tie.Need-check-paths-requires
 check-paths-requires c κs =
-    let b = c .before .before .before .before .before .before in
+    let n = c .before .before .before .before .before .before .before in
+    let b = planned n in
     let impl = b .before .before .before .before .before .before .before .before .before .before .before in
     let spec = impl .before .before .before .before .before .before .before .before in
     let room = length-replicate {A = ℕ} maxEdges 0 in (
-      plans b,
+      plans n,
       omega (arith, spec .before .before .before .before .before .check-graph-with .kept .1 .1 .1 .1 .0, room),
       omega (arith, impl .before .before .before .before .before .check-graph-with2 .kept .1 .1 .1 .1 .0, room),
     )
 
 same-length-6 : tie.Need-same-length-6
 same-length-6 c =
-    let b = c .before .before .before .before .before .before .before .before .before in
+    let b = planned (c .before .before .before .before .before .before .before .before .before .before) in
     let impl = b .before .before .before .before .before .before .before .before .before .before .before in
     let spec = impl .before .before .before .before .before .before .before .before in
     b .before .before .before .before .before .plan-graph .kept .1 .1 .1 .1 .1 .0 ∙ spec .before .before .before .before .before .check-graph-with .kept .1 .1 .1 .0
 
 same-length-7 : tie.Need-same-length-7
 same-length-7 c =
-    let b = c .before .before .before .before .before .before .before .before .before in
+    let b = planned (c .before .before .before .before .before .before .before .before .before .before) in
     let impl = b .before .before .before .before .before .before .before .before .before .before .before in
     b .plan-graph2 .kept .1 .1 .1 .1 .1 .0 ∙ impl .before .before .before .before .before .check-graph-with2 .kept .1 .1 .1 .0
 
 returns-4 : tie.Need-returns-4
 returns-4 c =
     let p = c .before .before in
-    let b = p .before .before .before .before .before .before .before in
-    let k = b .before .before .before .before .before .before .before .before in
-    rest-paths (tables (pairing-start k)) (plans b) (p .check-paths .ensures) (pairing-on k)
+    let n = p .before .before .before .before .before .before .before .before in
+    let k = planned n .before .before .before .before .before .before .before .before in
+    rest-paths (tables (pairing-start k)) (plans n) (p .check-paths .ensures) (pairing-on k)
 
 pub prepare-spec : {M : Type 1} → statement M
 prepare-spec =
@@ -185,9 +199,11 @@ prepare-spec =
     plan-graph-requires
     (λ c. search needs)
     plan-graph-requires-2
+    link-banks-requires
     slice-aggregate-check-paths
     (λ c. search needs)
     check-paths-requires
     same-length-6
     same-length-7
+    (λ c. search needs)
     returns-4)

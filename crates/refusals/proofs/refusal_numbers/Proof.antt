@@ -55,10 +55,15 @@ returns-14 c = by-case (c .numbered14 .ensures) (c .before .before .reason13 .gi
 returns-15 : tie.Need-returns-15
 returns-15 c = by-case (c .numbered15 .ensures) (c .before .enum-told2 .given .1)
 
+returns-16 : tie.Need-returns-16
+returns-16 c = by-case (c .numbered16 .ensures) (c .before .before .reason14 .given .1)
+
 pub refusal-numbers-spec : {M : Type 1} → statement M
 refusal-numbers-spec =
     tie.close
     (tie.spec
+    (λ c. search needs)
+    (λ c κs. search needs)
     (λ c. search needs)
     (λ c κs. search needs)
     (λ c. search needs)
@@ -103,4 +108,5 @@ refusal-numbers-spec =
     returns-12
     returns-13
     returns-14
-    returns-15)
+    returns-15
+    returns-16)

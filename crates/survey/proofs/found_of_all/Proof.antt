@@ -14,16 +14,16 @@ use Rattle.survey.proofs.found_of_all.Statement.{statement}
 use Rattle.survey.proofs.found_of_all.Tie as tie
 
 abbrev Inv-loop : tie.InvT-loop
-Inv-loop spec-nodes spec-edges impl-nodes impl-edges root-pairs leaf-pairs spec-plan impl-plan spec-state₀ impl-state₀ spare₀ room lines₀ count kept₀ row₀ spec-state impl-state spare lines kept row =
+Inv-loop spec-nodes spec-edges impl-nodes impl-edges root-pairs leaf-pairs links spec-plan impl-plan spec-state₀ impl-state₀ spare₀ room lines₀ count kept₀ row₀ spec-state impl-state spare lines kept row =
     let t = tablesOf spec-nodes spec-edges impl-nodes impl-edges root-pairs leaf-pairs in
     Passed (findings t) (findingsLeft t row) lines kept × Rooms spec-state impl-state spare × (length lines ≡ length lines₀)
 
 abbrev μ-loop : tie.MeasureT-loop
-μ-loop spec-nodes spec-edges impl-nodes impl-edges root-pairs leaf-pairs spec-plan impl-plan spec-state₀ impl-state₀ spare₀ room lines₀ count kept₀ row₀ spec-state impl-state spare lines kept row = count - row
+μ-loop spec-nodes spec-edges impl-nodes impl-edges root-pairs leaf-pairs links spec-plan impl-plan spec-state₀ impl-state₀ spare₀ room lines₀ count kept₀ row₀ spec-state impl-state spare lines kept row = count - row
 
 -- where the function begins, and the tables there
 abbrev start : tie.At-loop Inv-loop μ-loop → tie.Start Inv-loop μ-loop
-start l = l .before .before .before .before .before
+start l = l .before .before .before .before .before .before
 
 abbrev tables : tie.Start Inv-loop μ-loop → Tables
 tables s =
@@ -48,7 +48,7 @@ there : (c : tie.In-loop Inv-loop μ-loop) → c .before .loop .row < length (st
 there c = omega (arith, c .loop-test .taken)
 
 loop-holds : tie.Need-loop-holds Inv-loop μ-loop
-loop-holds c = let s = c .before .before .before .before in (rows-start (tables s) (c .no-pair .ensures), s .pre .1, refl)
+loop-holds c = let s = c .before .before .before .before .before in (rows-start (tables s) (c .no-pair .ensures), s .pre .1, refl)
 
 same-length : tie.Need-same-length Inv-loop μ-loop
 same-length c = let l = c .before .before .before in l .loop .inv .1 .spec ∙ sym (start l .pre .1 .spec)
@@ -71,7 +71,7 @@ sweep-row-requires : tie.Need-sweep-row-requires Inv-loop μ-loop
 sweep-row-requires c κs =
     let l = turn c in
     let s = start (l .before) in
-    record { leafPairs = s .args .leaf-pairs .now; ready = s .pre .0; rooms = l .before .loop .inv .1; row = there l }
+    record { leafPairs = s .args .leaf-pairs .now; links = s .args .links .now; ready = s .pre .0; rooms = l .before .loop .inv .1; row = there l }
 
 found-of-pairs-requires : tie.Need-found-of-pairs-requires Inv-loop μ-loop
 found-of-pairs-requires c κs =
@@ -80,7 +80,7 @@ found-of-pairs-requires c κs =
     let s = start (l .before) in
     record {
       rootPairs = s .args .root-pairs .now;
-      ready = w .sweep-row .ensures _ (s .pre .0);
+      ready = w .sweep-row .ensures _ _ (s .pre .0);
       room = row-room (tables s) (l .before .loop .row) (l .before .loop .inv .0) (there l) (findings-few (s .pre .0 .plans .inputs));
     }
 
@@ -99,8 +99,8 @@ loop-again c =
     let l = turn (w .before) in
     let s = start (l .before) in
     let i = l .before .loop .inv in
-    let k = w .sweep-row .ensures _ (s .pre .0) in
-    let sizes = f .found-of-pairs .kept .1 .1 .1 .1 .1 .1 .1 in (
+    let k = w .sweep-row .ensures _ _ (s .pre .0) in
+    let sizes = f .found-of-pairs .kept .1 .1 .1 .1 .1 .1 .1 .1 in (
       row-passed (tables s) (l .before .loop .row) (i .0) (there l) (f .found-of-pairs .ensures _ k),
       record { spec = sizes .0 ∙ k .rooms .spec; impl = sizes .1 .0 ∙ k .rooms .impl; list = sizes .1 .1 .0 ∙ k .rooms .list },
       sizes .1 .1 .1 .1 .0 ∙ i .2,

@@ -1,5 +1,5 @@
--- The invariant, whichever the root pairs: the pairs of the row can be found, and the findings that were kept, with those of the leaf rows passed and those
--- that are left, are kept findings and those of the row. The measure is what is left of the leaf rows.
+-- The invariant, whichever the root pairs: the pairs of the row can be found, and the findings that were kept, with those of the groups passed and those
+-- that are left, are kept findings and those of the row. The measure is what is left of the groups.
 use mathlib.Core.Path.{_≡_, refl, sym, _∙_}
 use mathlib.Core.List.{List, _++_}
 use Prim.Native.Nat.{_-_, _/_, _<_}
@@ -10,6 +10,8 @@ use lib.ListN.{length}
 use Rattle.model.specs.Limits.{pairWidth}
 use Rattle.model.specs.Compare.{Tables, Finding}
 use Rattle.pairing.specs.Pairs.{tablesOf}
+use Rattle.grouping.specs.Links.{groupCount, Linked}
+use Rattle.grouping.proofs.Passing.{groups-few, group-there}
 use Rattle.pathlimit.proofs.Inputs.{root-row-below, leaf-row-below}
 use Rattle.pairs.specs.Found.{PairReady}
 use Rattle.totals.specs.Kept.{KeptOf}
@@ -19,49 +21,79 @@ use Rattle.survey.proofs.found_of_pairs.Statement.{statement}
 use Rattle.survey.proofs.found_of_pairs.Tie as tie
 
 abbrev Inv-loop : tie.InvT-loop
-Inv-loop spec-nodes spec-edges impl-nodes impl-edges leaf-pairs spec-plan impl-plan spec-state₀ impl-state₀ spare₀ root-row lines₀ count kept₀ leaf-row₀ spec-state impl-state spare lines kept leaf-row =
+Inv-loop spec-nodes spec-edges impl-nodes impl-edges leaf-pairs links spec-plan impl-plan spec-state₀ impl-state₀ spare₀ root-row lines₀ count kept₀ group₀ spec-state impl-state spare lines kept group =
     let t : List ℤ → Tables = λ roots. tablesOf spec-nodes spec-edges impl-nodes impl-edges roots leaf-pairs in
-    ((roots : List ℤ) → PairReady (t roots) root-row spec-plan impl-plan spec-state₀ impl-state₀ spare₀
-    → PairReady (t roots) root-row spec-plan impl-plan spec-state impl-state spare
-    × ((fs : List Finding) → KeptOf fs lines₀ kept₀ → Passed (fs ++ rowFindings (t roots) root-row) (pairsLeft (t roots) root-row leaf-row) lines kept))
+    ((roots : List ℤ) → PairReady (t roots) root-row spec-plan impl-plan links spec-state₀ impl-state₀ spare₀
+    → PairReady (t roots) root-row spec-plan impl-plan links spec-state impl-state spare
+    × ((fs : List Finding) → KeptOf fs lines₀ kept₀ → Passed (fs ++ rowFindings (t roots) root-row) (pairsLeft (t roots) root-row group) lines kept))
     × (length lines ≡ length lines₀)
 
 abbrev μ-loop : tie.MeasureT-loop
-μ-loop spec-nodes spec-edges impl-nodes impl-edges leaf-pairs spec-plan impl-plan spec-state₀ impl-state₀ spare₀ root-row lines₀ count kept₀ leaf-row₀ spec-state impl-state spare lines kept leaf-row = count - leaf-row
+μ-loop spec-nodes spec-edges impl-nodes impl-edges leaf-pairs links spec-plan impl-plan spec-state₀ impl-state₀ spare₀ root-row lines₀ count kept₀ group₀ spec-state impl-state spare lines kept group = count - group
 
 -- where the function begins, and the tables there for these root pairs
 abbrev start : tie.At-loop Inv-loop μ-loop → tie.Start Inv-loop μ-loop
-start l = l .before .before .before .before
+start l = l .before .before .before .before .before .before
 
 abbrev tables : tie.Start Inv-loop μ-loop → List ℤ → Tables
 tables s roots =
     let a = s .args in
     tablesOf (a .spec-nodes .now) (a .spec-edges .now) (a .impl-nodes .now) (a .impl-edges .now) roots (a .leaf-pairs .now)
 
--- from the pair back to its turn, and from where it is added to the pair
+-- from the pair back to its lowest leaf row, and from where it is added to the pair
+abbrev lowest : tie.After-address-asked Inv-loop μ-loop → tie.After-group-row Inv-loop μ-loop
+lowest c = c .before .before .before .before
+
 abbrev turn : tie.After-address-asked Inv-loop μ-loop → tie.In-loop Inv-loop μ-loop
-turn c = c .before .before .before .before
+turn c = lowest c .before
 
 abbrev pair : tie.After-with-pair-arg Inv-loop μ-loop → tie.After-pair-found Inv-loop μ-loop
 pair c = c .before .before .before .before
 
--- the leaf row of a turn is there
-there : (c : tie.In-loop Inv-loop μ-loop) → c .before .loop .leaf-row < length (start (c .before) .args .leaf-pairs .now) / pairWidth
-there c = omega (arith, c .loop-test .taken)
+-- the links of groups
+linked : (l : tie.At-loop Inv-loop μ-loop) → Linked (start l .args .leaf-pairs .now) (start l .args .links .now)
+linked l = start l .pre .ready .ready .plans .linked
+
+-- the group of a turn is there
+there : (c : tie.In-loop Inv-loop μ-loop) → c .before .loop .group < groupCount (start (c .before) .args .links .now)
+there c = omega (arith, c .loop-test .taken, c .before .before .group-count .ensures)
+
+-- its lowest row is one of the leaf rows
+row-there : (g : tie.After-group-row Inv-loop μ-loop) → g .group-row .result < length (start (g .before .before) .args .leaf-pairs .now) / pairWidth
+row-there g =
+    let l = g .before .before in
+    omega (arith, g .group-row .ensures, group-there (linked l) (l .loop .group) (there (g .before)))
 
 -- the pairs of the row can be found at each turn
 ready : (l : tie.At-loop Inv-loop μ-loop) → let a = start l .args in
-    PairReady (tables (start l) (start l .pre .rootPairs)) (a .root-row) (a .spec-plan .now) (a .impl-plan .now) (l .loop .spec-state) (l .loop .impl-state)
+    PairReady (tables (start l) (start l .pre .rootPairs)) (a .root-row) (a .spec-plan .now) (a .impl-plan .now) (a .links .now) (l .loop .spec-state) (l .loop .impl-state)
     (l .loop .spare)
 ready l = l .loop .inv .0 _ (start l .pre .ready) .0
 
 loop-holds : tie.Need-loop-holds Inv-loop μ-loop
 loop-holds c = (λ roots k. (k, λ fs p. record { fs = fs; kept = p; split = refl }), refl)
 
+group-count-requires : tie.Need-group-count-requires Inv-loop μ-loop
+group-count-requires c κs = c .before .before .before .before .pre .ready .ready .plans .linked .room
+
+group-row-requires : tie.Need-group-row-requires Inv-loop μ-loop
+group-row-requires c κs =
+    let l = c .before in
+    omega (arith, there c, groups-few (linked l) (start l .pre .ready .ready .plans .inputs .leafShape .few), linked l .room)
+
 pair-found-requires : tie.Need-pair-found-requires Inv-loop μ-loop
 pair-found-requires c κs =
-    let l = turn c in
-    record { rootPairs = start (l .before) .pre .rootPairs; rootRow = start (l .before) .args .root-row; ready = ready (l .before); leafRow = omega (arith, there l) }
+    let g = lowest c in
+    let t = g .before in
+    let l = t .before in
+    record {
+      rootPairs = start l .pre .rootPairs;
+      rootRow = start l .args .root-row;
+      ready = ready l;
+      group = l .loop .group;
+      there = there t;
+      lowest = g .group-row .ensures;
+    }
 
 with-pair-requires : tie.Need-with-pair-requires Inv-loop μ-loop
 with-pair-requires c κs =
@@ -73,19 +105,20 @@ with-pair-requires c κs =
     let few = f .pair-found .ensures _ _ (ready l) .few in
     let inputs = k .ready .plans .inputs in
     record {
-      room = pair-room (tables s (s .pre .rootPairs)) (s .args .root-row) (l .loop .leaf-row) (there t) (s .pre .room) (l .loop .inv .0 _ k .1);
+      room = pair-room (tables s (s .pre .rootPairs)) (linked l) (s .args .root-row) (l .loop .group) (there t) (s .pre .room) (l .loop .inv .0 _ k .1);
       small = record {
         root = omega (arith, root-row-below inputs (s .args .root-row) (k .row));
-        leaf = omega (arith, leaf-row-below inputs (l .loop .leaf-row) (there t));
+        leaf = omega (arith, leaf-row-below inputs (lowest (f .before) .group-row .result) (row-there (lowest (f .before))));
         spec = few .0;
         impl = few .1;
       };
     }
 
-add-leaf-row : tie.Need-add-leaf-row Inv-loop μ-loop
-add-leaf-row c =
-    let l = turn (pair (c .before .before .before) .before) in
-    omega (arith, leaf-row-below (start (l .before) .pre .ready .ready .plans .inputs) (l .before .loop .leaf-row) (there l))
+add-group : tie.Need-add-group Inv-loop μ-loop
+add-group c =
+    let t = turn (pair (c .before .before .before) .before) in
+    let l = t .before in
+    omega (arith, there t, groups-few (linked l) (start l .pre .ready .ready .plans .inputs .leafShape .few))
 
 loop-less : tie.Need-loop-less Inv-loop μ-loop
 loop-less c = let l = turn (pair (c .before .before .before) .before) in omega (arith, l .loop-test .taken)
@@ -100,7 +133,7 @@ loop-again c =
       λ roots k.
           let found = f .pair-found .ensures roots (s .args .root-row) (i .0 roots k .0) in (
             found .ready,
-            λ fs p. pair-passed (tables s roots) (s .args .root-row) (l .before .loop .leaf-row) (there l) (i .0 roots k .1 fs p) (found .found)
+            λ fs p. pair-passed (tables s roots) (linked (l .before)) (s .args .root-row) (l .before .loop .group) (there l) (lowest (f .before) .group-row .ensures) (i .0 roots k .1 fs p) (found .found)
                 (f .before .address-asked .ensures) (w .with-pair .ensures),
           ),
       w .with-pair .kept .0 ∙ i .1,
@@ -122,7 +155,8 @@ returns : tie.Need-returns Inv-loop μ-loop
 returns c roots k fs p =
     let l = c .before in
     let s = start l in
-    pairs-passed (tables s roots) (s .args .root-row) (l .loop .leaf-row) (c .loop-test .left) (l .loop .inv .0 roots k .1 fs p)
+    pairs-passed (tables s roots) (linked l) (s .args .root-row) (l .loop .group) (omega (arith, c .loop-test .left, l .before .group-count .ensures))
+    (l .loop .inv .0 roots k .1 fs p)
 
 pub found-of-pairs-spec : {M : Type 1} → statement M
 found-of-pairs-spec =
@@ -130,11 +164,13 @@ found-of-pairs-spec =
     (tie.spec
     Inv-loop
     μ-loop
+    group-count-requires
     loop-holds
+    group-row-requires
     (λ c κs. search needs)
     pair-found-requires
     with-pair-requires
-    add-leaf-row
+    add-group
     loop-less
     loop-again
     same-length

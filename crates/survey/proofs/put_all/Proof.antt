@@ -8,7 +8,7 @@ use Rattle.survey.proofs.put_all.Tie as tie
 
 put-rows-requires : tie.Need-put-rows-requires
 put-rows-requires c κs =
-    let s = c .before .before .before .before .before .before .before .before .before in
+    let s = c .before .before .before .before .before .before .before .before .before .before in
     let state = length-replicate {A = ℤ} stateRoom (pos 0) in
     (s .pre .0, record { spec = state; impl = state; list = search needs }, s .pre .1, s .pre .2)
 

@@ -14,21 +14,22 @@ use Rattle.pathlimit.proofs.Inputs.{root-row-below}
 use Rattle.pairs.specs.Found.{Rooms, PairReady}
 use Rattle.totals.specs.Kept.{KeptOf}
 use Rattle.survey.specs.Survey.{rowFindings}
+use Rattle.survey.proofs.Passing.{groups-few}
 use Rattle.survey.proofs.Putting.{Putting, putting-start, putting-length, putting-end, row-held, row-fits, putting-on}
 use Rattle.survey.proofs.put_rows.Statement.{statement}
 use Rattle.survey.proofs.put_rows.Tie as tie
 
 abbrev Inv-loop : tie.InvT-loop
-Inv-loop spec-nodes spec-edges impl-nodes impl-edges root-pairs leaf-pairs spec-plan impl-plan spec-state₀ impl-state₀ spare₀ lines₀ out₀ count at₀ written₀ spec-state impl-state spare lines out at written =
+Inv-loop spec-nodes spec-edges impl-nodes impl-edges root-pairs leaf-pairs links spec-plan impl-plan spec-state₀ impl-state₀ spare₀ lines₀ out₀ count at₀ written₀ spec-state impl-state spare lines out at written =
     Putting (tablesOf spec-nodes spec-edges impl-nodes impl-edges root-pairs leaf-pairs) written out₀ out at
     × Rooms spec-state impl-state spare × (length lines ≡ length lines₀)
 
 abbrev μ-loop : tie.MeasureT-loop
-μ-loop spec-nodes spec-edges impl-nodes impl-edges root-pairs leaf-pairs spec-plan impl-plan spec-state₀ impl-state₀ spare₀ lines₀ out₀ count at₀ written₀ spec-state impl-state spare lines out at written = count - written
+μ-loop spec-nodes spec-edges impl-nodes impl-edges root-pairs leaf-pairs links spec-plan impl-plan spec-state₀ impl-state₀ spare₀ lines₀ out₀ count at₀ written₀ spec-state impl-state spare lines out at written = count - written
 
 -- where the function begins, and the tables there
 abbrev start : tie.At-loop Inv-loop μ-loop → tie.Start Inv-loop μ-loop
-start l = l .before .before .before .before .before
+start l = l .before .before .before .before .before .before
 
 abbrev tables : tie.Start Inv-loop μ-loop → Tables
 tables s =
@@ -58,23 +59,23 @@ there c = omega (arith, c .loop-test .taken)
 
 -- its pairs can be found once the graphs are swept
 ready : (w : tie.After-sweep-row Inv-loop μ-loop) → let l = turn (w .before) .before in let a = start l .args in let new = w .sweep-row .last .1 .1 .1 .1 .1 .1 .1 in
-    PairReady (tables (start l)) (l .loop .written) (a .spec-plan .now) (a .impl-plan .now) (new .0) (new .1 .0) (new .1 .1 .0)
-ready w = w .sweep-row .ensures _ (start (turn (w .before) .before) .pre .0)
+    PairReady (tables (start l)) (l .loop .written) (a .spec-plan .now) (a .impl-plan .now) (a .links .now) (new .0) (new .1 .0) (new .1 .1 .0)
+ready w = w .sweep-row .ensures _ _ (start (turn (w .before) .before) .pre .0)
 
 -- its findings are kept
 kept : (f : tie.After-found-of-pairs Inv-loop μ-loop) → let l = rowTurn f .before in
-    KeptOf (rowFindings (tables (start l)) (l .loop .written)) (f .found-of-pairs .last .1 .1 .1 .1 .1 .1 .1 .1 .1 .1 .1 .0) (f .found-of-pairs .result)
+    KeptOf (rowFindings (tables (start l)) (l .loop .written)) (f .found-of-pairs .last .1 .1 .1 .1 .1 .1 .1 .1 .1 .1 .1 .1 .0) (f .found-of-pairs .result)
 kept f = f .found-of-pairs .ensures _ (ready (swept (f .before .before))) [] (f .before .no-pair .ensures _)
 
 -- there is room for their lines in the table
-enough : (f : tie.After-found-of-pairs Inv-loop μ-loop) → maxPairs ≤ length (f .found-of-pairs .last .1 .1 .1 .1 .1 .1 .1 .1 .1 .1 .1 .0)
+enough : (f : tie.After-found-of-pairs Inv-loop μ-loop) → maxPairs ≤ length (f .found-of-pairs .last .1 .1 .1 .1 .1 .1 .1 .1 .1 .1 .1 .1 .0)
 enough f =
     let l = rowTurn f .before in
-    omega (arith, f .found-of-pairs .kept .1 .1 .1 .1 .1 .1 .1 .1 .1 .1 .1 .0, l .loop .inv .2, start l .pre .2)
+    omega (arith, f .found-of-pairs .kept .1 .1 .1 .1 .1 .1 .1 .1 .1 .1 .1 .1 .0, l .loop .inv .2, start l .pre .2)
 
 -- and in the buffer, which keeps its length
 fits : (f : tie.After-found-of-pairs Inv-loop μ-loop) → let l = rowTurn f .before in
-    l .loop .at + length (linesOf (take (f .found-of-pairs .result .count) (f .found-of-pairs .last .1 .1 .1 .1 .1 .1 .1 .1 .1 .1 .1 .0)))
+    l .loop .at + length (linesOf (take (f .found-of-pairs .result .count) (f .found-of-pairs .last .1 .1 .1 .1 .1 .1 .1 .1 .1 .1 .1 .1 .0)))
     ≤ length (start l .args .out .now)
 fits f =
     let t = rowTurn f in
@@ -86,23 +87,22 @@ long : (l : tie.At-loop Inv-loop μ-loop) → length (l .loop .out) ≡ length (
 long l = let s = start l in putting-length (tables s) (l .loop .written) (l .loop .inv .0) (s .pre .3)
 
 loop-holds : tie.Need-loop-holds Inv-loop μ-loop
-loop-holds c = let s = c .before .before .before .before in (putting-start (tables s) (s .args .out .now), s .pre .1, refl)
+loop-holds c = let s = c .before .before .before .before .before in (putting-start (tables s) (s .args .out .now), s .pre .1, refl)
 
 sweep-row-requires : tie.Need-sweep-row-requires Inv-loop μ-loop
 sweep-row-requires c κs =
     let l = turn c in
     let s = start (l .before) in
-    record { leafPairs = s .args .leaf-pairs .now; ready = s .pre .0; rooms = l .before .loop .inv .1; row = there l }
+    record { leafPairs = s .args .leaf-pairs .now; links = s .args .links .now; ready = s .pre .0; rooms = l .before .loop .inv .1; row = there l }
 
 found-of-pairs-requires : tie.Need-found-of-pairs-requires Inv-loop μ-loop
 found-of-pairs-requires c κs =
     let w = swept (c .before) in
     let s = start (turn (w .before) .before) in
-    let few = s .pre .0 .plans .inputs .leafShape .few in
     record {
       rootPairs = s .args .root-pairs .now;
       ready = ready w;
-      room = record { fs = []; kept = c .no-pair .ensures _; few = omega arith };
+      room = record { fs = []; kept = c .no-pair .ensures _; few = omega (arith, groups-few (s .pre .0 .plans .inputs)) };
     }
 
 sub-put-lines : tie.Need-sub-put-lines Inv-loop μ-loop
@@ -124,7 +124,7 @@ add-at : tie.Need-add-at Inv-loop μ-loop
 add-at c =
     let w = linesPut c in
     let f = rowed (w .before .before .before) in
-    omega (arith, w .put-lines .ensures .count, fits f, start (rowTurn f .before) .good .1 .1 .1 .1 .1 .1 .1 .1 .1 .1 .1 .1 .0 .0)
+    omega (arith, w .put-lines .ensures .count, fits f, start (rowTurn f .before) .good .1 .1 .1 .1 .1 .1 .1 .1 .1 .1 .1 .1 .1 .0 .0)
 
 add-written : tie.Need-add-written Inv-loop μ-loop
 add-written c =
@@ -143,7 +143,7 @@ loop-again c =
     let s = start l in
     let i = l .loop .inv in
     let k = ready (swept (f .before .before)) in
-    let sizes = f .found-of-pairs .kept .1 .1 .1 .1 .1 .1 .1 in (
+    let sizes = f .found-of-pairs .kept .1 .1 .1 .1 .1 .1 .1 .1 in (
       putting-on (tables s) (l .loop .written) (i .0) (s .pre .0 .plans .inputs) (there t) (kept f) (enough f) (w .put-lines .ensures),
       record { spec = sizes .0 ∙ k .rooms .spec; impl = sizes .1 .0 ∙ k .rooms .impl; list = sizes .1 .1 .0 ∙ k .rooms .list },
       sizes .1 .1 .1 .1 .0 ∙ i .2,

@@ -48,7 +48,7 @@ sweep-root-requires-2 c κs =
     impl-sweepable (k .ready) (k .row) (c .before .before .impl-node .ensures) (k .rooms .impl) (list-room f)
 
 returns : tie.Need-returns
-returns c leaves ready =
+returns c leaves links ready =
     let m = c .before .before in
     let f = first (m .before) in
     let k = start (f .before) .pre in

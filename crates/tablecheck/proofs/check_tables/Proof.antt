@@ -1,5 +1,5 @@
 -- The tables are refused, or all pairs are surveyed; then the report is too long, by its lines alone or with the rest, or it is written.
-use mathlib.Core.Path.{_≡_, ap}
+use mathlib.Core.Path.{_≡_, ap, _∙_}
 use mathlib.Core.Option.{none}
 use Prim.Native.Nat.{ℕ}
 use native.Mathlib.Omega.{arith}
@@ -9,6 +9,7 @@ use Rattle.model.specs.Compare.{Tables, findings}
 use Rattle.model.specs.Checks.{checkTables}
 use Rattle.model.specs.Answers.{comparisonResult}
 use Rattle.pairing.specs.Pairs.{tablesOf}
+use Rattle.forward.specs.Forward.{planRoom}
 use Rattle.prepare.proofs.Checks.{prepared-none, prepared-some}
 use Rattle.reporting.specs.Lines.{SmallResult}
 use Rattle.reporting.proofs.Parts.{fixed-short}
@@ -27,34 +28,34 @@ tables s =
 
 -- the checks of the tables, from the survey, and the entry of the function
 abbrev told : tie.After-survey → tie.After-enum-told
-told v = v .before .before .before .before
+told v = v .before .before .before .before .before
 
 abbrev start : tie.After-enum-told → tie.Start
-start k = k .before .before .before .before .before .before .before .before
+start k = k .before .before .before .before .before .before .before .before .before .before
 
 -- the tables are taken
 taken : (k : tie.After-enum-told) → checkTables (tables (start k)) ≡ none
-taken k = prepared-none (k .before .before .before .before .prepare .ensures) (k .enum-told .given .1)
+taken k = prepared-none (k .before .before .before .before .before .prepare .ensures) (k .enum-told .given .1)
 
 -- what is kept of all pairs, where their lines fit
 kept : (e : tie.Else1)
-    → let v = e .before .before .before in KeptOf (findings (tables (start (told v)))) (v .survey .last .1 .1 .1 .1 .1 .1 .1 .1 .1 .0) (v .survey .result)
+    → let v = e .before .before .before in KeptOf (findings (tables (start (told v)))) (v .survey .last .1 .1 .1 .1 .1 .1 .1 .1 .1 .1 .0) (v .survey .result)
 kept e = e .before .before .before .survey .ensures .within (omega (arith, e .if1 .left))
 
 -- their full result is small
 small : (e : tie.Else1) → SmallResult (comparisonResult (e .before .before .before .survey .result .result))
 small e =
     let k = told (e .before .before .before) in
-    kept-small (kept e) (findings-few (k .before .before .before .before .prepare .ensures .ready (k .enum-told .given .1) .plans .inputs))
+    kept-small (kept e) (findings-few (k .before .before .before .before .before .prepare .ensures .ready (k .enum-told .given .1) .plans .inputs))
 
 returns : tie.Need-returns
 returns c =
-    let p = c .before .before .before .before .before in
-    let s = p .before .before .before .before in
+    let p = c .before .before .before .before .before .before in
+    let s = p .before .before .before .before .before in
     outcome-refused (tables s) (s .args .report .now) (prepared-some (p .prepare .ensures) (c .before .c .given .1))
 
 survey-requires : tie.Need-survey-requires
-survey-requires c κs = let k = c .before .before .before in k .before .before .before .before .prepare .ensures .ready (k .enum-told .given .1)
+survey-requires c κs = let k = c .before .before .before .before in k .before .before .before .before .before .prepare .ensures .ready (k .enum-told .given .1)
 
 returns-2 : tie.Need-returns-2
 returns-2 c =
@@ -79,17 +80,33 @@ returns-3 c =
     let k = told (e .before .before .before) in
     outcome-long (tables (start k)) (start k .args .report .now) (taken k) (omega (arith, f .fixed-length .ensures, kept-length (kept e), c .if2 .taken))
 
+-- from where the full result and the lines fit, the tables as they were prepared
+abbrev prepared : tie.Else1 → tie.After-prepare
+prepared e = told (e .before .before .before) .before .before .before .before .before
+
+slice-aggregate-put-report-2 : tie.Need-slice-aggregate-put-report-2
+slice-aggregate-put-report-2 c =
+    let p = prepared (c .before .before .before .before .before .before) in
+    let room = p .prepare .kept .1 .1 .1 .1 .1 .1 .0 ∙ length-replicate {A = ℕ} planRoom 0 in
+    search (needs, room)
+
+slice-aggregate-put-report-3 : tie.Need-slice-aggregate-put-report-3
+slice-aggregate-put-report-3 c =
+    let p = prepared (c .before .before .before .before .before .before .before) in
+    let room = p .prepare .kept .1 .1 .1 .1 .1 .1 .1 .0 ∙ length-replicate {A = ℕ} planRoom 0 in
+    search (needs, room)
+
 put-report-requires : tie.Need-put-report-requires
 put-report-requires c κs =
-    let b = c .before .before .before .before in
+    let b = c .before .before .before .before .before in
     let f = b .before .before in
     let e = f .before .before in
     let v = e .before .before .before in
     let k = told v in (
       record {
-        ready = k .before .before .before .before .prepare .ensures .ready (k .enum-told .given .1);
+        ready = k .before .before .before .before .before .prepare .ensures .ready (k .enum-told .given .1);
         held = kept e .held;
-        room = omega (arith, v .survey .kept .1 .1 .1 .1 .1 .1 .1 .1 .1 .0, length-replicate {A = ℕ} 6554 0);
+        room = omega (arith, v .survey .kept .1 .1 .1 .1 .1 .1 .1 .1 .1 .1 .0, length-replicate {A = ℕ} 6554 0);
       },
       small e,
       omega (arith, ap length (kept-report (kept e)), kept-length (kept e), f .fixed-length .ensures, b .if2 .left),
@@ -98,7 +115,7 @@ put-report-requires c κs =
 returns-4 : tie.Need-returns-4
 returns-4 c =
     let p = c .before .before .before in
-    let b = p .before .before .before .before .before in
+    let b = p .before .before .before .before .before .before in
     let f = b .before .before in
     let e = f .before .before in
     let v = e .before .before .before in
@@ -115,9 +132,11 @@ check-tables-spec =
     (tie.spec
     (λ c. search needs)
     (λ c. search needs)
+    (λ c. search needs)
     (λ c κs. search needs)
     (λ c. search needs)
     returns
+    (λ c. search needs)
     (λ c. search needs)
     (λ c. search needs)
     (λ c. search needs)
@@ -128,7 +147,8 @@ check-tables-spec =
     add-length
     returns-3
     (λ c. search needs)
-    (λ c. search needs)
+    slice-aggregate-put-report-2
+    slice-aggregate-put-report-3
     (λ c. search needs)
     put-report-requires
     (λ c. search needs)

@@ -11,13 +11,13 @@ returns : tie.Need-returns
 returns c =
     let k = c .before .before in
     let t = k .before .before .before in
-    let s = t .before .before .before .before .before in
+    let s = t .before .before .before .before .before .before in
     rw (sym (s .pre .0 .held (t .if1 .taken))) (k .put-lines .ensures)
 
 put-lines-requires : tie.Need-put-lines-requires
 put-lines-requires c κs =
     let t = c .before .before in
-    let s = t .before .before .before .before .before in
+    let s = t .before .before .before .before .before .before in
     (t .if1 .taken, subst (λ (b : Bytes). length b ≤ length (s .args .out .now)) (sym (s .pre .0 .held (t .if1 .taken))) (s .pre .1))
 
 pub put-pairs-spec : {M : Type 1} → statement M

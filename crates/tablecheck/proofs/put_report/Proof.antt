@@ -29,7 +29,7 @@ room : (s : tie.Start) → 28 + length (lines s) + length (resultLines (comparis
 room s = omega (arith, report-length (lines s) (comparisonResult (s .args .kept .result)), s .pre .2)
 
 abbrev start : tie.After-put-heading → tie.Start
-start h = h .before .before .before .before .before .before
+start h = h .before .before .before .before .before .before .before
 
 -- what is known once the lines of the pairs are written
 abbrev heading-of : tie.After-put-pairs → tie.After-put-heading
@@ -43,7 +43,7 @@ module _ (p : tie.After-put-pairs) where
   at = heading-of p .put-heading .result
 
   abbrev joined : Bytes
-  joined = take at first ++ (p .put-pairs .last .1 .1 .1 .1 .1 .1 .1 .1 .1 .1 .0 ++ drop (length first - at) (drop at first))
+  joined = take at first ++ (p .put-pairs .last .1 .1 .1 .1 .1 .1 .1 .1 .1 .1 .1 .0 ++ drop (length first - at) (drop at first))
 
   done : Put (heading ++ lines (start (heading-of p))) (start (heading-of p) .args .out .now) joined (at + p .put-pairs .result)
   done = put-tail (heading-of p .put-heading .ensures) (p .put-pairs .ensures)
@@ -55,7 +55,7 @@ module _ (p : tie.After-put-pairs) where
   done-length = put-length done (omega (arith, done .count, done-count, room (start (heading-of p))))
 
 put-heading-requires : tie.Need-put-heading-requires
-put-heading-requires c κs = omega (arith, heading-length, room (c .before .before .before .before .before))
+put-heading-requires c κs = omega (arith, heading-length, room (c .before .before .before .before .before .before))
 
 sub-put-pairs : tie.Need-sub-put-pairs
 sub-put-pairs c = let h = c .before .before .before in omega (arith, h .put-heading .ensures .count, h .put-heading .kept .0, heading-length, room (start h))
@@ -74,7 +74,7 @@ add-at : tie.Need-add-at
 add-at c =
     let p = c .before .before .before .before in
     let s = start (heading-of p) in
-    omega (arith, done-count p, room s, s .good .1 .1 .1 .1 .1 .1 .1 .1 .1 .1 .0 .0)
+    omega (arith, done-count p, room s, s .good .1 .1 .1 .1 .1 .1 .1 .1 .1 .1 .1 .0 .0)
 
 sub-put-ending : tie.Need-sub-put-ending
 sub-put-ending c = let p = c .before .before .before .before in omega (arith, done-count p, done-length p, room (start (heading-of p)))
@@ -93,7 +93,7 @@ add-result c =
     let q = c .before .before in
     let p = q .before .before .before .before .before .before in
     let s = start (heading-of p) in
-    omega (arith, done-count p, q .put-ending .ensures .count, room s, s .good .1 .1 .1 .1 .1 .1 .1 .1 .1 .1 .0 .0)
+    omega (arith, done-count p, q .put-ending .ensures .count, room s, s .good .1 .1 .1 .1 .1 .1 .1 .1 .1 .1 .1 .0 .0)
 
 returns : tie.Need-returns
 returns c =

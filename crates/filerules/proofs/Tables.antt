@@ -55,7 +55,7 @@ edge-rows k values = rows-numbers (bytes "side") (bytes "from" ∷ bytes "to" �
 
 pair-rows : (k : ℤ) (values : List Values) → rowsWith k (numbersIn (allNames pairTable) values) ≡ pairNumbers k values
 unfolding pairTable pairNumbers
-pair-rows k values = rows-numbers (bytes "role") (bytes "spec" ∷ bytes "impl" ∷ []) k values
+pair-rows k values = rows-numbers (bytes "role") (bytes "spec" ∷ bytes "impl" ∷ bytes "at" ∷ []) k values
 
 -- ---- the lines of a file
 

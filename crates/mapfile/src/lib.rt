@@ -62,7 +62,7 @@ fn edge_columns(text: &[u8], from: usize, fields: usize) -> Columns
     columns::with_name(cs, text, from, b"offset")
 }
 
-// The columns of the names of the pair table.
+// The columns of the names of the pair table, of which a names line may lack `at`.
 fn pair_columns(text: &[u8], from: usize, fields: usize) -> Columns
     requires { ⌜ (from ≤ length (now text)) × (fields ≡ length (lineFields (now text) from)) ⌝ }
     ensures { λ r. ⌜ ColumnsGiven pairTable (firstLine (drop from (now (text .entry)))) r ⌝ }
@@ -70,7 +70,8 @@ fn pair_columns(text: &[u8], from: usize, fields: usize) -> Columns
     let cs = Columns::none(fields);
     let cs = columns::with_name(cs, text, from, b"role");
     let cs = columns::with_name(cs, text, from, b"spec");
-    columns::with_name(cs, text, from, b"impl")
+    let cs = columns::with_name(cs, text, from, b"impl");
+    columns::with_optional(cs, text, from, b"at")
 }
 
 // The columns of the names of a table.

@@ -1,4 +1,6 @@
-// Maps by a seeded generator, small enough to walk bit by bit: plain maps, and the tables of a map and of a pairing in an order that is drawn.
+// Maps by a seeded generator, small enough to walk bit by bit: plain maps, the tables of a map and of a pairing in an order that is drawn, and
+// faults in a pairing.
+pub mod faults;
 pub mod maps;
 pub mod numbers;
 pub mod orders;

@@ -4,21 +4,23 @@ use crate::numbers::difference;
 use crate::numbers::draw;
 use crate::numbers::less;
 use crate::numbers::lowered;
-use crate::numbers::number;
 use crate::numbers::quotient;
 use crate::numbers::raised;
 use crate::numbers::rest;
 use crate::numbers::sum;
 use crate::numbers::times;
 use crate::rows;
+use crate::rows::Map;
+use crate::rows::Node;
 
-// The sizes of a plain map.
+// The sizes of a plain map. `inner` counts roots and nodes between, `pairs` leaf rows.
 pub struct Shape {
     pub roots: usize,
     pub inner: usize,
     pub leaves: usize,
     pub nodes: usize,
     pub edges: usize,
+    pub pairs: usize,
 }
 
 // Styles: how the nodes hang together.
@@ -85,7 +87,7 @@ fn draw_unit(units: usize, seed: &mut usize) -> usize {
     unit_of(draw(seed, UNITS))
 }
 
-// How many roots, nodes between and leaves a map of this style has. `inner` counts roots and nodes between.
+// How many roots, nodes between and leaves a map of this style has. Each leaf has one leaf row.
 pub fn draw_shape(style: usize, seed: &mut usize) -> Shape {
     let roots = sum(1, draw(seed, 6) / 5);
     let leaves = sum(1, draw(seed, 5) / 2);
@@ -108,107 +110,130 @@ pub fn draw_shape(style: usize, seed: &mut usize) -> Shape {
         leaves: leaves,
         nodes: nodes,
         edges: edges,
+        pairs: leaves,
     }
 }
 
-// Puts a node whose first bit is at most `low`, and which has some `least` to `least + more` bits.
-fn put_drawn(
-    nodes: &mut [i64],
-    v: usize,
-    unit: usize,
+// Bits of a node: the first at most, how many at least, and those that may come to them.
+struct Bounds {
     low: usize,
     least: usize,
     more: usize,
-    seed: &mut usize,
-) {
-    let mut base: usize = 0;
-    if draw(seed, 2) == 0 {
-        base = draw(seed, sum(1, quotient(low, unit)));
-    }
-    let range = sum(1, quotient(sum(least, draw(seed, more)), unit));
-    rows::put_node(nodes, v, rows::BASE, number(base));
-    rows::put_node(nodes, v, rows::RANGE, number(range));
-    rows::put_node(nodes, v, rows::UNIT, number(unit));
 }
 
-// Moves a window to the end of the window before it, or to some bits above or below that end. The first begins near the root's first bit.
-fn put_window(nodes: &mut [i64], v: usize, shape: Shape, seed: &mut usize) {
-    let mut unit = rows::node_size(nodes, v, rows::UNIT);
+// The bounds of node v by its part in the map.
+fn bounds_of(shape: Shape, v: usize) -> Bounds {
+    if v < shape.roots {
+        return Bounds {
+            low: ROOT_LOW,
+            least: ROOT_LEAST,
+            more: ROOT_MORE,
+        };
+    }
+    if v >= shape.inner {
+        return Bounds {
+            low: LEAF_LOW,
+            least: 0,
+            more: LEAF_MORE,
+        };
+    }
+    Bounds {
+        low: INNER_LOW,
+        least: INNER_LEAST,
+        more: INNER_MORE,
+    }
+}
+
+// Draws a node of this kind and unit within its bounds.
+fn draw_within(kind: usize, unit: usize, bounds: Bounds, seed: &mut usize) -> Node {
+    let mut base: usize = 0;
+    if draw(seed, 2) == 0 {
+        base = draw(seed, sum(1, quotient(bounds.low, unit)));
+    }
+    let bits = sum(bounds.least, draw(seed, bounds.more));
+    Node {
+        kind: kind,
+        base: base,
+        range: sum(1, quotient(bits, unit)),
+        unit: unit,
+    }
+}
+
+// The bit behind the window before window v. Before the first stands the root's first bit.
+fn window_end(map: &Map, v: usize, shape: Shape) -> usize {
+    if v == shape.roots {
+        return rows::first_bit(map, 0);
+    }
+    rows::end_bit(map, less(v, 1))
+}
+
+// Draws a window near the end of the window before it: at that end, or some bits above or below.
+fn draw_window(kind: usize, own: usize, end: usize, seed: &mut usize) -> Node {
+    let mut unit = own;
     if draw(seed, 2) == 0 {
         unit = SMALLEST_UNIT;
     }
-    rows::put_node(nodes, v, rows::UNIT, number(unit));
-    let mut end = rows::end_bit(nodes, less(v, 1));
-    if v == shape.roots {
-        end = rows::first_bit(nodes, 0);
-    }
     let gap = times(GAP_STEP, draw(seed, GAPS));
-    let first = less(sum(end, gap), OVERLAP);
-    rows::put_node(nodes, v, rows::BASE, number(quotient(first, unit)));
-    rows::put_node(
-        nodes,
-        v,
-        rows::RANGE,
-        number(sum(1, quotient(draw(seed, WINDOW_BITS), unit))),
-    );
+    Node {
+        kind: kind,
+        base: quotient(less(sum(end, gap), OVERLAP), unit),
+        range: sum(1, quotient(draw(seed, WINDOW_BITS), unit)),
+        unit: unit,
+    }
 }
 
-fn put_kind(nodes: &mut [i64], v: usize, shape: Shape, seed: &mut usize) {
-    let mut kind = draw(seed, BLOCK);
-    if v >= shape.inner {
-        kind = BLOCK;
+fn draw_kind(shape: Shape, v: usize, seed: &mut usize) -> usize {
+    if v < shape.inner {
+        return draw(seed, BLOCK);
     }
-    rows::put_node(nodes, v, rows::KIND, number(kind));
+    BLOCK
+}
+
+// Whether node v is one of a row of windows.
+fn is_window(shape: Shape, style: usize, v: usize) -> bool {
+    if style != WINDOWS {
+        return false;
+    }
+    if v < shape.roots {
+        return false;
+    }
+    v < shape.inner
 }
 
 // Draws node v by its part in the map.
-fn draw_node(
-    nodes: &mut [i64],
-    v: usize,
-    shape: Shape,
-    style: usize,
-    units: usize,
-    seed: &mut usize,
-) {
-    put_kind(nodes, v, shape, seed);
+fn draw_node(map: &mut Map, v: usize, shape: Shape, style: usize, units: usize, seed: &mut usize) {
+    let kind = draw_kind(shape, v, seed);
     let unit = draw_unit(units, seed);
-    if v < shape.roots {
-        put_drawn(nodes, v, unit, ROOT_LOW, ROOT_LEAST, ROOT_MORE, seed);
-        return;
+    let mut node = draw_within(kind, unit, bounds_of(shape, v), seed);
+    if is_window(shape, style, v) {
+        node = draw_window(kind, unit, window_end(map, v, shape), seed);
     }
-    if v >= shape.inner {
-        put_drawn(nodes, v, unit, LEAF_LOW, 0, LEAF_MORE, seed);
-        return;
-    }
-    put_drawn(nodes, v, unit, INNER_LOW, INNER_LEAST, INNER_MORE, seed);
-    if style == WINDOWS {
-        put_window(nodes, v, shape, seed);
-    }
+    rows::put_node(map, v, node);
 }
 
-pub fn draw_nodes(nodes: &mut [i64], shape: Shape, style: usize, units: usize, seed: &mut usize) {
+pub fn draw_nodes(map: &mut Map, shape: Shape, style: usize, units: usize, seed: &mut usize) {
     for v in 0..rows::MAX_NODES {
         if v >= shape.nodes {
             return;
         }
-        draw_node(nodes, v, shape, style, units, seed);
+        draw_node(map, v, shape, style, units, seed);
     }
 }
 
 // A bit of a node: its first, or one drawn.
-fn draw_bit(nodes: &[i64], v: usize, seed: &mut usize) -> usize {
-    let first = rows::first_bit(nodes, v);
+fn draw_bit(map: &Map, v: usize, seed: &mut usize) -> usize {
+    let first = rows::first_bit(map, v);
     if draw(seed, 12) > 0 {
         return first;
     }
-    sum(first, draw(seed, less(rows::end_bit(nodes, v), first)))
+    sum(first, draw(seed, rows::bit_count(map, v)))
 }
 
 // An offset by which some bit of node u comes to some bit of node v, or near it.
-fn draw_offset(nodes: &[i64], u: usize, v: usize, seed: &mut usize) -> i64 {
-    let unit = rows::node_size(nodes, v, rows::UNIT);
-    let from = draw_bit(nodes, u, seed);
-    let to = draw_bit(nodes, v, seed);
+fn draw_offset(map: &Map, u: usize, v: usize, seed: &mut usize) -> i64 {
+    let unit = rows::node_size(map, v, rows::UNIT);
+    let from = draw_bit(map, u, seed);
+    let to = draw_bit(map, v, seed);
     difference(quotient(from, unit), quotient(to, unit))
 }
 
@@ -227,19 +252,6 @@ fn draw_parent(shape: Shape, v: usize, style: usize, seed: &mut usize) -> usize 
     draw(seed, limit)
 }
 
-// Puts an edge from node u to node v with a drawn offset.
-fn put_drawn_edge(
-    nodes: &[i64],
-    edges: &mut [i64],
-    e: usize,
-    u: usize,
-    v: usize,
-    seed: &mut usize,
-) {
-    let offset = draw_offset(nodes, u, v, seed);
-    rows::put_edge(edges, e, number(u), number(v), offset);
-}
-
 // An offset moved by a few units, or not at all.
 fn draw_near(offset: i64, seed: &mut usize) -> i64 {
     match draw(seed, 4) {
@@ -251,83 +263,92 @@ fn draw_near(offset: i64, seed: &mut usize) -> i64 {
 }
 
 // Puts an edge beside an earlier one.
-fn put_beside(edges: &mut [i64], e: usize, seed: &mut usize) {
-    let other = draw(seed, e);
-    let from = rows::edge_end(edges, other, rows::FROM);
-    let to = rows::edge_end(edges, other, rows::TO);
-    let offset = draw_near(rows::offset_at(edges, other), seed);
-    rows::put_edge(edges, e, number(from), number(to), offset);
+fn put_beside(map: &mut Map, e: usize, seed: &mut usize) {
+    let other = rows::edge_of(map, draw(seed, e));
+    let offset = draw_near(other.offset, seed);
+    rows::put_edge(map, e, other.from, other.to, offset);
 }
 
-// Puts an edge that a map would hang together without.
-fn put_extra(
-    nodes: &[i64],
-    edges: &mut [i64],
-    e: usize,
-    shape: Shape,
-    style: usize,
-    seed: &mut usize,
-) {
+// The ends of an edge.
+struct Ends {
+    from: usize,
+    to: usize,
+}
+
+// Draws the ends of edge e: one edge into each node, then those that a map would hang together without.
+fn draw_ends(shape: Shape, e: usize, style: usize, seed: &mut usize) -> Ends {
+    let mut to = sum(shape.roots, e);
+    let mut way = style;
+    if to >= shape.nodes {
+        to = sum(shape.roots, draw(seed, less(shape.nodes, shape.roots)));
+        way = TREE;
+    }
     if style == DIAMONDS {
-        let leaf = sum(shape.inner, draw(seed, shape.leaves));
-        put_drawn_edge(nodes, edges, e, draw(seed, shape.inner), leaf, seed);
-        return;
-    }
-    if draw(seed, 2) == 0 {
-        put_beside(edges, e, seed);
-        return;
-    }
-    let v = sum(shape.roots, draw(seed, less(shape.nodes, shape.roots)));
-    let u = draw_parent(shape, v, TREE, seed);
-    put_drawn_edge(nodes, edges, e, u, v, seed);
-}
-
-// Puts an edge from a window to a leaf: of one displacement for all windows, or sometimes a unit off.
-fn put_window_edge(nodes: &[i64], edges: &mut [i64], e: usize, shape: Shape, seed: &mut usize) {
-    let between = less(shape.inner, shape.roots);
-    let k = less(e, between);
-    let u = sum(shape.roots, rest(k, between));
-    let v = sum(shape.inner, quotient(k, between));
-    let unit = rows::node_size(nodes, v, rows::UNIT);
-    let first = quotient(rows::first_bit(nodes, shape.roots), unit);
-    let mut offset = difference(first, rows::node_size(nodes, v, rows::BASE));
-    if draw(seed, 4) == 0 {
-        offset = draw_near(offset, seed);
-    }
-    rows::put_edge(edges, e, number(u), number(v), offset);
-}
-
-// Draws edge e: one into each node, then the extra ones.
-fn draw_edge(
-    nodes: &[i64],
-    edges: &mut [i64],
-    e: usize,
-    shape: Shape,
-    style: usize,
-    seed: &mut usize,
-) {
-    let v = sum(shape.roots, e);
-    if style == WINDOWS {
-        if v < shape.inner {
-            rows::put_edge(edges, e, number(draw(seed, shape.roots)), number(v), 0);
-            return;
+        if sum(shape.roots, e) >= shape.nodes {
+            to = sum(shape.inner, draw(seed, shape.leaves));
         }
-        put_window_edge(nodes, edges, e, shape, seed);
-        return;
     }
-    if v < shape.nodes {
-        let u = draw_parent(shape, v, style, seed);
-        put_drawn_edge(nodes, edges, e, u, v, seed);
-        return;
+    Ends {
+        from: draw_parent(shape, to, way, seed),
+        to: to,
     }
-    put_extra(nodes, edges, e, shape, style, seed);
 }
 
-pub fn draw_edges(nodes: &[i64], edges: &mut [i64], shape: Shape, style: usize, seed: &mut usize) {
+// Whether edge e is put beside an earlier one.
+fn is_beside(shape: Shape, e: usize, style: usize, seed: &mut usize) -> bool {
+    if sum(shape.roots, e) < shape.nodes {
+        return false;
+    }
+    if style == DIAMONDS {
+        return false;
+    }
+    draw(seed, 2) == 0
+}
+
+// The offset of an edge from a window to leaf v: of one displacement for all windows, or sometimes a unit off.
+fn window_offset(map: &Map, shape: Shape, v: usize, seed: &mut usize) -> i64 {
+    let unit = rows::node_size(map, v, rows::UNIT);
+    let first = quotient(rows::first_bit(map, shape.roots), unit);
+    let offset = difference(first, rows::node_size(map, v, rows::BASE));
+    if draw(seed, 4) == 0 {
+        return draw_near(offset, seed);
+    }
+    offset
+}
+
+// Puts edge e of a row of windows: one from a root to each window, then one from each window to each leaf.
+fn put_window_edge(map: &mut Map, e: usize, shape: Shape, seed: &mut usize) {
+    let between = less(shape.inner, shape.roots);
+    if e < between {
+        rows::put_edge(map, e, draw(seed, shape.roots), sum(shape.roots, e), 0);
+        return;
+    }
+    let k = less(e, between);
+    let v = sum(shape.inner, quotient(k, between));
+    let offset = window_offset(map, shape, v, seed);
+    rows::put_edge(map, e, sum(shape.roots, rest(k, between)), v, offset);
+}
+
+// Draws edge e.
+fn draw_edge(map: &mut Map, e: usize, shape: Shape, style: usize, seed: &mut usize) {
+    if style == WINDOWS {
+        put_window_edge(map, e, shape, seed);
+        return;
+    }
+    if is_beside(shape, e, style, seed) {
+        put_beside(map, e, seed);
+        return;
+    }
+    let ends = draw_ends(shape, e, style, seed);
+    let offset = draw_offset(map, ends.from, ends.to, seed);
+    rows::put_edge(map, e, ends.from, ends.to, offset);
+}
+
+pub fn draw_edges(map: &mut Map, shape: Shape, style: usize, seed: &mut usize) {
     for e in 0..rows::MAX_EDGES {
         if e >= shape.edges {
             return;
         }
-        draw_edge(nodes, edges, e, shape, style, seed);
+        draw_edge(map, e, shape, style, seed);
     }
 }

@@ -38,15 +38,6 @@ pub fn store(cells: &mut [usize], i: usize, count: usize) {
     }
 }
 
-// The first n numbers of a table.
-pub fn front<'a>(table: &'a [i64], n: usize) -> &'a [i64] {
-    if n <= table.len() {
-        &table[0..n]
-    } else {
-        table
-    }
-}
-
 // The numbers of a table from one place to before another.
 pub fn part<'a>(table: &'a [i64], from: usize, to: usize) -> &'a [i64] {
     if to <= table.len() {

@@ -1,27 +1,38 @@
-// Rows of the tables that the calls under test are handed, number by number.
+// Tables, number by number: those that the calls under test are handed, and maps, in which the tables stand one behind the other.
 use crate::numbers::at;
 use crate::numbers::bits;
 use crate::numbers::less;
+use crate::numbers::number;
 use crate::numbers::put;
 use crate::numbers::size;
 use crate::numbers::sum;
+use crate::numbers::times;
 
-// Numbers of a node row, of an edge row and of a pair.
+// Numbers of a node row, and of an edge row or a pair row.
 pub const NODE_WIDTH: usize = 4;
 
 pub const EDGE_WIDTH: usize = 3;
 
-pub const PAIR_WIDTH: usize = 2;
+// Rows of a map at most: nodes, edges and leaf rows. Root rows are two at most.
+pub const MAX_NODES: usize = 24;
 
-// Rows of a map at most.
-pub const MAX_NODES: usize = 16;
+pub const MAX_EDGES: usize = 64;
 
-pub const MAX_EDGES: usize = 40;
+pub const MAX_LEAVES: usize = 8;
 
-// Pairs of a root row and a leaf row at most.
-pub const MAX_PAIRS: usize = 6;
+// Where the tables of a map begin: the node rows at 0, then the edge rows, the root rows and the leaf rows.
+pub const EDGES_AT: usize = 96;
 
-// Columns of a node row and of an edge row.
+pub const ROOTS_AT: usize = 288;
+
+pub const LEAVES_AT: usize = 294;
+
+pub const MAP_NUMBERS: usize = 318;
+
+// A map: a graph, and of an implementation its pairing with the specification.
+pub type Map = [i64; MAP_NUMBERS];
+
+// Columns of a node row, of an edge row and of a pair row.
 pub const KIND: usize = 0;
 
 pub const BASE: usize = 1;
@@ -36,60 +47,110 @@ pub const TO: usize = 1;
 
 pub const OFFSET: usize = 2;
 
+pub const SPEC: usize = 0;
+
+pub const IMPL: usize = 1;
+
+pub const AT: usize = 2;
+
 // A place that no table has.
 const NOWHERE: usize = 1000000;
+
+// A node row.
+pub struct Node {
+    pub kind: usize,
+    pub base: usize,
+    pub range: usize,
+    pub unit: usize,
+}
+
+// An edge row.
+pub struct Edge {
+    pub from: usize,
+    pub to: usize,
+    pub offset: i64,
+}
 
 // The place of a number of a row, in a table whose rows have this width.
 pub fn place(width: usize, row: usize, column: usize) -> usize {
     if row >= NOWHERE {
         return NOWHERE;
     }
-    match width {
-        PAIR_WIDTH => sum(2 * row, column),
-        EDGE_WIDTH => sum(3 * row, column),
-        NODE_WIDTH => sum(4 * row, column),
-        _ => NOWHERE,
+    sum(times(row, width), column)
+}
+
+// A number of a node row.
+pub fn node_size(map: &Map, v: usize, column: usize) -> usize {
+    size(at(map, place(NODE_WIDTH, v, column)))
+}
+
+pub fn node_of(map: &Map, v: usize) -> Node {
+    Node {
+        kind: node_size(map, v, KIND),
+        base: node_size(map, v, BASE),
+        range: node_size(map, v, RANGE),
+        unit: node_size(map, v, UNIT),
     }
 }
 
-pub fn node_size(nodes: &[i64], v: usize, column: usize) -> usize {
-    size(at(nodes, place(NODE_WIDTH, v, column)))
-}
-
-pub fn edge_end(edges: &[i64], e: usize, column: usize) -> usize {
-    size(at(edges, place(EDGE_WIDTH, e, column)))
-}
-
-pub fn offset_at(edges: &[i64], e: usize) -> i64 {
-    at(edges, place(EDGE_WIDTH, e, OFFSET))
-}
-
-pub fn put_node(nodes: &mut [i64], v: usize, column: usize, number: i64) {
-    put(nodes, place(NODE_WIDTH, v, column), number);
-}
-
-pub fn put_end(edges: &mut [i64], e: usize, column: usize, number: i64) {
-    put(edges, place(EDGE_WIDTH, e, column), number);
-}
-
-pub fn put_edge(edges: &mut [i64], e: usize, from: i64, to: i64, offset: i64) {
-    put_end(edges, e, FROM, from);
-    put_end(edges, e, TO, to);
-    put_end(edges, e, OFFSET, offset);
-}
-
 // The first bit of a node.
-pub fn first_bit(nodes: &[i64], v: usize) -> usize {
-    bits(node_size(nodes, v, BASE), node_size(nodes, v, UNIT))
+pub fn first_bit(map: &Map, v: usize) -> usize {
+    bits(node_size(map, v, BASE), node_size(map, v, UNIT))
 }
 
 // The bit after the last bit of a node.
-pub fn end_bit(nodes: &[i64], v: usize) -> usize {
-    let units = sum(node_size(nodes, v, BASE), node_size(nodes, v, RANGE));
-    bits(units, node_size(nodes, v, UNIT))
+pub fn end_bit(map: &Map, v: usize) -> usize {
+    let units = sum(node_size(map, v, BASE), node_size(map, v, RANGE));
+    bits(units, node_size(map, v, UNIT))
 }
 
 // How many bits a node has.
-pub fn bit_count(nodes: &[i64], v: usize) -> usize {
-    less(end_bit(nodes, v), first_bit(nodes, v))
+pub fn bit_count(map: &Map, v: usize) -> usize {
+    less(end_bit(map, v), first_bit(map, v))
+}
+
+// Sets a number of a node row.
+fn put_size(map: &mut Map, v: usize, column: usize, count: usize) {
+    put(map, place(NODE_WIDTH, v, column), number(count));
+}
+
+pub fn put_node(map: &mut Map, v: usize, node: Node) {
+    put_size(map, v, KIND, node.kind);
+    put_size(map, v, BASE, node.base);
+    put_size(map, v, RANGE, node.range);
+    put_size(map, v, UNIT, node.unit);
+}
+
+// A number of a row of three, in the table of a map that begins at `first`.
+pub fn number_in(map: &Map, first: usize, row: usize, column: usize) -> i64 {
+    at(map, sum(first, place(EDGE_WIDTH, row, column)))
+}
+
+// The node that a row of three names in a column.
+pub fn node_in(map: &Map, first: usize, row: usize, column: usize) -> usize {
+    size(number_in(map, first, row, column))
+}
+
+pub fn edge_of(map: &Map, e: usize) -> Edge {
+    Edge {
+        from: node_in(map, EDGES_AT, e, FROM),
+        to: node_in(map, EDGES_AT, e, TO),
+        offset: number_in(map, EDGES_AT, e, OFFSET),
+    }
+}
+
+// Sets a number of a row of three.
+pub fn put_in(map: &mut Map, first: usize, row: usize, column: usize, number: i64) {
+    put(map, sum(first, place(EDGE_WIDTH, row, column)), number);
+}
+
+// Sets a row of three: an edge or a pair.
+pub fn put_row(map: &mut Map, first: usize, row: usize, left: usize, right: usize, last: i64) {
+    put_in(map, first, row, 0, number(left));
+    put_in(map, first, row, 1, number(right));
+    put_in(map, first, row, 2, last);
+}
+
+pub fn put_edge(map: &mut Map, e: usize, from: usize, to: usize, offset: i64) {
+    put_row(map, EDGES_AT, e, from, to, offset);
 }

@@ -1,5 +1,7 @@
 // The habits by which an implementation map comes from a specification map. Nodes that a habit adds stand at the end of the plain map, so that
 // roots and leaves keep their rows.
+pub mod arrangements;
+
 use generator::maps;
 use generator::maps::Shape;
 use generator::numbers::depth_of;
@@ -14,6 +16,8 @@ use generator::numbers::size;
 use generator::numbers::sum;
 use generator::numbers::times;
 use generator::rows;
+use generator::rows::Map;
+use generator::rows::Node;
 
 // Habits, in the order in which they are counted.
 // 0 is the same map.
@@ -31,11 +35,11 @@ const EDGE_TWICE: usize = 6;
 
 const EDGE_BESIDE: usize = 7;
 
-const TOUCHING_PARTS: usize = 8;
+pub(crate) const TOUCHING_PARTS: usize = 8;
 
-const OVERLAPPING_PARTS: usize = 9;
+pub(crate) const OVERLAPPING_PARTS: usize = 9;
 
-const PARTED: usize = 10;
+pub(crate) const PARTED: usize = 10;
 
 const SMALLER_UNIT: usize = 11;
 
@@ -65,11 +69,12 @@ fn grown(shape: Shape, nodes: usize, edges: usize) -> Shape {
         leaves: shape.leaves,
         nodes: nodes,
         edges: edges,
+        pairs: shape.pairs,
     }
 }
 
 // Whether a map has room for one more node, and for each of its edges once more.
-fn has_room(shape: Shape) -> bool {
+pub(crate) fn has_room(shape: Shape) -> bool {
     if shape.nodes >= rows::MAX_NODES {
         return false;
     }
@@ -77,296 +82,303 @@ fn has_room(shape: Shape) -> bool {
 }
 
 // Copies edge e to row k.
-fn copy_edge(edges: &mut [i64], e: usize, k: usize) {
-    let from = rows::edge_end(edges, e, rows::FROM);
-    let to = rows::edge_end(edges, e, rows::TO);
-    let offset = rows::offset_at(edges, e);
-    rows::put_edge(edges, k, number(from), number(to), offset);
+fn copy_edge(map: &mut Map, e: usize, k: usize) {
+    let edge = rows::edge_of(map, e);
+    rows::put_edge(map, k, edge.from, edge.to, edge.offset);
 }
 
-// Puts a bridge: a node whose window no address here leaves upwards.
-fn put_bridge(nodes: &mut [i64], b: usize, unit: usize, kind: usize) {
-    rows::put_node(nodes, b, rows::KIND, number(kind));
-    rows::put_node(nodes, b, rows::BASE, 0);
-    rows::put_node(nodes, b, rows::RANGE, number(quotient(BRIDGE_BITS, unit)));
-    rows::put_node(nodes, b, rows::UNIT, number(unit));
-}
-
-// Leads edge e through bridge b by way of row k: edge e enters the bridge, and row k leaves it.
-fn lead_through(edges: &mut [i64], e: usize, k: usize, b: usize) {
-    copy_edge(edges, e, k);
-    rows::put_end(edges, e, rows::TO, number(b));
-    rows::put_end(edges, k, rows::FROM, number(b));
-}
-
-// Moves addresses up on the way into a bridge and down again on the way out. A clipping bridge moves them down first.
-fn put_offsets(edges: &mut [i64], e: usize, k: usize, there: usize, back: usize, clipping: bool) {
-    let offset = rows::offset_at(edges, e);
-    if clipping {
-        rows::put_end(edges, e, rows::OFFSET, number(there));
-        rows::put_end(edges, k, rows::OFFSET, lowered(offset, back));
-        return;
+// A bridge: a node whose window no address here leaves upwards.
+fn bridge_of(unit: usize, kind: usize) -> Node {
+    Node {
+        kind: kind,
+        base: 0,
+        range: quotient(BRIDGE_BITS, unit),
+        unit: unit,
     }
-    rows::put_end(edges, e, rows::OFFSET, negative(there));
-    rows::put_end(edges, k, rows::OFFSET, raised(offset, back));
 }
 
-fn bridge(
-    nodes: &mut [i64],
-    edges: &mut [i64],
-    shape: Shape,
-    clipping: bool,
-    seed: &mut usize,
-) -> Shape {
+// Leads edge e through bridge b, which row k leaves. It moves addresses up on the way in and down again on the way out, or first down where it
+// clips: by this many of the largest units.
+fn lead_through(map: &mut Map, e: usize, k: usize, b: usize, far: usize, clipping: bool) {
+    let edge = rows::edge_of(map, e);
+    let there = times(
+        quotient(LARGEST_UNIT, rows::node_size(map, b, rows::UNIT)),
+        far,
+    );
+    let back = times(
+        quotient(LARGEST_UNIT, rows::node_size(map, edge.to, rows::UNIT)),
+        far,
+    );
+    let mut into = negative(there);
+    let mut out = raised(edge.offset, back);
+    if clipping {
+        into = number(there);
+        out = lowered(edge.offset, back);
+    }
+    rows::put_edge(map, e, edge.from, b, into);
+    rows::put_edge(map, k, b, edge.to, out);
+}
+
+fn bridge(map: &mut Map, shape: Shape, clipping: bool, seed: &mut usize) -> Shape {
     if !has_room(shape) {
         return shape;
     }
-    let e = draw(seed, shape.edges);
-    let to_unit = rows::node_size(nodes, rows::edge_end(edges, e, rows::TO), rows::UNIT);
     let unit = maps::unit_of(draw(seed, maps::UNITS));
-    let far = draw(seed, 3);
-    let there = times(quotient(LARGEST_UNIT, unit), far);
-    let back = times(quotient(LARGEST_UNIT, to_unit), far);
-    put_bridge(nodes, shape.nodes, unit, draw(seed, 2));
-    lead_through(edges, e, shape.edges, shape.nodes);
-    put_offsets(edges, e, shape.edges, there, back, clipping);
+    rows::put_node(map, shape.nodes, bridge_of(unit, draw(seed, 2)));
+    let e = draw(seed, shape.edges);
+    lead_through(map, e, shape.edges, shape.nodes, draw(seed, 3), clipping);
     grown(shape, sum(shape.nodes, 1), sum(shape.edges, 1))
 }
 
-// Cuts a node's last units off.
-fn cut_range(nodes: &mut [i64], v: usize, seed: &mut usize) {
-    let range = rows::node_size(nodes, v, rows::RANGE);
-    rows::put_node(
-        nodes,
-        v,
-        rows::RANGE,
-        number(sum(1, draw(seed, less(range, 1)))),
-    );
+// A node with another base and range.
+fn resized(node: Node, base: usize, range: usize) -> Node {
+    Node {
+        kind: node.kind,
+        base: base,
+        range: range,
+        unit: node.unit,
+    }
 }
 
-// Cuts a node's first units off.
-fn raise_base(nodes: &mut [i64], v: usize, seed: &mut usize) {
-    let range = rows::node_size(nodes, v, rows::RANGE);
-    if range < 2 {
-        return;
+// Cuts a node's last units off.
+fn cut_range(map: &mut Map, v: usize, seed: &mut usize) {
+    let node = rows::node_of(map, v);
+    let range = sum(1, draw(seed, less(node.range, 1)));
+    rows::put_node(map, v, resized(node, node.base, range));
+}
+
+// Cuts a node's first units off. Gives how many.
+pub(crate) fn raise_base(map: &mut Map, v: usize, seed: &mut usize) -> usize {
+    let node = rows::node_of(map, v);
+    if node.range < 2 {
+        return 0;
     }
-    let cut = sum(1, draw(seed, less(range, 1)));
-    let base = rows::node_size(nodes, v, rows::BASE);
-    rows::put_node(nodes, v, rows::BASE, number(sum(base, cut)));
-    rows::put_node(nodes, v, rows::RANGE, number(less(range, cut)));
+    let cut = sum(1, draw(seed, less(node.range, 1)));
+    let after = resized(node, sum(node.base, cut), less(node.range, cut));
+    rows::put_node(map, v, after);
+    cut
 }
 
 // Moves an edge's offset by one unit or two.
-fn move_offset(edges: &mut [i64], e: usize, seed: &mut usize) {
-    let offset = rows::offset_at(edges, e);
+fn move_offset(map: &mut Map, e: usize, seed: &mut usize) {
+    let edge = rows::edge_of(map, e);
     let by = sum(1, draw(seed, 2));
-    let mut to = raised(offset, by);
+    let mut to = raised(edge.offset, by);
     if draw(seed, 2) == 0 {
-        to = lowered(offset, by);
+        to = lowered(edge.offset, by);
     }
-    rows::put_end(edges, e, rows::OFFSET, to);
+    rows::put_edge(map, e, edge.from, edge.to, to);
 }
 
-fn leave_out(edges: &mut [i64], shape: Shape, seed: &mut usize) -> Shape {
+fn leave_out(map: &mut Map, shape: Shape, seed: &mut usize) -> Shape {
     if shape.edges < 2 {
         return shape;
     }
     let last = less(shape.edges, 1);
-    copy_edge(edges, last, draw(seed, shape.edges));
+    copy_edge(map, last, draw(seed, shape.edges));
     grown(shape, shape.nodes, last)
 }
 
-fn double(edges: &mut [i64], shape: Shape, beside: bool, seed: &mut usize) -> Shape {
+fn double(map: &mut Map, shape: Shape, beside: bool, seed: &mut usize) -> Shape {
     if !has_room(shape) {
         return shape;
     }
-    copy_edge(edges, draw(seed, shape.edges), shape.edges);
-    let after = grown(shape, shape.nodes, sum(shape.edges, 1));
-    if !beside {
-        return after;
+    copy_edge(map, draw(seed, shape.edges), shape.edges);
+    if beside {
+        move_offset(map, shape.edges, seed);
     }
-    move_offset(edges, shape.edges, seed);
-    after
+    grown(shape, shape.nodes, sum(shape.edges, 1))
 }
 
-// Gives node w the edges of node v, as far as edge e is one of them.
-fn share_edge(edges: &mut [i64], e: usize, v: usize, w: usize, count: usize) -> usize {
-    let from = rows::edge_end(edges, e, rows::FROM);
-    let to = rows::edge_end(edges, e, rows::TO);
-    if from == v {
-        copy_edge(edges, e, count);
-        rows::put_end(edges, count, rows::FROM, number(w));
-        return sum(count, 1);
-    }
-    if to == v {
-        copy_edge(edges, e, count);
-        rows::put_end(edges, count, rows::TO, number(w));
-        return sum(count, 1);
-    }
-    count
+// Node w in the place of node v.
+pub(crate) fn replaced(node: usize, v: usize, w: usize) -> usize {
+    if node == v { w } else { node }
 }
 
-fn share_edges(edges: &mut [i64], rows_before: usize, v: usize, w: usize) -> usize {
+// Gives node w the edges of node v, as far as edge e is one of them: a copy of it behind the others.
+fn share_edge(map: &mut Map, e: usize, v: usize, w: usize, count: usize) -> usize {
+    let edge = rows::edge_of(map, e);
+    let from = replaced(edge.from, v, w);
+    let to = replaced(edge.to, v, w);
+    if from == edge.from {
+        if to == edge.to {
+            return count;
+        }
+    }
+    rows::put_edge(map, count, from, to, edge.offset);
+    sum(count, 1)
+}
+
+pub(crate) fn share_edges(map: &mut Map, rows_before: usize, v: usize, w: usize) -> usize {
     let mut count = rows_before;
     for e in 0..rows::MAX_EDGES {
         if e >= rows_before {
             return count;
         }
-        count = share_edge(edges, e, v, w, count);
+        count = share_edge(map, e, v, w, count);
     }
     count
 }
 
 // Parts the window of node v: it keeps its first `kept` units, and node w has those from `first` on.
-fn part_window(nodes: &mut [i64], v: usize, w: usize, kept: usize, first: usize) {
-    let base = rows::node_size(nodes, v, rows::BASE);
-    let range = rows::node_size(nodes, v, rows::RANGE);
-    rows::put_node(
-        nodes,
-        w,
-        rows::KIND,
-        number(rows::node_size(nodes, v, rows::KIND)),
-    );
-    rows::put_node(nodes, w, rows::BASE, number(sum(base, first)));
-    rows::put_node(nodes, w, rows::RANGE, number(less(range, first)));
-    rows::put_node(
-        nodes,
-        w,
-        rows::UNIT,
-        number(rows::node_size(nodes, v, rows::UNIT)),
-    );
-    rows::put_node(nodes, v, rows::RANGE, number(kept));
+pub(crate) fn part_window(map: &mut Map, v: usize, w: usize, kept: usize, first: usize) {
+    let node = rows::node_of(map, v);
+    rows::put_node(map, v, resized(node, node.base, kept));
+    let rest = resized(node, sum(node.base, first), less(node.range, first));
+    rows::put_node(map, w, rest);
 }
 
-// Parts a node between roots and leaves: in touching or overlapping parts, or with a unit open.
-fn halve(
-    nodes: &mut [i64],
-    edges: &mut [i64],
-    shape: Shape,
+// Parts node v in touching or overlapping parts, or with a unit open: node w has the last of them. Gives the unit of node v at which it begins,
+// or 0 where there are too few units.
+pub(crate) fn part_node(
+    map: &mut Map,
+    v: usize,
+    w: usize,
     habit: usize,
     seed: &mut usize,
-) -> Shape {
-    let v = sum(shape.roots, draw(seed, less(shape.inner, shape.roots)));
-    let range = rows::node_size(nodes, v, rows::RANGE);
+) -> usize {
+    let range = rows::node_size(map, v, rows::RANGE);
     if range < 3 {
-        return shape;
+        return 0;
     }
-    let kept = sum(1, draw(seed, less(range, 2)));
+    let mut kept = sum(1, draw(seed, less(range, 2)));
     let mut first = kept;
     if habit == OVERLAPPING_PARTS {
-        first = less(kept, 1);
+        kept = sum(kept, 1);
     }
     if habit == PARTED {
         first = sum(kept, 1);
     }
-    part_window(nodes, v, shape.nodes, kept, first);
-    let edge_count = share_edges(edges, shape.edges, v, shape.nodes);
+    part_window(map, v, w, kept, first);
+    first
+}
+
+// Parts a node between roots and leaves.
+fn halve(map: &mut Map, shape: Shape, habit: usize, seed: &mut usize) -> Shape {
+    let v = sum(shape.roots, draw(seed, less(shape.inner, shape.roots)));
+    if part_node(map, v, shape.nodes, habit, seed) == 0 {
+        return shape;
+    }
+    let edge_count = share_edges(map, shape.edges, v, shape.nodes);
     grown(shape, sum(shape.nodes, 1), edge_count)
 }
 
-fn try_halve(
-    nodes: &mut [i64],
-    edges: &mut [i64],
-    shape: Shape,
-    habit: usize,
-    seed: &mut usize,
-) -> Shape {
+fn try_halve(map: &mut Map, shape: Shape, habit: usize, seed: &mut usize) -> Shape {
     if !has_room(shape) {
         return shape;
     }
     if shape.inner == shape.roots {
         return shape;
     }
-    halve(nodes, edges, shape, habit, seed)
+    halve(map, shape, habit, seed)
+}
+
+// Doubles an offset.
+fn doubled(offset: i64) -> i64 {
+    if offset < 0 {
+        return lowered(offset, depth_of(offset));
+    }
+    raised(offset, size(offset))
 }
 
 // Doubles the offset of edge e if it enters node v.
-fn double_offset(edges: &mut [i64], e: usize, v: usize) {
-    if rows::edge_end(edges, e, rows::TO) != v {
-        return;
+fn double_offset(map: &mut Map, e: usize, v: usize) {
+    let edge = rows::edge_of(map, e);
+    if edge.to == v {
+        rows::put_edge(map, e, edge.from, edge.to, doubled(edge.offset));
     }
-    let offset = rows::offset_at(edges, e);
-    let mut twice = raised(offset, size(offset));
-    if offset < 0 {
-        twice = lowered(offset, depth_of(offset));
-    }
-    rows::put_end(edges, e, rows::OFFSET, twice);
 }
 
-fn double_offsets(edges: &mut [i64], edge_rows: usize, v: usize) {
+fn double_offsets(map: &mut Map, edge_rows: usize, v: usize) {
     for e in 0..rows::MAX_EDGES {
         if e >= edge_rows {
             return;
         }
-        double_offset(edges, e, v);
+        double_offset(map, e, v);
     }
 }
 
 // Counts node v and the offsets into it in units half as large.
-fn halve_unit(nodes: &mut [i64], edges: &mut [i64], shape: Shape, v: usize) {
-    let unit = rows::node_size(nodes, v, rows::UNIT);
-    if unit <= SMALLEST_UNIT {
+pub(crate) fn halve_unit(map: &mut Map, shape: Shape, v: usize) {
+    let node = rows::node_of(map, v);
+    if node.unit <= SMALLEST_UNIT {
         return;
     }
-    let base = rows::node_size(nodes, v, rows::BASE);
-    let range = rows::node_size(nodes, v, rows::RANGE);
-    rows::put_node(nodes, v, rows::UNIT, number(unit / 2));
-    rows::put_node(nodes, v, rows::BASE, number(times(base, 2)));
-    rows::put_node(nodes, v, rows::RANGE, number(times(range, 2)));
-    double_offsets(edges, shape.edges, v);
+    let halved = Node {
+        kind: node.kind,
+        base: times(node.base, 2),
+        range: times(node.range, 2),
+        unit: node.unit / 2,
+    };
+    rows::put_node(map, v, halved);
+    double_offsets(map, shape.edges, v);
 }
 
 // Draws all nodes and edges again.
-fn draw_again(nodes: &mut [i64], edges: &mut [i64], shape: Shape, seed: &mut usize) {
-    maps::draw_nodes(nodes, shape, maps::TREE, maps::UNITS, seed);
-    maps::draw_edges(nodes, edges, shape, maps::TREE, seed);
+fn draw_again(map: &mut Map, shape: Shape, seed: &mut usize) {
+    maps::draw_nodes(map, shape, maps::TREE, maps::UNITS, seed);
+    maps::draw_edges(map, shape, maps::TREE, seed);
 }
 
-// The habits that change numbers alone.
-fn change_numbers(
-    nodes: &mut [i64],
-    edges: &mut [i64],
-    shape: Shape,
-    habit: usize,
-    seed: &mut usize,
-) {
+// The node that a habit cuts units off: any, or a leaf where a block is shortened.
+fn draw_cut(shape: Shape, habit: usize, seed: &mut usize) -> usize {
+    if habit == BLOCK_SHORTENED {
+        return sum(shape.inner, draw(seed, shape.leaves));
+    }
+    draw(seed, shape.nodes)
+}
+
+// The habits that change numbers of nodes alone.
+fn change_node(map: &mut Map, shape: Shape, habit: usize, seed: &mut usize) {
     match habit {
-        RANGE_CUT => cut_range(nodes, draw(seed, shape.nodes), seed),
-        BASE_RAISED => raise_base(nodes, draw(seed, shape.inner), seed),
-        OFFSET_MOVED => move_offset(edges, draw(seed, shape.edges), seed),
-        SMALLER_UNIT => halve_unit(nodes, edges, shape, draw(seed, shape.nodes)),
-        BLOCK_SHORTENED => { cut_range(nodes, sum(shape.inner, draw(seed, shape.leaves)), seed) }
-        ANOTHER_MAP => draw_again(nodes, edges, shape, seed),
+        RANGE_CUT | BLOCK_SHORTENED => cut_range(map, draw_cut(shape, habit, seed), seed),
+        BASE_RAISED => {
+            raise_base(map, draw(seed, shape.inner), seed);
+        }
         _ => {}
     }
 }
 
-// Changes a plain map by a habit. Gives its sizes afterwards.
-pub fn change(
-    nodes: &mut [i64],
-    edges: &mut [i64],
-    shape: Shape,
-    habit: usize,
-    seed: &mut usize,
-) -> Shape {
+// The habits that change numbers alone.
+fn change_numbers(map: &mut Map, shape: Shape, habit: usize, seed: &mut usize) {
     match habit {
-        BRIDGE => bridge(nodes, edges, shape, false, seed),
-        CLIPPING_BRIDGE => bridge(nodes, edges, shape, true, seed),
-        EDGE_LEFT_OUT => leave_out(edges, shape, seed),
-        EDGE_TWICE => double(edges, shape, false, seed),
-        EDGE_BESIDE => double(edges, shape, true, seed),
-        TOUCHING_PARTS | OVERLAPPING_PARTS | PARTED => try_halve(nodes, edges, shape, habit, seed),
-        _ => {
-            change_numbers(nodes, edges, shape, habit, seed);
-            shape
-        }
+        OFFSET_MOVED => move_offset(map, draw(seed, shape.edges), seed),
+        SMALLER_UNIT => halve_unit(map, shape, draw(seed, shape.nodes)),
+        ANOTHER_MAP => draw_again(map, shape, seed),
+        _ => change_node(map, shape, habit, seed),
     }
+}
+
+// The habits that add or leave out rows. Gives the map's sizes afterwards.
+fn change_rows(map: &mut Map, shape: Shape, habit: usize, seed: &mut usize) -> Shape {
+    match habit {
+        BRIDGE | CLIPPING_BRIDGE => bridge(map, shape, habit == CLIPPING_BRIDGE, seed),
+        EDGE_LEFT_OUT => leave_out(map, shape, seed),
+        EDGE_TWICE | EDGE_BESIDE => double(map, shape, habit == EDGE_BESIDE, seed),
+        _ => try_halve(map, shape, habit, seed),
+    }
+}
+
+// Whether a habit adds or leaves out rows.
+fn changes_rows(habit: usize) -> bool {
+    match habit {
+        BRIDGE | CLIPPING_BRIDGE | EDGE_LEFT_OUT..=PARTED => true,
+        _ => false,
+    }
+}
+
+// Changes a plain map by a habit. Gives its sizes afterwards.
+pub fn change(map: &mut Map, shape: Shape, habit: usize, seed: &mut usize) -> Shape {
+    if changes_rows(habit) {
+        return change_rows(map, shape, habit, seed);
+    }
+    change_numbers(map, shape, habit, seed);
+    shape
 }
 
 // Changes a plain map by one habit several times over.
 pub fn change_often(
-    nodes: &mut [i64],
-    edges: &mut [i64],
+    map: &mut Map,
     before: Shape,
     habit: usize,
     often: usize,
@@ -374,7 +386,7 @@ pub fn change_often(
 ) -> Shape {
     let mut shape = before;
     for turn in 0..often {
-        shape = change(nodes, edges, shape, habit, seed);
+        shape = change(map, shape, habit, seed);
     }
     shape
 }

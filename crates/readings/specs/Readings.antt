@@ -4,16 +4,42 @@ use mathlib.Core.List.{List, [], _∷_, _++_}
 use Prim.Native.Nat.{ℕ, _*_, _-_, _^_}
 use Prim.Native.String.{String}
 use lib.IntN.{ℤ, pos, negsuc, negℤ}
-use Rattle.model.specs.Compare.{Tables, Result}
+use Rattle.model.specs.Compare.{Tables, nowhere, Result}
 use Rattle.model.specs.Calls.{Answer, full, checkAnswer, walkGives, walkAfter, listGives, listAfter, compareAnswer}
 use Rattle.model.specs.Bytes.{Bytes, bytes}
 use Rattle.model.specs.TextCheck.{printed, textGives, coded}
 use Rattle.model.specs.Tally.{Check, tallyGives, tallyAfter, countsAfter, freshTally, countsAfterAll, ended}
-use Rattle.model.specs.Marked.{refusal, times, text1, report1, text2, text3}
+use Rattle.model.specs.Marked.{specNodes, specEdges, refusal, times, text1, report1, text2, text3}
+
+-- two specified memories of 16 bytes, blocks 1 and 2, of which the second lies behind the first; blocks 1 and 2 of the implementation are the halves of the
+-- first, blocks 3 and 4 those of the second
+abbrev pub memoryNodes : List ℤ
+memoryNodes = pos 0 ∷ pos 0 ∷ pos 32 ∷ pos 8 ∷ times 2 (pos 2 ∷ pos 0 ∷ pos 16 ∷ pos 8 ∷ [])
+
+abbrev pub memoryEdges : List ℤ
+memoryEdges = pos 0 ∷ pos 1 ∷ pos 0 ∷ pos 0 ∷ pos 2 ∷ pos 16 ∷ []
+
+abbrev pub bankNodes : List ℤ
+bankNodes = pos 0 ∷ pos 0 ∷ pos 32 ∷ pos 8 ∷ times 4 (pos 2 ∷ pos 0 ∷ pos 8 ∷ pos 8 ∷ [])
+
+abbrev pub bankEdges : List ℤ
+bankEdges = pos 0 ∷ pos 1 ∷ pos 0 ∷ pos 0 ∷ pos 2 ∷ pos 8 ∷ pos 0 ∷ pos 3 ∷ pos 16 ∷ pos 0 ∷ pos 4 ∷ pos 24 ∷ []
+
+-- the memories with these root pairs and leaf pairs
+abbrev pub memories : List ℤ → List ℤ → Tables
+memories roots leaves =
+    record { specNodes = memoryNodes; specEdges = memoryEdges; implNodes = bankNodes; implEdges = bankEdges; rootPairs = roots; leafPairs = leaves }
+
+-- the same in a map file: what stands before its third table, whose names are on line 19
+abbrev pub memoriesText : String
+memoriesText =
+    "side kind base range unit\n0 0 0 32 8\n0 2 0 16 8\n0 2 0 16 8\n1 0 0 32 8\n1 2 0 8 8\n1 2 0 8 8\n1 2 0 8 8\n1 2 0 8 8\n\nside from to offset\n0 0 1 0\n0 0 2 16\n1 0 1 0\n1 0 2 8\n1 0 3 16\n1 0 4 24\n\n"
 
 pub data Reading : Type 0 where
   -- a map file, and what mapcheck prints for it
   prints : String → String → Reading
+  -- the third table of a map file of the memories, and what mapcheck prints for it
+  printsPairs : String → String → Reading
   -- node table and edge table, and the answer of the check
   checks : List ℤ → List ℤ → Answer (Unit {0}) → Reading
   -- tables, root, leaf, address and buffer; what walk returns, and the buffer afterwards
@@ -34,6 +60,7 @@ pub data Reading : Type 0 where
 -- what a reading says
 abbrev pub Says : Reading → Type 0
 Says (prints text out) = printed (bytes text) ≡ bytes out
+Says (printsPairs pairs out) = printed (bytes memoriesText ++ bytes pairs) ≡ bytes out
 Says (checks ns es a) = checkAnswer ns es ≡ a
 Says (walks ns es r l x b n after) = (walkGives ns es r l x b ≡ n) × (walkAfter ns es r l x b ≡ after)
 Says (listed ns es r l b n after) = (listGives ns es r l b ≡ n) × (listAfter ns es r l b ≡ after)
@@ -168,32 +195,162 @@ callReadings =
     listed (pos 0 ∷ pos 0 ∷ pos 16 ∷ pos 8 ∷ pos 2 ∷ pos 0 ∷ pos 16 ∷ pos 8 ∷ []) (times 1024 (pos 0 ∷ pos 1 ∷ pos 64 ∷ [])) (pos 0) (pos 1) [] (full 0) [] ∷
     listed (pos 0 ∷ pos 0 ∷ pos 16 ∷ pos 8 ∷ pos 2 ∷ pos 0 ∷ pos 16 ∷ pos 8 ∷ []) (times 1025 (pos 0 ∷ pos 1 ∷ pos 64 ∷ [])) (pos 0) (pos 1) [] (refusal 10 1 0) [] ∷
     -- 1,001 leaf rows and no root row: the shape comes first
-    compares (record { specNodes = (pos 0 ∷ pos 0 ∷ pos 16 ∷ pos 8 ∷ pos 2 ∷ pos 0 ∷ pos 16 ∷ pos 8 ∷ []); specEdges = (pos 0 ∷ pos 1 ∷ pos 0 ∷ []); implNodes = (pos 0 ∷ pos 0 ∷ pos 16 ∷ pos 8 ∷ pos 2 ∷ pos 0 ∷ pos 16 ∷ pos 8 ∷ []); implEdges = (pos 0 ∷ pos 1 ∷ pos 0 ∷ []); rootPairs = []; leafPairs = (times 1001 (pos 1 ∷ pos 1 ∷ [])) }) (refusal 1 5 0) ∷
+    compares (record { specNodes = (pos 0 ∷ pos 0 ∷ pos 16 ∷ pos 8 ∷ pos 2 ∷ pos 0 ∷ pos 16 ∷ pos 8 ∷ []); specEdges = (pos 0 ∷ pos 1 ∷ pos 0 ∷ []); implNodes = (pos 0 ∷ pos 0 ∷ pos 16 ∷ pos 8 ∷ pos 2 ∷ pos 0 ∷ pos 16 ∷ pos 8 ∷ []); implEdges = (pos 0 ∷ pos 1 ∷ pos 0 ∷ []); rootPairs = []; leafPairs = (times 1001 (pos 1 ∷ pos 1 ∷ pos 0 ∷ [])) }) (refusal 1 5 0) ∷
     -- no root pair; no leaf pair
-    compares (record { specNodes = (pos 0 ∷ pos 0 ∷ pos 16 ∷ pos 8 ∷ pos 2 ∷ pos 0 ∷ pos 16 ∷ pos 8 ∷ []); specEdges = []; implNodes = (pos 0 ∷ pos 0 ∷ pos 16 ∷ pos 8 ∷ pos 2 ∷ pos 0 ∷ pos 16 ∷ pos 8 ∷ []); implEdges = []; rootPairs = []; leafPairs = (pos 1 ∷ pos 1 ∷ []) }) (refusal 9 4 0) ∷
-    compares (record { specNodes = (pos 0 ∷ pos 0 ∷ pos 16 ∷ pos 8 ∷ pos 2 ∷ pos 0 ∷ pos 16 ∷ pos 8 ∷ []); specEdges = []; implNodes = (pos 0 ∷ pos 0 ∷ pos 16 ∷ pos 8 ∷ pos 2 ∷ pos 0 ∷ pos 16 ∷ pos 8 ∷ []); implEdges = []; rootPairs = (pos 0 ∷ pos 0 ∷ []); leafPairs = [] }) (refusal 9 5 0) ∷
+    compares (record { specNodes = (pos 0 ∷ pos 0 ∷ pos 16 ∷ pos 8 ∷ pos 2 ∷ pos 0 ∷ pos 16 ∷ pos 8 ∷ []); specEdges = []; implNodes = (pos 0 ∷ pos 0 ∷ pos 16 ∷ pos 8 ∷ pos 2 ∷ pos 0 ∷ pos 16 ∷ pos 8 ∷ []); implEdges = []; rootPairs = []; leafPairs = (pos 1 ∷ pos 1 ∷ pos 0 ∷ []) }) (refusal 9 4 0) ∷
+    compares (record { specNodes = (pos 0 ∷ pos 0 ∷ pos 16 ∷ pos 8 ∷ pos 2 ∷ pos 0 ∷ pos 16 ∷ pos 8 ∷ []); specEdges = []; implNodes = (pos 0 ∷ pos 0 ∷ pos 16 ∷ pos 8 ∷ pos 2 ∷ pos 0 ∷ pos 16 ∷ pos 8 ∷ []); implEdges = []; rootPairs = (pos 0 ∷ pos 0 ∷ pos 0 ∷ []); leafPairs = [] }) (refusal 9 5 0) ∷
     -- a node paired before, on one side; 8 at row 1 before 7 at row 2
-    compares (record { specNodes = (pos 0 ∷ pos 0 ∷ pos 16 ∷ pos 8 ∷ pos 0 ∷ pos 0 ∷ pos 16 ∷ pos 8 ∷ pos 2 ∷ pos 0 ∷ pos 16 ∷ pos 8 ∷ []); specEdges = []; implNodes = (pos 0 ∷ pos 0 ∷ pos 16 ∷ pos 8 ∷ pos 0 ∷ pos 0 ∷ pos 16 ∷ pos 8 ∷ pos 2 ∷ pos 0 ∷ pos 16 ∷ pos 8 ∷ []); implEdges = []; rootPairs = (pos 0 ∷ pos 0 ∷ pos 1 ∷ pos 0 ∷ pos 9 ∷ pos 9 ∷ []); leafPairs = (pos 2 ∷ pos 2 ∷ []) }) (refusal 8 4 1) ∷
+    compares (record { specNodes = (pos 0 ∷ pos 0 ∷ pos 16 ∷ pos 8 ∷ pos 0 ∷ pos 0 ∷ pos 16 ∷ pos 8 ∷ pos 2 ∷ pos 0 ∷ pos 16 ∷ pos 8 ∷ []); specEdges = []; implNodes = (pos 0 ∷ pos 0 ∷ pos 16 ∷ pos 8 ∷ pos 0 ∷ pos 0 ∷ pos 16 ∷ pos 8 ∷ pos 2 ∷ pos 0 ∷ pos 16 ∷ pos 8 ∷ []); implEdges = []; rootPairs = (pos 0 ∷ pos 0 ∷ pos 0 ∷ pos 1 ∷ pos 0 ∷ pos 0 ∷ pos 9 ∷ pos 9 ∷ pos 0 ∷ []); leafPairs = (pos 2 ∷ pos 2 ∷ pos 0 ∷ []) }) (refusal 8 4 1) ∷
+    -- and on the other side
+    compares (record { specNodes = (pos 0 ∷ pos 0 ∷ pos 16 ∷ pos 8 ∷ pos 0 ∷ pos 0 ∷ pos 16 ∷ pos 8 ∷ pos 2 ∷ pos 0 ∷ pos 16 ∷ pos 8 ∷ []); specEdges = []; implNodes = (pos 0 ∷ pos 0 ∷ pos 16 ∷ pos 8 ∷ pos 0 ∷ pos 0 ∷ pos 16 ∷ pos 8 ∷ pos 2 ∷ pos 0 ∷ pos 16 ∷ pos 8 ∷ []); implEdges = []; rootPairs = (pos 0 ∷ pos 0 ∷ pos 0 ∷ pos 0 ∷ pos 1 ∷ pos 0 ∷ []); leafPairs = (pos 2 ∷ pos 2 ∷ pos 0 ∷ []) }) (refusal 8 4 1) ∷
     -- within a row 7 before 8
-    compares (record { specNodes = (pos 0 ∷ pos 0 ∷ pos 16 ∷ pos 8 ∷ pos 0 ∷ pos 0 ∷ pos 16 ∷ pos 8 ∷ pos 2 ∷ pos 0 ∷ pos 16 ∷ pos 8 ∷ []); specEdges = []; implNodes = (pos 0 ∷ pos 0 ∷ pos 16 ∷ pos 8 ∷ pos 0 ∷ pos 0 ∷ pos 16 ∷ pos 8 ∷ pos 2 ∷ pos 0 ∷ pos 16 ∷ pos 8 ∷ []); implEdges = []; rootPairs = (pos 0 ∷ pos 0 ∷ pos 0 ∷ pos 2 ∷ []); leafPairs = (pos 2 ∷ pos 2 ∷ []) }) (refusal 7 4 1) ∷
+    compares (record { specNodes = (pos 0 ∷ pos 0 ∷ pos 16 ∷ pos 8 ∷ pos 0 ∷ pos 0 ∷ pos 16 ∷ pos 8 ∷ pos 2 ∷ pos 0 ∷ pos 16 ∷ pos 8 ∷ []); specEdges = []; implNodes = (pos 0 ∷ pos 0 ∷ pos 16 ∷ pos 8 ∷ pos 0 ∷ pos 0 ∷ pos 16 ∷ pos 8 ∷ pos 2 ∷ pos 0 ∷ pos 16 ∷ pos 8 ∷ []); implEdges = []; rootPairs = (pos 0 ∷ pos 0 ∷ pos 0 ∷ pos 0 ∷ pos 2 ∷ pos 0 ∷ []); leafPairs = (pos 2 ∷ pos 2 ∷ pos 0 ∷ []) }) (refusal 7 4 1) ∷
     -- in the table of leaf pairs: no leaf; a node paired before, on the implementation's side
-    compares (record { specNodes = (pos 0 ∷ pos 0 ∷ pos 16 ∷ pos 8 ∷ pos 2 ∷ pos 0 ∷ pos 16 ∷ pos 8 ∷ pos 2 ∷ pos 0 ∷ pos 16 ∷ pos 8 ∷ []); specEdges = []; implNodes = (pos 0 ∷ pos 0 ∷ pos 16 ∷ pos 8 ∷ pos 2 ∷ pos 0 ∷ pos 16 ∷ pos 8 ∷ []); implEdges = []; rootPairs = (pos 0 ∷ pos 0 ∷ []); leafPairs = (pos 1 ∷ pos 1 ∷ pos 0 ∷ pos 1 ∷ []) }) (refusal 7 5 1) ∷
-    compares (record { specNodes = (pos 0 ∷ pos 0 ∷ pos 16 ∷ pos 8 ∷ pos 2 ∷ pos 0 ∷ pos 16 ∷ pos 8 ∷ pos 2 ∷ pos 0 ∷ pos 16 ∷ pos 8 ∷ []); specEdges = []; implNodes = (pos 0 ∷ pos 0 ∷ pos 16 ∷ pos 8 ∷ pos 2 ∷ pos 0 ∷ pos 16 ∷ pos 8 ∷ []); implEdges = []; rootPairs = (pos 0 ∷ pos 0 ∷ []); leafPairs = (pos 1 ∷ pos 1 ∷ pos 2 ∷ pos 1 ∷ []) }) (refusal 8 5 1) ∷
+    compares (record { specNodes = (pos 0 ∷ pos 0 ∷ pos 16 ∷ pos 8 ∷ pos 2 ∷ pos 0 ∷ pos 16 ∷ pos 8 ∷ pos 2 ∷ pos 0 ∷ pos 16 ∷ pos 8 ∷ []); specEdges = []; implNodes = (pos 0 ∷ pos 0 ∷ pos 16 ∷ pos 8 ∷ pos 2 ∷ pos 0 ∷ pos 16 ∷ pos 8 ∷ []); implEdges = []; rootPairs = (pos 0 ∷ pos 0 ∷ pos 0 ∷ []); leafPairs = (pos 1 ∷ pos 1 ∷ pos 0 ∷ pos 0 ∷ pos 1 ∷ pos 0 ∷ []) }) (refusal 7 5 1) ∷
+    compares (record { specNodes = (pos 0 ∷ pos 0 ∷ pos 16 ∷ pos 8 ∷ pos 2 ∷ pos 0 ∷ pos 16 ∷ pos 8 ∷ pos 2 ∷ pos 0 ∷ pos 16 ∷ pos 8 ∷ []); specEdges = []; implNodes = (pos 0 ∷ pos 0 ∷ pos 16 ∷ pos 8 ∷ pos 2 ∷ pos 0 ∷ pos 16 ∷ pos 8 ∷ []); implEdges = []; rootPairs = (pos 0 ∷ pos 0 ∷ pos 0 ∷ []); leafPairs = (pos 1 ∷ pos 1 ∷ pos 0 ∷ pos 2 ∷ pos 1 ∷ pos 0 ∷ []) }) (refusal 8 5 1) ∷
     -- 1,000 root rows, and 1,000 leaf rows, are not too many: what is told is that a node is paired before; 1,001 root rows are
-    compares (record { specNodes = (pos 0 ∷ pos 0 ∷ pos 16 ∷ pos 8 ∷ pos 2 ∷ pos 0 ∷ pos 16 ∷ pos 8 ∷ []); specEdges = []; implNodes = (pos 0 ∷ pos 0 ∷ pos 16 ∷ pos 8 ∷ pos 2 ∷ pos 0 ∷ pos 16 ∷ pos 8 ∷ []); implEdges = []; rootPairs = (times 1000 (pos 0 ∷ pos 0 ∷ [])); leafPairs = (pos 1 ∷ pos 1 ∷ []) }) (refusal 8 4 1) ∷
-    compares (record { specNodes = (pos 0 ∷ pos 0 ∷ pos 16 ∷ pos 8 ∷ pos 2 ∷ pos 0 ∷ pos 16 ∷ pos 8 ∷ []); specEdges = []; implNodes = (pos 0 ∷ pos 0 ∷ pos 16 ∷ pos 8 ∷ pos 2 ∷ pos 0 ∷ pos 16 ∷ pos 8 ∷ []); implEdges = []; rootPairs = (times 1001 (pos 0 ∷ pos 0 ∷ [])); leafPairs = (pos 1 ∷ pos 1 ∷ []) }) (refusal 1 4 0) ∷
-    compares (record { specNodes = (pos 0 ∷ pos 0 ∷ pos 16 ∷ pos 8 ∷ pos 2 ∷ pos 0 ∷ pos 16 ∷ pos 8 ∷ []); specEdges = []; implNodes = (pos 0 ∷ pos 0 ∷ pos 16 ∷ pos 8 ∷ pos 2 ∷ pos 0 ∷ pos 16 ∷ pos 8 ∷ []); implEdges = []; rootPairs = (pos 0 ∷ pos 0 ∷ []); leafPairs = (times 1000 (pos 1 ∷ pos 1 ∷ [])) }) (refusal 8 5 1) ∷
+    compares (record { specNodes = (pos 0 ∷ pos 0 ∷ pos 16 ∷ pos 8 ∷ pos 2 ∷ pos 0 ∷ pos 16 ∷ pos 8 ∷ []); specEdges = []; implNodes = (pos 0 ∷ pos 0 ∷ pos 16 ∷ pos 8 ∷ pos 2 ∷ pos 0 ∷ pos 16 ∷ pos 8 ∷ []); implEdges = []; rootPairs = (times 1000 (pos 0 ∷ pos 0 ∷ pos 0 ∷ [])); leafPairs = (pos 1 ∷ pos 1 ∷ pos 0 ∷ []) }) (refusal 8 4 1) ∷
+    compares (record { specNodes = (pos 0 ∷ pos 0 ∷ pos 16 ∷ pos 8 ∷ pos 2 ∷ pos 0 ∷ pos 16 ∷ pos 8 ∷ []); specEdges = []; implNodes = (pos 0 ∷ pos 0 ∷ pos 16 ∷ pos 8 ∷ pos 2 ∷ pos 0 ∷ pos 16 ∷ pos 8 ∷ []); implEdges = []; rootPairs = (times 1001 (pos 0 ∷ pos 0 ∷ pos 0 ∷ [])); leafPairs = (pos 1 ∷ pos 1 ∷ pos 0 ∷ []) }) (refusal 1 4 0) ∷
+    compares (record { specNodes = (pos 0 ∷ pos 0 ∷ pos 16 ∷ pos 8 ∷ pos 2 ∷ pos 0 ∷ pos 16 ∷ pos 8 ∷ []); specEdges = []; implNodes = (pos 0 ∷ pos 0 ∷ pos 16 ∷ pos 8 ∷ pos 2 ∷ pos 0 ∷ pos 16 ∷ pos 8 ∷ []); implEdges = []; rootPairs = (pos 0 ∷ pos 0 ∷ pos 0 ∷ []); leafPairs = (times 1000 (pos 1 ∷ pos 1 ∷ pos 0 ∷ [])) }) (refusal 8 5 1) ∷
     -- 10 for the implementation alone, at root row 1 and leaf row 1
-    compares (record { specNodes = (pos 0 ∷ pos 0 ∷ pos 16 ∷ pos 8 ∷ pos 0 ∷ pos 0 ∷ pos 16 ∷ pos 8 ∷ pos 2 ∷ pos 0 ∷ pos 16 ∷ pos 8 ∷ pos 2 ∷ pos 0 ∷ pos 16 ∷ pos 8 ∷ []); specEdges = []; implNodes = (pos 0 ∷ pos 0 ∷ pos 16 ∷ pos 8 ∷ pos 0 ∷ pos 0 ∷ pos 16 ∷ pos 8 ∷ pos 2 ∷ pos 0 ∷ pos 16 ∷ pos 8 ∷ pos 2 ∷ pos 0 ∷ pos 16 ∷ pos 8 ∷ []); implEdges = (times 1025 (pos 1 ∷ pos 3 ∷ pos 0 ∷ [])); rootPairs = (pos 0 ∷ pos 0 ∷ pos 1 ∷ pos 1 ∷ []); leafPairs = (pos 2 ∷ pos 2 ∷ pos 3 ∷ pos 3 ∷ []) }) (refusal 10 3 1001) ∷
+    compares (record { specNodes = (pos 0 ∷ pos 0 ∷ pos 16 ∷ pos 8 ∷ pos 0 ∷ pos 0 ∷ pos 16 ∷ pos 8 ∷ pos 2 ∷ pos 0 ∷ pos 16 ∷ pos 8 ∷ pos 2 ∷ pos 0 ∷ pos 16 ∷ pos 8 ∷ []); specEdges = []; implNodes = (pos 0 ∷ pos 0 ∷ pos 16 ∷ pos 8 ∷ pos 0 ∷ pos 0 ∷ pos 16 ∷ pos 8 ∷ pos 2 ∷ pos 0 ∷ pos 16 ∷ pos 8 ∷ pos 2 ∷ pos 0 ∷ pos 16 ∷ pos 8 ∷ []); implEdges = (times 1025 (pos 1 ∷ pos 3 ∷ pos 0 ∷ [])); rootPairs = (pos 0 ∷ pos 0 ∷ pos 0 ∷ pos 1 ∷ pos 1 ∷ pos 0 ∷ []); leafPairs = (pos 2 ∷ pos 2 ∷ pos 0 ∷ pos 3 ∷ pos 3 ∷ pos 0 ∷ []) }) (refusal 10 3 1001) ∷
     -- the first unequal pair is partial though a later one is different
-    compares (record { specNodes = (pos 0 ∷ pos 0 ∷ pos 16 ∷ pos 8 ∷ pos 2 ∷ pos 0 ∷ pos 16 ∷ pos 8 ∷ pos 2 ∷ pos 0 ∷ pos 16 ∷ pos 8 ∷ []); specEdges = (pos 0 ∷ pos 1 ∷ pos 0 ∷ pos 0 ∷ pos 2 ∷ pos 0 ∷ []); implNodes = (pos 0 ∷ pos 0 ∷ pos 16 ∷ pos 8 ∷ pos 2 ∷ pos 0 ∷ pos 8 ∷ pos 8 ∷ pos 2 ∷ pos 0 ∷ pos 16 ∷ pos 8 ∷ []); implEdges = (pos 0 ∷ pos 1 ∷ pos 0 ∷ []); rootPairs = (pos 0 ∷ pos 0 ∷ []); leafPairs = (pos 1 ∷ pos 1 ∷ pos 2 ∷ pos 2 ∷ []) }) (full (record { equal = 0; partial = 1; different = 1; verdict = 2; place = record { root = pos 0; leaf = pos 0; address = pos 64 } })) ∷
+    compares (record { specNodes = (pos 0 ∷ pos 0 ∷ pos 16 ∷ pos 8 ∷ pos 2 ∷ pos 0 ∷ pos 16 ∷ pos 8 ∷ pos 2 ∷ pos 0 ∷ pos 16 ∷ pos 8 ∷ []); specEdges = (pos 0 ∷ pos 1 ∷ pos 0 ∷ pos 0 ∷ pos 2 ∷ pos 0 ∷ []); implNodes = (pos 0 ∷ pos 0 ∷ pos 16 ∷ pos 8 ∷ pos 2 ∷ pos 0 ∷ pos 8 ∷ pos 8 ∷ pos 2 ∷ pos 0 ∷ pos 16 ∷ pos 8 ∷ []); implEdges = (pos 0 ∷ pos 1 ∷ pos 0 ∷ []); rootPairs = (pos 0 ∷ pos 0 ∷ pos 0 ∷ []); leafPairs = (pos 1 ∷ pos 1 ∷ pos 0 ∷ pos 2 ∷ pos 2 ∷ pos 0 ∷ []) }) (full (record { equal = 0; partial = 1; different = 1; verdict = 2; place = record { root = pos 0; leaf = pos 0; address = pos 64 } })) ∷
     []
+
+-- ---- several leaves for one (document 02, item 3)
+
+-- a pair row
+abbrev pub row : ℕ → ℕ → ℤ → List ℤ
+row spec impl at = pos spec ∷ pos impl ∷ at ∷ []
+
+-- 2^55 − 1, the highest leaf bit at which a bank may begin
+abbrev pub highestAt : ℤ
+highestAt = pos 36028797018963967
+
+-- a full result where all pairs are equal
+abbrev pub allEqual : ℕ → Answer Result
+allEqual n = full (record { equal = n; partial = 0; different = 0; verdict = 0; place = nowhere })
+
+-- a full result with one pair, which is partial or different from this address on
+abbrev pub onePartial : ℕ → Answer Result
+onePartial address = full (record { equal = 0; partial = 1; different = 0; verdict = 1; place = record { root = pos 0; leaf = pos 0; address = pos address } })
+
+abbrev pub oneDifferent : ℕ → Answer Result
+oneDifferent address = full (record { equal = 0; partial = 0; different = 1; verdict = 2; place = record { root = pos 0; leaf = pos 0; address = pos address } })
+
+-- the name at in a map file
+abbrev pub atReadings : List Reading
+atReadings =
+    -- the rows of a group need not be neighbours, each group has the line of its lowest row, and banks that touch give one record
+    printsPairs "role spec impl at\n0 0 0 0\n1 1 1 0\n1 2 3 0\n1 1 2 64\n1 2 4 64\n" "root leaf verdict spec impl\n0 0 0 1 1\n0 1 0 1 1\n\nverdict equal partial different root leaf address\n0 2 0 0 -1 -1 -1\n" ∷
+    -- at first, and in the middle
+    printsPairs "at role spec impl\n0 0 0 0\n0 1 1 1\n64 1 1 2\n0 1 2 3\n64 1 2 4\n" "root leaf verdict spec impl\n0 0 0 1 1\n0 2 0 1 1\n\nverdict equal partial different root leaf address\n0 2 0 0 -1 -1 -1\n" ∷
+    printsPairs "role at spec impl\n0 0 0 0\n1 64 1 2\n1 0 1 1\n1 0 2 3\n1 64 2 4\n" "root leaf verdict spec impl\n0 0 0 1 1\n0 2 0 1 1\n\nverdict equal partial different root leaf address\n0 2 0 0 -1 -1 -1\n" ∷
+    -- absent: both banks begin at leaf bit 0
+    printsPairs "role spec impl\n0 0 0\n1 1 1\n1 1 2\n" "root leaf verdict spec impl\n0 0 2 1 2\n\nverdict equal partial different root leaf address\n2 0 0 1 0 0 64\n" ∷
+    -- twice, and without a name that must be there
+    printsPairs "role spec impl at at\n0 0 0 0 0\n" "refusal table row\n13 6 19\n" ∷
+    printsPairs "role spec at\n0 0 0\n" "refusal table row\n13 6 19\n" ∷
+    -- three values where it is named, four where it is not, and a value of 19 digits
+    printsPairs "role spec impl at\n0 0 0 0\n1 1 1\n" "refusal table row\n14 6 21\n" ∷
+    printsPairs "role spec impl\n0 0 0\n1 1 1 0\n" "refusal table row\n14 6 21\n" ∷
+    printsPairs "role spec impl at\n0 0 0 0\n1 1 1 1000000000000000000\n" "refusal table row\n14 6 21\n" ∷
+    -- 2^55 − 1 is taken, 2^55 and −1 are not, nor another number than 0 in a root row
+    printsPairs "role spec impl at\n0 0 0 0\n1 1 1 36028797018963967\n" "root leaf verdict spec impl\n0 0 2 1 1\n\nverdict equal partial different root leaf address\n2 0 0 1 0 0 0\n" ∷
+    printsPairs "role spec impl at\n0 0 0 0\n1 1 1 36028797018963968\n" "refusal table row\n16 5 0\n" ∷
+    printsPairs "role spec impl at\n0 0 0 0\n1 1 1 -1\n" "refusal table row\n16 5 0\n" ∷
+    printsPairs "role spec impl at\n0 0 0 1\n1 1 1 0\n" "refusal table row\n16 4 0\n" ∷
+    []
+
+-- groups and banks of lent tables
+abbrev pub bankReadings : List Reading
+bankReadings =
+    -- two groups whose rows alternate, each counted once; the rows of a group in either order
+    compares (memories (row 0 0 (pos 0)) (row 1 1 (pos 0) ++ row 2 3 (pos 0) ++ row 1 2 (pos 64) ++ row 2 4 (pos 64))) (allEqual 2) ∷
+    compares (memories (row 0 0 (pos 0)) (row 1 2 (pos 64) ++ row 1 1 (pos 0))) (allEqual 1) ∷
+    -- banks exchanged
+    compares (memories (row 0 0 (pos 0)) (row 1 1 (pos 64) ++ row 1 2 (pos 0))) (oneDifferent 0) ∷
+    -- banks that share at
+    compares (memories (row 0 0 (pos 0)) (row 1 1 (pos 0) ++ row 1 2 (pos 0))) (oneDifferent 64) ∷
+    -- a bank that is missing; a single bank is moved too, and at counts bits
+    compares (memories (row 0 0 (pos 0)) (row 1 1 (pos 0))) (onePartial 64) ∷
+    compares (memories (row 0 0 (pos 0)) (row 1 2 (pos 64))) (onePartial 0) ∷
+    compares (memories (row 0 0 (pos 0)) (row 1 2 (pos 0))) (oneDifferent 0) ∷
+    compares (memories (row 0 0 (pos 0)) (row 1 1 (pos 0) ++ row 1 2 (pos 63))) (oneDifferent 64) ∷
+    -- banks that give the same leaf bits, and banks with a base and an address unit of their own
+    compares (record { specNodes = memoryNodes; specEdges = (pos 0 ∷ pos 1 ∷ pos 0 ∷ []); implNodes = memoryNodes; implEdges = (pos 0 ∷ pos 1 ∷ pos 0 ∷ pos 0 ∷ pos 2 ∷ pos 0 ∷ []); rootPairs = row 0 0 (pos 0); leafPairs = (row 1 1 (pos 0) ++ row 1 2 (pos 0)) }) (allEqual 1) ∷
+    compares (record { specNodes = specNodes; specEdges = specEdges; implNodes = (pos 0 ∷ pos 0 ∷ pos 4096 ∷ pos 8 ∷ times 2 (pos 2 ∷ pos 4 ∷ pos 8 ∷ pos 32 ∷ [])); implEdges = (pos 0 ∷ pos 1 ∷ pos 60 ∷ pos 0 ∷ pos 2 ∷ pos 68 ∷ []); rootPairs = row 0 0 (pos 0); leafPairs = (row 1 1 (pos 0) ++ row 1 2 (pos 256)) }) (allEqual 1) ∷
+    -- a group that is unequal is named by its lowest row, behind one that is equal
+    compares (memories (row 0 0 (pos 0)) (row 1 1 (pos 0) ++ row 1 2 (pos 64) ++ row 2 4 (pos 64))) (full (record { equal = 1; partial = 1; different = 0; verdict = 1; place = record { root = pos 0; leaf = pos 2; address = pos 128 } })) ∷
+    -- a group that is unequal in its second row is named by its lowest, and groups are visited by their rows and not by their leaves
+    compares (memories (row 0 0 (pos 0)) (row 1 1 (pos 0) ++ row 2 3 (pos 0) ++ row 1 2 (pos 64) ++ row 2 4 (pos 0))) (full (record { equal = 1; partial = 0; different = 1; verdict = 2; place = record { root = pos 0; leaf = pos 1; address = pos 192 } })) ∷
+    compares (memories (row 0 0 (pos 0)) (row 2 3 (pos 0) ++ row 1 2 (pos 0))) (full (record { equal = 0; partial = 1; different = 1; verdict = 2; place = record { root = pos 0; leaf = pos 0; address = pos 192 } })) ∷
+    -- at 2^55 − 1, 2^55 and −1, and in a root row
+    compares (memories (row 0 0 (pos 0)) (row 1 1 highestAt)) (oneDifferent 0) ∷
+    compares (memories (row 0 0 (pos 0)) (row 1 1 (pos 36028797018963968))) (refusal 16 5 0) ∷
+    compares (memories (row 0 0 (pos 0)) (row 1 1 (pos 0) ++ row 1 2 (negsuc 0))) (refusal 16 5 1) ∷
+    compares (memories (row 0 0 (pos 1)) (row 1 1 (pos 0))) (refusal 16 4 0) ∷
+    compares (memories (row 0 0 (negsuc 0)) (row 1 1 (pos 0))) (refusal 16 4 0) ∷
+    -- the least and the largest number
+    compares (memories (row 0 0 (pos 0)) (row 1 1 (negsuc 9223372036854775807))) (refusal 16 5 0) ∷
+    compares (memories (row 0 0 (pos 0)) (row 1 1 (pos 9223372036854775807))) (refusal 16 5 0) ∷
+    -- within a row 7 before 16 before 8, of roots and of leaves
+    compares (memories (row 1 0 (pos 1)) (row 1 1 (pos 0))) (refusal 7 4 0) ∷
+    compares (memories (row 0 0 (pos 0) ++ row 0 0 (pos 1)) (row 1 1 (pos 0))) (refusal 16 4 1) ∷
+    compares (memories (row 0 0 (pos 0)) (row 1 0 (negsuc 0))) (refusal 7 5 0) ∷
+    compares (memories (row 0 0 (pos 0)) (row 1 1 (pos 0) ++ row 1 1 (negsuc 0))) (refusal 16 5 1) ∷
+    -- the lowest row whatever its number, and rows of roots before rows of leaves
+    compares (memories (row 0 0 (pos 0)) (row 1 1 (pos 0) ++ row 2 1 (pos 0) ++ row 1 2 (negsuc 0) ++ row 0 3 (pos 0))) (refusal 8 5 1) ∷
+    compares (memories (row 0 0 (pos 0)) (row 1 1 (negsuc 0) ++ row 0 1 (pos 0) ++ row 1 1 (pos 0))) (refusal 16 5 0) ∷
+    compares (memories (row 0 0 (pos 0) ++ row 0 0 (pos 1)) (row 9 9 (negsuc 0))) (refusal 16 4 1) ∷
+    -- an implementation leaf twice, in its group and in another one; a root twice
+    compares (memories (row 0 0 (pos 0)) (row 1 1 (pos 0) ++ row 1 1 (pos 64))) (refusal 8 5 1) ∷
+    compares (memories (row 0 0 (pos 0)) (row 1 1 (pos 0) ++ row 1 2 (pos 64) ++ row 2 1 (pos 0))) (refusal 8 5 2) ∷
+    compares (memories (row 0 0 (pos 0) ++ row 0 0 (pos 0)) (row 1 1 (pos 0))) (refusal 8 4 1) ∷
+    -- four numbers are no whole rows
+    compares (memories (row 0 0 (pos 0)) (pos 1 ∷ pos 1 ∷ pos 2 ∷ pos 2 ∷ [])) (refusal 1 5 0) ∷
+    []
+
+-- the memories with a second root on each side, in root row 1, from which k edges lead to the first memory, m to its first bank and n to its second; the group
+-- of that memory has leaf rows 1 and 2
+abbrev pub parallelBanks : ℕ → ℕ → ℕ → Tables
+parallelBanks k m n =
+    record {
+      specNodes = memoryNodes ++ pos 0 ∷ pos 0 ∷ pos 32 ∷ pos 8 ∷ [];
+      specEdges = times k (pos 3 ∷ pos 1 ∷ pos 0 ∷ []);
+      implNodes = bankNodes ++ pos 0 ∷ pos 0 ∷ pos 32 ∷ pos 8 ∷ [];
+      implEdges = times m (pos 5 ∷ pos 1 ∷ pos 0 ∷ []) ++ times n (pos 5 ∷ pos 2 ∷ pos 8 ∷ []);
+      rootPairs = row 0 0 (pos 0) ++ row 3 5 (pos 0);
+      leafPairs = row 2 3 (pos 0) ++ row 1 1 (pos 0) ++ row 1 2 (pos 64);
+    }
+
+-- paths of a group
+abbrev pub pathReadings : List Reading
+pathReadings =
+    -- 512 and 512 paths lead to the banks of a group; one more is too many, and told at the lowest row of the group
+    compares (parallelBanks 1 512 512) (allEqual 4) ∷
+    compares (parallelBanks 1 512 513) (refusal 10 3 1001) ∷
+    -- so is 1,025 paths to its second bank
+    compares (parallelBanks 1 0 1025) (refusal 10 3 1001) ∷
+    -- the paths of the specification count once for a group of two banks: 513 are taken, 1,025 are not
+    compares (parallelBanks 513 1 1) (allEqual 4) ∷
+    compares (parallelBanks 1025 512 513) (refusal 10 1 1001) ∷
+    []
+
+-- all of these
+abbrev pub groupReadings : List Reading
+groupReadings = atReadings ++ bankReadings ++ pathReadings
+
+-- ---- texts through C linkage, and the tally
 
 -- the call through C linkage
 abbrev pub codeReadings : List Reading
 codeReadings =
     -- the coded refusal: 13, table 6, line 1
     codes (bytes "") [] (negℤ (pos 1360000001)) ∷
+    -- 16, table 4, row 0
+    codes (bytes memoriesText ++ bytes "role spec impl at\n0 0 0 1\n1 1 1 0\n") [] (negℤ (pos 1640000000)) ∷
     -- the length of P1's report, into a buffer that holds it just
     codes (bytes text1) (times 106 (7 ∷ [])) (pos 106) ∷
     -- one byte less: 11

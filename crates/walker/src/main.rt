@@ -1,29 +1,28 @@
 // Maps by a seeded generator, small enough to walk bit by bit: every list, walk, verdict, count, first pair and address of the calls under test
 // is held against a walk that knows only single bit addresses. Prints what was tried, and the differences found.
 mod checks;
+mod comparisons;
 mod records;
+mod refused;
+mod sets;
 mod tally;
-mod verdicts;
 mod walks;
 
 use generator::maps;
 use generator::maps::Shape;
 use generator::numbers::draw;
-use generator::numbers::front;
 use generator::numbers::sum;
 use generator::numbers::times;
 use generator::orders;
+use generator::orders::Order;
 use generator::rows;
+use generator::rows::EDGES_AT;
+use generator::rows::Map;
+use habits::arrangements;
+use tally::Counts;
 
 // Maps tried.
 const MAPS: usize = 5000;
-
-// Numbers of the tables of a map, and of a pairing.
-const NODE_NUMBERS: usize = 64;
-
-const EDGE_NUMBERS: usize = 120;
-
-const PAIR_NUMBERS: usize = 32;
 
 // A habit is followed so many times more at most.
 const MORE_OFTEN: usize = 3;
@@ -31,33 +30,28 @@ const MORE_OFTEN: usize = 3;
 // Second habits: one map in so many has two.
 const SECOND: usize = 4;
 
+// Groups of banks: one map in so many has one, and one in so many of these a second.
+const GROUP: usize = 2;
+
+const SECOND_GROUP: usize = 4;
+
 // One map in so many has one unit for all its nodes.
 const UNIT_DRAWS: usize = 20;
 
-// The node rows of a map.
-fn node_rows<'a>(nodes: &'a [i64], shape: Shape) -> &'a [i64] {
-    front(nodes, rows::place(rows::NODE_WIDTH, shape.nodes, 0))
-}
-
-// The edge rows of a map.
-fn edge_rows<'a>(edges: &'a [i64], shape: Shape) -> &'a [i64] {
-    front(edges, rows::place(rows::EDGE_WIDTH, shape.edges, 0))
-}
-
 // Draws the order of a map's tables.
-fn draw_order(counts: &mut [usize; tally::COUNTS], seed: &mut usize) -> usize {
+fn draw_order(counts: &mut Counts, seed: &mut usize) -> usize {
     let order = draw(seed, orders::ORDERS);
     tally::count(counts, sum(tally::ORDERS, order));
     order
 }
 
 // Whether an edge leaves node v.
-fn is_left(edges: &[i64], v: usize) -> bool {
+fn is_left(map: &Map, edges: usize, v: usize) -> bool {
     for e in 0..rows::MAX_EDGES {
-        if e >= edges.len() / rows::EDGE_WIDTH {
+        if e >= edges {
             return false;
         }
-        if rows::edge_end(edges, e, rows::FROM) == v {
+        if rows::node_in(map, EDGES_AT, e, rows::FROM) == v {
             return true;
         }
     }
@@ -65,302 +59,206 @@ fn is_left(edges: &[i64], v: usize) -> bool {
 }
 
 // Whether edge e has the ends of an edge before it.
-fn is_parallel(edges: &[i64], e: usize) -> bool {
+fn is_parallel(map: &Map, e: usize) -> bool {
     for other in 0..rows::MAX_EDGES {
         if other >= e {
             return false;
         }
-        if have_same_ends(edges, other, e) {
+        if have_same_ends(map, other, e) {
             return true;
         }
     }
     false
 }
 
-fn have_same_ends(edges: &[i64], d: usize, e: usize) -> bool {
-    if rows::edge_end(edges, d, rows::FROM) != rows::edge_end(edges, e, rows::FROM) {
+fn have_same_ends(map: &Map, d: usize, e: usize) -> bool {
+    let one = rows::edge_of(map, d);
+    let other = rows::edge_of(map, e);
+    if one.from != other.from {
         return false;
     }
-    rows::edge_end(edges, d, rows::TO) == rows::edge_end(edges, e, rows::TO)
+    one.to == other.to
 }
 
-fn count_node(
-    nodes: &[i64],
-    edges: &[i64],
-    shape: Shape,
-    v: usize,
-    counts: &mut [usize; tally::COUNTS],
-) {
+fn count_node(map: &Map, shape: Shape, v: usize, counts: &mut Counts) {
     if v >= shape.inner {
         tally::count_if(
             counts,
             tally::LEAVES_WITH_BASE,
-            rows::node_size(nodes, v, rows::BASE) > 0,
+            rows::node_size(map, v, rows::BASE) > 0,
         );
         return;
     }
-    tally::count_if(counts, tally::DEAD_ENDS, !is_left(edges, v));
+    tally::count_if(counts, tally::DEAD_ENDS, !is_left(map, shape.edges, v));
 }
 
-fn count_nodes(nodes: &[i64], edges: &[i64], shape: Shape, counts: &mut [usize; tally::COUNTS]) {
+fn count_nodes(map: &Map, shape: Shape, counts: &mut Counts) {
     for v in 0..rows::MAX_NODES {
         if v >= shape.nodes {
             return;
         }
-        count_node(nodes, edges, shape, v, counts);
+        count_node(map, shape, v, counts);
     }
 }
 
-fn count_edges(edges: &[i64], counts: &mut [usize; tally::COUNTS]) {
+fn count_edge(map: &Map, e: usize, counts: &mut Counts) {
+    let offset = rows::number_in(map, EDGES_AT, e, rows::OFFSET);
+    tally::count_if(counts, tally::NEGATIVE_OFFSETS, offset < 0);
+    tally::count_if(counts, tally::PARALLEL_EDGES, is_parallel(map, e));
+}
+
+fn count_edges(map: &Map, edges: usize, counts: &mut Counts) {
     for e in 0..rows::MAX_EDGES {
-        if e >= edges.len() / rows::EDGE_WIDTH {
+        if e >= edges {
             return;
         }
-        tally::count_if(
-            counts,
-            tally::NEGATIVE_OFFSETS,
-            rows::offset_at(edges, e) < 0,
-        );
-        tally::count_if(counts, tally::PARALLEL_EDGES, is_parallel(edges, e));
+        count_edge(map, e, counts);
     }
 }
 
-// Draws a plain specification map, and counts what it has in it.
-fn draw_map(
-    nodes: &mut [i64],
-    edges: &mut [i64],
-    counts: &mut [usize; tally::COUNTS],
-    seed: &mut usize,
-) -> Shape {
-    let style = draw(seed, maps::STYLES);
-    let units = draw(seed, UNIT_DRAWS);
-    let shape = maps::draw_shape(style, seed);
-    maps::draw_nodes(nodes, shape, style, units, seed);
-    maps::draw_edges(nodes, edges, shape, style, seed);
-    count_map(nodes, edge_rows(edges, shape), shape, style, units, counts);
-    shape
-}
-
-fn count_map(
-    nodes: &[i64],
-    edges: &[i64],
-    shape: Shape,
-    style: usize,
-    units: usize,
-    counts: &mut [usize; tally::COUNTS],
-) {
+fn count_map(map: &Map, shape: Shape, style: usize, units: usize, counts: &mut Counts) {
     tally::count(counts, tally::MAPS);
     tally::count(counts, sum(tally::STYLES, style));
     tally::count_if(counts, tally::MIXED_UNITS, units >= maps::UNITS);
     tally::count_if(counts, tally::SEVERAL_ROOTS, shape.roots > 1);
     tally::count_if(counts, tally::SEVERAL_LEAVES, shape.leaves > 1);
-    count_nodes(nodes, edges, shape, counts);
-    count_edges(edges, counts);
+    count_nodes(map, shape, counts);
+    count_edges(map, shape.edges, counts);
+}
+
+// Draws a plain specification map, and counts what it has in it.
+fn draw_map(map: &mut Map, counts: &mut Counts, seed: &mut usize) -> Shape {
+    let style = draw(seed, maps::STYLES);
+    let units = draw(seed, UNIT_DRAWS);
+    let shape = maps::draw_shape(style, seed);
+    maps::draw_nodes(map, shape, style, units, seed);
+    maps::draw_edges(map, shape, style, seed);
+    count_map(map, shape, style, units, counts);
+    shape
+}
+
+// Makes a group of banks of a leaf that is drawn.
+fn add_group(map: &mut Map, shape: Shape, counts: &mut Counts, seed: &mut usize) -> Shape {
+    let kind = arrangements::draw_arrangement(seed);
+    let row = draw(seed, shape.leaves);
+    let after = arrangements::draw_group(map, shape, row, kind, seed);
+    let made = arrangements::is_made(kind, shape, after);
+    tally::count_if(counts, sum(tally::ARRANGEMENTS, kind), made);
+    after
+}
+
+// Makes a group of banks, or two, if they are drawn.
+fn add_groups(map: &mut Map, shape: Shape, counts: &mut Counts, seed: &mut usize) -> Shape {
+    if draw(seed, GROUP) > 0 {
+        return shape;
+    }
+    let after = add_group(map, shape, counts, seed);
+    if draw(seed, SECOND_GROUP) > 0 {
+        return after;
+    }
+    add_group(map, after, counts, seed)
 }
 
 // Changes a plain map by a second habit, if one is drawn.
-fn change_more(
-    nodes: &mut [i64],
-    edges: &mut [i64],
-    shape: Shape,
-    counts: &mut [usize; tally::COUNTS],
-    seed: &mut usize,
-) -> Shape {
+fn change_more(map: &mut Map, shape: Shape, counts: &mut Counts, seed: &mut usize) -> Shape {
     if draw(seed, SECOND) > 0 {
         return shape;
     }
     let habit = draw(seed, habits::CROSSWISE);
     tally::count(counts, sum(tally::HABITS, habit));
-    habits::change(nodes, edges, shape, habit, seed)
+    habits::change(map, shape, habit, seed)
 }
 
 // Changes a plain map by a habit, and sometimes by a second one.
 fn change_map(
-    nodes: &mut [i64],
-    edges: &mut [i64],
+    map: &mut Map,
     shape: Shape,
     habit: usize,
-    counts: &mut [usize; tally::COUNTS],
+    counts: &mut Counts,
     seed: &mut usize,
 ) -> Shape {
     tally::count(counts, sum(tally::HABITS, habit));
     let often = sum(2, draw(seed, MORE_OFTEN));
-    let changed = habits::change_often(nodes, edges, shape, habit, often, seed);
-    change_more(nodes, edges, changed, counts, seed)
+    let changed = habits::change_often(map, shape, habit, often, seed);
+    change_more(map, changed, counts, seed)
 }
 
-// Pairs two maps, and tries them.
-fn try_paired(
-    spec_nodes: &[i64],
-    spec_edges: &[i64],
-    impl_nodes: &[i64],
-    impl_edges: &[i64],
-    spec_order: &[usize],
-    impl_order: &[usize],
+// Changes a plain specification map into an implementation that is paired with it: some leaves become banks, then a habit changes the map.
+fn change_plain(map: &mut Map, shape: Shape, counts: &mut Counts, seed: &mut usize) -> Shape {
+    let habit = habits::draw_habit(seed);
+    orders::pair_plain(map, shape, habits::turn_of(habit));
+    let grouped = add_groups(map, shape, counts, seed);
+    change_map(map, grouped, habit, counts, seed)
+}
+
+// Writes an implementation in an order that is drawn, with its pairing.
+fn write_impl(
+    plain: &Map,
     shape: Shape,
-    turn: usize,
-    map: usize,
-    counts: &mut [usize; tally::COUNTS],
+    spec_order: &Order,
+    other: &mut Map,
+    counts: &mut Counts,
     seed: &mut usize,
 ) {
-    let mut root_pairs = [0i64; PAIR_NUMBERS];
-    let mut leaf_pairs = [0i64; PAIR_NUMBERS];
-    orders::write_pairs(
-        &mut root_pairs,
-        shape.roots,
-        0,
-        0,
-        spec_order,
-        impl_order,
-        seed,
-    );
-    orders::write_pairs(
-        &mut leaf_pairs,
-        shape.leaves,
-        shape.inner,
-        turn,
-        spec_order,
-        impl_order,
-        seed,
-    );
-    checks::try_maps(
-        spec_nodes,
-        spec_edges,
-        impl_nodes,
-        impl_edges,
-        front(&root_pairs, rows::place(rows::PAIR_WIDTH, shape.roots, 0)),
-        front(&leaf_pairs, rows::place(rows::PAIR_WIDTH, shape.leaves, 0)),
-        map,
-        counts,
-        seed,
-    );
+    let mut order = [0usize; rows::MAX_EDGES];
+    let kind = draw_order(counts, seed);
+    orders::write_graph(plain, shape, kind, &mut order, other, seed);
+    orders::write_pairs(plain, shape, spec_order, &order, other, seed);
 }
 
-// Changes a plain specification map into an implementation, and writes its tables in an order that is drawn.
-fn make_impl(
-    nodes: &mut [i64],
-    edges: &mut [i64],
+// Tries two maps, then with faults in their pairing.
+fn try_both(
+    spec: &Map,
+    spec_shape: Shape,
+    other: &mut Map,
     shape: Shape,
-    habit: usize,
-    order: &mut [usize],
-    impl_nodes: &mut [i64],
-    impl_edges: &mut [i64],
-    counts: &mut [usize; tally::COUNTS],
+    counts: &mut Counts,
     seed: &mut usize,
-) -> Shape {
-    let changed = change_map(nodes, edges, shape, habit, counts, seed);
-    let kind = draw_order(counts, seed);
-    orders::write_map(
-        nodes,
-        edges,
-        changed,
-        kind,
-        order,
-        impl_nodes,
-        impl_edges,
-        seed,
-    );
-    changed
+) {
+    comparisons::try_maps(spec, spec_shape, other, shape, counts);
+    refused::try_faults(spec, spec_shape, other, shape, counts, seed);
 }
 
 // Makes the implementation of a specification, and tries both.
 fn try_spec(
-    nodes: &mut [i64],
-    edges: &mut [i64],
-    spec_nodes: &[i64],
-    spec_edges: &[i64],
-    spec_order: &[usize],
+    plain: &mut Map,
+    spec: &Map,
     shape: Shape,
-    map: usize,
-    counts: &mut [usize; tally::COUNTS],
+    spec_order: &Order,
+    counts: &mut Counts,
     seed: &mut usize,
 ) {
-    let mut impl_nodes = [0i64; NODE_NUMBERS];
-    let mut impl_edges = [0i64; EDGE_NUMBERS];
-    let mut order = [0usize; rows::MAX_NODES];
-    let habit = habits::draw_habit(seed);
-    let changed = make_impl(
-        nodes,
-        edges,
-        shape,
-        habit,
-        &mut order,
-        &mut impl_nodes,
-        &mut impl_edges,
-        counts,
-        seed,
-    );
-    try_paired(
-        spec_nodes,
-        spec_edges,
-        node_rows(&impl_nodes, changed),
-        edge_rows(&impl_edges, changed),
-        spec_order,
-        &order,
-        shape,
-        habits::turn_of(habit),
-        map,
-        counts,
-        seed,
-    );
+    let mut other = [0i64; rows::MAP_NUMBERS];
+    let changed = change_plain(plain, shape, counts, seed);
+    write_impl(plain, changed, spec_order, &mut other, counts, seed);
+    try_both(spec, shape, &mut other, changed, counts, seed);
 }
 
-// Draws a plain specification map, and writes its tables in an order that is drawn.
+// Draws a plain specification map, and writes it in an order that is drawn.
 fn make_spec(
-    nodes: &mut [i64],
-    edges: &mut [i64],
-    order: &mut [usize],
-    spec_nodes: &mut [i64],
-    spec_edges: &mut [i64],
-    counts: &mut [usize; tally::COUNTS],
+    plain: &mut Map,
+    order: &mut Order,
+    spec: &mut Map,
+    counts: &mut Counts,
     seed: &mut usize,
 ) -> Shape {
-    let shape = draw_map(nodes, edges, counts, seed);
+    let shape = draw_map(plain, counts, seed);
     let kind = draw_order(counts, seed);
-    orders::write_map(
-        nodes,
-        edges,
-        shape,
-        kind,
-        order,
-        spec_nodes,
-        spec_edges,
-        seed,
-    );
+    orders::write_graph(plain, shape, kind, order, spec, seed);
     shape
 }
 
 // Makes a specification, and tries it.
-fn try_map(map: usize, counts: &mut [usize; tally::COUNTS]) {
+fn try_map(map: usize, counts: &mut Counts) {
     let mut seed = sum(times(map, 5), 1);
-    let mut nodes = [0i64; NODE_NUMBERS];
-    let mut edges = [0i64; EDGE_NUMBERS];
-    let mut spec_nodes = [0i64; NODE_NUMBERS];
-    let mut spec_edges = [0i64; EDGE_NUMBERS];
-    let mut order = [0usize; rows::MAX_NODES];
-    let shape = make_spec(
-        &mut nodes,
-        &mut edges,
-        &mut order,
-        &mut spec_nodes,
-        &mut spec_edges,
-        counts,
-        &mut seed,
-    );
-    try_spec(
-        &mut nodes,
-        &mut edges,
-        node_rows(&spec_nodes, shape),
-        edge_rows(&spec_edges, shape),
-        &order,
-        shape,
-        map,
-        counts,
-        &mut seed,
-    );
+    let mut plain = [0i64; rows::MAP_NUMBERS];
+    let mut spec = [0i64; rows::MAP_NUMBERS];
+    let mut order = [0usize; rows::MAX_EDGES];
+    let shape = make_spec(&mut plain, &mut order, &mut spec, counts, &mut seed);
+    try_spec(&mut plain, &spec, shape, &order, counts, &mut seed);
 }
 
-fn try_all(counts: &mut [usize; tally::COUNTS]) {
+fn try_all(counts: &mut Counts) {
     for map in 0..MAPS {
         try_map(map, counts);
     }

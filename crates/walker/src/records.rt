@@ -2,6 +2,7 @@
 use crate::walks::NO_BIT;
 use crate::walks::REACHED;
 use crate::walks::ROOT_BITS;
+use crate::walks::Reached;
 use crate::walks::SLOTS;
 use generator::numbers::at;
 use generator::numbers::cell;
@@ -19,6 +20,10 @@ pub(crate) const MAX_RECORDS: usize = 128;
 
 pub(crate) const RECORD_NUMBERS: usize = 384;
 
+pub(crate) type Records = [usize; RECORD_NUMBERS];
+
+pub(crate) type List = [i64; RECORD_NUMBERS];
+
 // Numbers of a record row, and its columns.
 pub(crate) const RECORD_WIDTH: usize = 3;
 
@@ -31,12 +36,12 @@ pub(crate) const LEAF_FIRST: usize = 2;
 // What a list's buffer holds past the list.
 pub(crate) const UNTOUCHED: i64 = -7;
 
-pub(crate) fn record(records: &[usize], r: usize, column: usize) -> usize {
+pub(crate) fn record(records: &Records, r: usize, column: usize) -> usize {
     cell(records, place(RECORD_WIDTH, r, column))
 }
 
 // The last leaf bit of a record.
-pub(crate) fn leaf_last(records: &[usize], r: usize) -> usize {
+pub(crate) fn leaf_last(records: &Records, r: usize) -> usize {
     sum(
         record(records, r, LEAF_FIRST),
         less(record(records, r, LAST), record(records, r, FIRST)),
@@ -44,7 +49,7 @@ pub(crate) fn leaf_last(records: &[usize], r: usize) -> usize {
 }
 
 // Whether a root bit and a leaf bit go on where a record ends.
-fn goes_on(records: &[usize], r: usize, root_bit: usize, leaf_bit: usize) -> bool {
+fn goes_on(records: &Records, r: usize, root_bit: usize, leaf_bit: usize) -> bool {
     if sum(record(records, r, LAST), 1) != root_bit {
         return false;
     }
@@ -52,7 +57,7 @@ fn goes_on(records: &[usize], r: usize, root_bit: usize, leaf_bit: usize) -> boo
 }
 
 // The record that a root bit and a leaf bit go on, or the number of records.
-fn open_record(records: &[usize], count: usize, root_bit: usize, leaf_bit: usize) -> usize {
+fn open_record(records: &Records, count: usize, root_bit: usize, leaf_bit: usize) -> usize {
     for r in 0..MAX_RECORDS {
         if r >= count {
             return count;
@@ -65,7 +70,7 @@ fn open_record(records: &[usize], count: usize, root_bit: usize, leaf_bit: usize
 }
 
 // Adds a root bit and a leaf bit to the records. Gives how many there are.
-fn add_bit(records: &mut [usize], count: usize, root_bit: usize, leaf_bit: usize) -> usize {
+fn add_bit(records: &mut Records, count: usize, root_bit: usize, leaf_bit: usize) -> usize {
     let r = open_record(records, count, root_bit, leaf_bit);
     store(records, place(RECORD_WIDTH, r, LAST), root_bit);
     if r < count {
@@ -77,7 +82,7 @@ fn add_bit(records: &mut [usize], count: usize, root_bit: usize, leaf_bit: usize
 }
 
 // Adds what slot t holds, if anything. Of one root bit the highest leaf bit comes first: its displacement is the lowest.
-fn add_slot(reached: &[i64], t: usize, records: &mut [usize], count: usize) -> usize {
+fn add_slot(reached: &Reached, t: usize, records: &mut Records, count: usize) -> usize {
     let root_bit = t / SLOTS;
     if root_bit >= ROOT_BITS {
         return count;
@@ -90,7 +95,7 @@ fn add_slot(reached: &[i64], t: usize, records: &mut [usize], count: usize) -> u
 }
 
 // The records of a reached set, in order: by first, then displacement. Gives how many.
-pub(crate) fn collect(reached: &[i64], records: &mut [usize]) -> usize {
+pub(crate) fn collect(reached: &Reached, records: &mut Records) -> usize {
     let mut count: usize = 0;
     for t in 0..REACHED {
         count = add_slot(reached, t, records, count);
@@ -99,7 +104,7 @@ pub(crate) fn collect(reached: &[i64], records: &mut [usize]) -> usize {
 }
 
 // Writes a record as the calls under test write it: first, last, displacement.
-fn write_record(records: &[usize], r: usize, list: &mut [i64]) {
+fn write_record(records: &Records, r: usize, list: &mut List) {
     let first = record(records, r, FIRST);
     put(list, place(RECORD_WIDTH, r, FIRST), number(first));
     put(
@@ -115,7 +120,7 @@ fn write_record(records: &[usize], r: usize, list: &mut [i64]) {
 }
 
 // Writes the records as a list.
-pub(crate) fn write_list(records: &[usize], count: usize, list: &mut [i64]) {
+pub(crate) fn write_list(records: &Records, count: usize, list: &mut List) {
     for r in 0..MAX_RECORDS {
         if r >= count {
             return;

@@ -65,9 +65,37 @@ pub(crate) const CLIPPED_HIGH: usize = 54;
 
 pub(crate) const CLIPPED_BOTH: usize = 55;
 
-pub(crate) const DIFFERENCES: usize = 56;
+// Pairs by the banks of their groups: one at leaf bit 0, one moved, two, three, four or more.
+pub(crate) const ONE_BANK: usize = 56;
 
-pub(crate) const COUNTS: usize = 57;
+pub(crate) const ONE_MOVED: usize = 57;
+
+pub(crate) const TWO_BANKS: usize = 58;
+
+pub(crate) const THREE_BANKS: usize = 59;
+
+pub(crate) const MANY_BANKS: usize = 60;
+
+// Pairs of a group between whose leaf rows others stand.
+pub(crate) const ROWS_APART: usize = 61;
+
+// Three verdicts on pairs of several banks with records on both sides, and ten arrangements of banks.
+pub(crate) const VERDICTS_BANKS: usize = 62;
+
+pub(crate) const ARRANGEMENTS: usize = 65;
+
+// Pairings with faults, by the refusal.
+pub(crate) const REFUSED_NODES: usize = 75;
+
+pub(crate) const REFUSED_AT: usize = 76;
+
+pub(crate) const REFUSED_TWICE: usize = 77;
+
+pub(crate) const DIFFERENCES: usize = 78;
+
+pub(crate) const COUNTS: usize = 79;
+
+pub(crate) type Counts = [usize; COUNTS];
 
 // No count here comes to this.
 const MOST: usize = 1000000000;
@@ -79,7 +107,7 @@ const STANDARD_OUTPUT: i32 = 1;
 
 const LINE_FEED: u8 = b'\n';
 
-pub(crate) fn add(counts: &mut [usize; COUNTS], kind: usize, more: usize) {
+pub(crate) fn add(counts: &mut Counts, kind: usize, more: usize) {
     let before = cell(counts, kind);
     if before < MOST {
         if more < MOST {
@@ -88,12 +116,12 @@ pub(crate) fn add(counts: &mut [usize; COUNTS], kind: usize, more: usize) {
     }
 }
 
-pub(crate) fn count(counts: &mut [usize; COUNTS], kind: usize) {
+pub(crate) fn count(counts: &mut Counts, kind: usize) {
     add(counts, kind, 1);
 }
 
 // Counts where a condition holds.
-pub(crate) fn count_if(counts: &mut [usize; COUNTS], kind: usize, holds: bool) {
+pub(crate) fn count_if(counts: &mut Counts, kind: usize, holds: bool) {
     if holds {
         add(counts, kind, 1);
     }
@@ -107,17 +135,15 @@ fn say_number(n: usize) {
     io::print_decimal(STANDARD_OUTPUT, n as u64);
 }
 
-// A call that does not answer as the walk by single addresses says: counted, and printed with the map's number.
-pub(crate) fn differs(counts: &mut [usize; COUNTS], what: &[u8], map: usize) {
+// A call that does not answer as the walk by single addresses says: counted, and printed with the map's number, from 1.
+pub(crate) fn differs(counts: &mut Counts, what: &[u8]) {
     count(counts, DIFFERENCES);
     if cell(counts, DIFFERENCES) > SHOWN {
         return;
     }
     say(b"map ");
-    say_number(map);
-    say(b": ");
+    say_number(cell(counts, MAPS));
     say(what);
-    say(b"\n");
 }
 
 // Whether a line begins at a place of a text.
@@ -132,7 +158,7 @@ fn begins_line(names: &[u8], i: usize) -> bool {
 }
 
 // Prints a count before the line that names it.
-fn print_count(counts: &[usize; COUNTS], kind: usize, names: &[u8], i: usize) {
+fn print_count(counts: &Counts, kind: usize, names: &[u8], i: usize) {
     if begins_line(names, i) {
         say_number(cell(counts, kind));
         say(b" ");
@@ -153,7 +179,7 @@ fn print_byte(kind: usize, names: &[u8], i: usize) -> usize {
 }
 
 // Prints the lines of a text, each with the count that it names before it. The first names `first`.
-fn print_lines(counts: &[usize; COUNTS], first: usize, names: &[u8]) {
+fn print_lines(counts: &Counts, first: usize, names: &[u8]) {
     let mut kind = first;
     for i in 0..names.len() {
         print_count(counts, kind, names, i);
@@ -161,7 +187,7 @@ fn print_lines(counts: &[usize; COUNTS], first: usize, names: &[u8]) {
     }
 }
 
-fn print_calls(counts: &[usize; COUNTS]) {
+fn print_calls(counts: &Counts) {
     print_lines(
         counts,
         MAPS,
@@ -169,7 +195,7 @@ fn print_calls(counts: &[usize; COUNTS]) {
     );
 }
 
-fn print_verdicts(counts: &[usize; COUNTS]) {
+fn print_verdicts(counts: &Counts) {
     print_lines(
         counts,
         PAIRS,
@@ -177,7 +203,7 @@ fn print_verdicts(counts: &[usize; COUNTS]) {
     );
 }
 
-fn print_styles(counts: &[usize; COUNTS]) {
+fn print_styles(counts: &Counts) {
     print_lines(
         counts,
         STYLES,
@@ -185,7 +211,7 @@ fn print_styles(counts: &[usize; COUNTS]) {
     );
 }
 
-fn print_habits(counts: &[usize; COUNTS]) {
+fn print_habits(counts: &Counts) {
     print_lines(
         counts,
         HABITS,
@@ -193,7 +219,7 @@ fn print_habits(counts: &[usize; COUNTS]) {
     );
 }
 
-fn print_traits(counts: &[usize; COUNTS]) {
+fn print_traits(counts: &Counts) {
     print_lines(
         counts,
         MIXED_UNITS,
@@ -201,19 +227,46 @@ fn print_traits(counts: &[usize; COUNTS]) {
     );
 }
 
-fn print_records(counts: &[usize; COUNTS]) {
+fn print_records(counts: &Counts) {
     print_lines(
         counts,
         NEGATIVE_DISPLACEMENTS,
-        b"records of negative displacement\nneighbours of like displacement, 8 bits open\nneighbours of unlike displacement that touch\nneighbours of unlike displacement that overlap\nrecords that lack the leaf's first bits\nrecords that lack the leaf's last bits\nrecords that lack both\ndifferences\n",
+        b"records of negative displacement\nneighbours of like displacement, 8 bits open\nneighbours of unlike displacement that touch\nneighbours of unlike displacement that overlap\nrecords that lack the leaf's first bits\nrecords that lack the leaf's last bits\nrecords that lack both\n",
     );
 }
 
-pub(crate) fn print(counts: &[usize; COUNTS]) {
+fn print_groups(counts: &Counts) {
+    print_lines(
+        counts,
+        ONE_BANK,
+        b"pairs of one bank that begins at leaf bit 0\npairs of one bank that begins further up\npairs of two banks\npairs of three banks\npairs of four banks or more\npairs whose leaf rows are no neighbours\nequal with several banks and records on both sides\npartial with several banks and records on both sides\ndifferent with several banks and records on both sides\n",
+    );
+}
+
+fn print_arrangements(counts: &Counts) {
+    print_lines(
+        counts,
+        ARRANGEMENTS,
+        b"groups of banks that touch\ngroups of banks with a unit open\ngroups of banks that overlap\ngroups with two banks exchanged\ngroups with two banks that begin at one bit\ngroups with a bank moved\ngroups with a bank beyond the leaf\ngroups of interleaved banks\ngroups of one bank that lacks the first units\ngroups that another leaf joined\n",
+    );
+}
+
+fn print_refusals(counts: &Counts) {
+    print_lines(
+        counts,
+        REFUSED_NODES,
+        b"pairings refused with 7\npairings refused with 16\npairings refused with 8\ndifferences\n",
+    );
+}
+
+pub(crate) fn print(counts: &Counts) {
     print_calls(counts);
     print_verdicts(counts);
     print_styles(counts);
     print_habits(counts);
     print_traits(counts);
     print_records(counts);
+    print_groups(counts);
+    print_arrangements(counts);
+    print_refusals(counts);
 }

@@ -1,5 +1,6 @@
 // The walk of document 01 by single bit addresses: no runs, no lists. From each bit address of a root it notes every place, a node and an
-// address there, that a walk comes to, and keeps the leaf bits.
+// address there, that a walk comes to, and keeps the leaf bits. The leaf bits of banks join in those of their group.
+use generator::maps::Shape;
 use generator::numbers::at;
 use generator::numbers::bits;
 use generator::numbers::cell;
@@ -11,6 +12,7 @@ use generator::numbers::size;
 use generator::numbers::store;
 use generator::numbers::sum;
 use generator::rows;
+use generator::rows::Map;
 
 // No root of a map here has a bit address as large as this.
 pub(crate) const ROOT_BITS: usize = 640;
@@ -20,15 +22,26 @@ pub(crate) const SLOTS: usize = 16;
 
 pub(crate) const REACHED: usize = ROOT_BITS * SLOTS;
 
-pub(crate) const NO_BIT: i64 = 1000000;
+// A reached set: for each root bit the leaf bits, ascending.
+pub(crate) type Reached = [i64; REACHED];
 
-// Places noted of one root bit at most, and the numbers of them.
+// Above every leaf bit, and above every bit of a group.
+pub(crate) const NO_BIT: i64 = 4611686018427387904;
+
+// Places noted of one root bit at most, and the numbers of them: a node and an address each.
 const MAX_PLACES: usize = 256;
 
 const PLACE_NUMBERS: usize = 512;
 
+const PLACE_WIDTH: usize = 2;
+
+type Places = [usize; PLACE_NUMBERS];
+
 // An address that no node has.
 const NO_ADDRESS: usize = 1000000;
+
+// Neither a leaf bit nor the bit at which a bank begins comes to this.
+const HALF: i64 = 1152921504606846976;
 
 // The address after a walk over an edge: the address less offset times the unit of the node that the edge enters.
 fn moved(address: usize, offset: i64, unit: usize) -> usize {
@@ -44,63 +57,57 @@ fn moved(address: usize, offset: i64, unit: usize) -> usize {
 }
 
 // Whether an address lies between the first and the last bit of a node.
-fn lives(nodes: &[i64], v: usize, address: usize) -> bool {
-    if address < rows::first_bit(nodes, v) {
+fn lives(map: &Map, v: usize, address: usize) -> bool {
+    if address < rows::first_bit(map, v) {
         return false;
     }
-    address < rows::end_bit(nodes, v)
+    address < rows::end_bit(map, v)
+}
+
+// The node of a noted place, and the address there.
+fn node_at(places: &Places, k: usize) -> usize {
+    cell(places, rows::place(PLACE_WIDTH, k, 0))
+}
+
+fn address_at(places: &Places, k: usize) -> usize {
+    cell(places, rows::place(PLACE_WIDTH, k, 1))
 }
 
 // Notes one more place if the address lives there. Gives how many there are.
-fn stand(nodes: &[i64], v: usize, address: usize, places: &mut [usize], count: usize) -> usize {
-    if !lives(nodes, v, address) {
+fn stand(map: &Map, v: usize, address: usize, places: &mut Places, count: usize) -> usize {
+    if !lives(map, v, address) {
         return count;
     }
-    let k = rows::place(rows::PAIR_WIDTH, count, 0);
-    store(places, k, v);
-    store(places, sum(k, 1), address);
+    store(places, rows::place(PLACE_WIDTH, count, 0), v);
+    store(places, rows::place(PLACE_WIDTH, count, 1), address);
     sum(count, 1)
 }
 
 // The step from a place over edge e, if it leaves that node.
-fn step(
-    nodes: &[i64],
-    edges: &[i64],
-    places: &mut [usize],
-    count: usize,
-    k: usize,
-    e: usize,
-) -> usize {
-    let v = cell(places, rows::place(rows::PAIR_WIDTH, k, 0));
-    if rows::edge_end(edges, e, rows::FROM) != v {
+fn step(map: &Map, places: &mut Places, count: usize, k: usize, e: usize) -> usize {
+    let edge = rows::edge_of(map, e);
+    if edge.from != node_at(places, k) {
         return count;
     }
-    let address = cell(places, rows::place(rows::PAIR_WIDTH, k, 1));
-    let to = rows::edge_end(edges, e, rows::TO);
-    let unit = rows::node_size(nodes, to, rows::UNIT);
-    stand(
-        nodes,
-        to,
-        moved(address, rows::offset_at(edges, e), unit),
-        places,
-        count,
-    )
+    let unit = rows::node_size(map, edge.to, rows::UNIT);
+    let address = moved(address_at(places, k), edge.offset, unit);
+    stand(map, edge.to, address, places, count)
 }
 
 // The steps from a place over every edge.
-fn leave(nodes: &[i64], edges: &[i64], places: &mut [usize], k: usize, before: usize) -> usize {
+fn leave(map: &Map, edges: usize, places: &mut Places, k: usize, before: usize) -> usize {
     let mut count = before;
     for e in 0..rows::MAX_EDGES {
-        if e >= edges.len() / rows::EDGE_WIDTH {
+        if e >= edges {
             return count;
         }
-        count = step(nodes, edges, places, count, k, e);
+        count = step(map, places, count, k, e);
     }
     count
 }
 
 // Puts a leaf bit into one slot. Gives what is to go into the slots after it: NO_BIT if the bit was there.
-fn slot_in(reached: &mut [i64], i: usize, bit: i64) -> i64 {
+fn slot_in(reached: &mut Reached, i: usize, bit: i64) -> i64 {
     let there = at(reached, i);
     if there < bit {
         return bit;
@@ -113,9 +120,12 @@ fn slot_in(reached: &mut [i64], i: usize, bit: i64) -> i64 {
 }
 
 // Puts a leaf bit among those of a root bit, which ascend. Gives NO_BIT where there was room.
-fn keep(reached: &mut [i64], first: usize, bit: i64) -> i64 {
+fn keep(reached: &mut Reached, first: usize, bit: i64) -> i64 {
     let mut carried = bit;
     for i in 0..SLOTS {
+        if carried == NO_BIT {
+            return NO_BIT;
+        }
         carried = slot_in(reached, sum(first, i), carried);
     }
     carried
@@ -131,57 +141,69 @@ pub(crate) fn first_slot(root_bit: usize) -> usize {
 }
 
 // Keeps the leaf bit of a place that is at the leaf.
-fn arrive(
-    nodes: &[i64],
-    leaf: usize,
-    places: &[usize],
-    k: usize,
-    root_bit: usize,
-    reached: &mut [i64],
-) {
-    if cell(places, rows::place(rows::PAIR_WIDTH, k, 0)) != leaf {
+fn arrive(map: &Map, leaf: usize, places: &Places, k: usize, first: usize, reached: &mut Reached) {
+    if node_at(places, k) != leaf {
         return;
     }
-    let address = cell(places, rows::place(rows::PAIR_WIDTH, k, 1));
-    let bit = less(address, rows::first_bit(nodes, leaf));
-    keep(reached, first_slot(root_bit), number(bit));
+    let bit = less(address_at(places, k), rows::first_bit(map, leaf));
+    keep(reached, first, number(bit));
 }
 
 // Every place that a walk from a bit address of the root comes to.
 fn walk_bit(
-    nodes: &[i64],
-    edges: &[i64],
+    map: &Map,
+    edges: usize,
     root: usize,
     leaf: usize,
     root_bit: usize,
-    places: &mut [usize],
-    reached: &mut [i64],
+    reached: &mut Reached,
 ) {
-    let mut count = stand(nodes, root, root_bit, places, 0);
+    let mut places = [0usize; PLACE_NUMBERS];
+    let mut count = stand(map, root, root_bit, &mut places, 0);
     for k in 0..MAX_PLACES {
         if k >= count {
             return;
         }
-        arrive(nodes, leaf, places, k, root_bit, reached);
-        count = leave(nodes, edges, places, k, count);
+        arrive(map, leaf, &places, k, first_slot(root_bit), reached);
+        count = leave(map, edges, &mut places, k, count);
     }
 }
 
-fn walk_bits(
-    nodes: &[i64],
-    edges: &[i64],
-    root: usize,
-    leaf: usize,
-    places: &mut [usize],
-    reached: &mut [i64],
-) {
+// The reached set of a root and a leaf.
+pub(crate) fn reach(map: &Map, shape: Shape, root: usize, leaf: usize, reached: &mut Reached) {
     for root_bit in 0..ROOT_BITS {
-        walk_bit(nodes, edges, root, leaf, root_bit, places, reached);
+        walk_bit(map, shape.edges, root, leaf, root_bit, reached);
     }
 }
 
-// The reached set of a root and a leaf: for each root bit the leaf bits, ascending.
-pub(crate) fn reach(nodes: &[i64], edges: &[i64], root: usize, leaf: usize, reached: &mut [i64]) {
-    let mut places = [0usize; PLACE_NUMBERS];
-    walk_bits(nodes, edges, root, leaf, &mut places, reached);
+// A leaf bit of a bank that begins at this bit of its group, as a leaf bit of the group.
+fn group_bit(bit: i64, start: i64) -> i64 {
+    if start < 0 {
+        return NO_BIT;
+    }
+    if bit < HALF {
+        if start < HALF {
+            return bit + start;
+        }
+    }
+    NO_BIT
+}
+
+// Joins what slot t of a bank's set holds, if anything. Gives NO_BIT where there was room.
+fn join_slot(bank: &Reached, t: usize, start: i64, reached: &mut Reached) -> i64 {
+    keep(
+        reached,
+        first_slot(t / SLOTS),
+        group_bit(at(bank, t), start),
+    )
+}
+
+// Joins the reached set of a bank in that of its group. Gives whether there was room.
+pub(crate) fn join(bank: &Reached, start: i64, reached: &mut Reached) -> bool {
+    for t in 0..REACHED {
+        if join_slot(bank, t, start, reached) != NO_BIT {
+            return false;
+        }
+    }
+    true
 }

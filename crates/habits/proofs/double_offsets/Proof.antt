@@ -1,16 +1,14 @@
--- `double_offsets` is safe and ends: its loop counts up to a limit, and what it is lent keeps its length. Assumes nothing.
-use mathlib.Core.Path.{_≡_}
+-- `double_offsets` is safe and ends: its loop counts up to a limit. Assumes nothing.
 use Prim.Native.Nat.{_-_, _≤_}
-use lib.ListN.{length}
 use borrow.Author.Needs.{needs}
 use Rattle.habits.proofs.double_offsets.Statement.{statement}
 use Rattle.habits.proofs.double_offsets.Tie as tie
 
 abbrev Inv-loop : tie.InvT-loop
-Inv-loop edges₀ edge-rows v e₀ edges e = (e ≤ 40) × (length edges ≡ length edges₀)
+Inv-loop map₀ edge-rows v e₀ map e = e ≤ 64
 
 abbrev μ-loop : tie.MeasureT-loop
-μ-loop edges₀ edge-rows v e₀ edges e = 40 - e
+μ-loop map₀ edge-rows v e₀ map e = 64 - e
 
 pub double-offsets-spec : {M : Type 1} → statement M
 double-offsets-spec =
@@ -20,9 +18,7 @@ double-offsets-spec =
     μ-loop
     (λ c. search needs)
     (λ c. search needs)
-    (λ c. search needs)
     (λ c κs. search needs)
-    (λ c. search needs)
     (λ c. search needs)
     (λ c. search needs)
     (λ c. search needs)

@@ -5,10 +5,10 @@ use Rattle.walker.proofs.count_edges.Statement.{statement}
 use Rattle.walker.proofs.count_edges.Tie as tie
 
 abbrev Inv-loop : tie.InvT-loop
-Inv-loop edges counts₀ e₀ counts e = e ≤ 40
+Inv-loop map edges counts₀ e₀ counts e = e ≤ 64
 
 abbrev μ-loop : tie.MeasureT-loop
-μ-loop edges counts₀ e₀ counts e = 40 - e
+μ-loop map edges counts₀ e₀ counts e = 64 - e
 
 pub count-edges-spec : {M : Type 1} → statement M
 count-edges-spec =
@@ -18,9 +18,6 @@ count-edges-spec =
     μ-loop
     (λ c. search needs)
     (λ c. search needs)
-    (λ c κs. search needs)
-    (λ c κs. search needs)
-    (λ c κs. search needs)
     (λ c κs. search needs)
     (λ c. search needs)
     (λ c. search needs)

@@ -5,10 +5,10 @@ use Rattle.walker.proofs.count_nodes.Statement.{statement}
 use Rattle.walker.proofs.count_nodes.Tie as tie
 
 abbrev Inv-loop : tie.InvT-loop
-Inv-loop nodes edges shape counts₀ v₀ counts v = v ≤ 16
+Inv-loop map shape counts₀ v₀ counts v = v ≤ 24
 
 abbrev μ-loop : tie.MeasureT-loop
-μ-loop nodes edges shape counts₀ v₀ counts v = 16 - v
+μ-loop map shape counts₀ v₀ counts v = 24 - v
 
 pub count-nodes-spec : {M : Type 1} → statement M
 count-nodes-spec =

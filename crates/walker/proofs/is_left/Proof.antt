@@ -5,10 +5,10 @@ use Rattle.walker.proofs.is_left.Statement.{statement}
 use Rattle.walker.proofs.is_left.Tie as tie
 
 abbrev Inv-loop : tie.InvT-loop
-Inv-loop edges v e₀ e = e ≤ 40
+Inv-loop map edges v e₀ e = e ≤ 64
 
 abbrev μ-loop : tie.MeasureT-loop
-μ-loop edges v e₀ e = 40 - e
+μ-loop map edges v e₀ e = 64 - e
 
 pub is-left-spec : {M : Type 1} → statement M
 is-left-spec =

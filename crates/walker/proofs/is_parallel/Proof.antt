@@ -5,10 +5,10 @@ use Rattle.walker.proofs.is_parallel.Statement.{statement}
 use Rattle.walker.proofs.is_parallel.Tie as tie
 
 abbrev Inv-loop : tie.InvT-loop
-Inv-loop edges e other₀ other = other ≤ 40
+Inv-loop map e other₀ other = other ≤ 64
 
 abbrev μ-loop : tie.MeasureT-loop
-μ-loop edges e other₀ other = 40 - other
+μ-loop map e other₀ other = 64 - other
 
 pub is-parallel-spec : {M : Type 1} → statement M
 is-parallel-spec =

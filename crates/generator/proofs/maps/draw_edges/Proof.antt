@@ -1,16 +1,14 @@
--- `draw_edges` is safe and ends: its loop counts up to a limit, and what it is lent keeps its length. Assumes nothing.
-use mathlib.Core.Path.{_≡_}
+-- `draw_edges` is safe and ends: its loop counts up to a limit. Assumes nothing.
 use Prim.Native.Nat.{_-_, _≤_}
-use lib.ListN.{length}
 use borrow.Author.Needs.{needs}
 use Rattle.generator.proofs.maps.draw_edges.Statement.{statement}
 use Rattle.generator.proofs.maps.draw_edges.Tie as tie
 
 abbrev Inv-loop : tie.InvT-loop
-Inv-loop nodes edges₀ shape style seed₀ e₀ edges seed e = (e ≤ 40) × (length edges ≡ length edges₀)
+Inv-loop map₀ shape style seed₀ e₀ map seed e = e ≤ 64
 
 abbrev μ-loop : tie.MeasureT-loop
-μ-loop nodes edges₀ shape style seed₀ e₀ edges seed e = 40 - e
+μ-loop map₀ shape style seed₀ e₀ map seed e = 64 - e
 
 pub draw-edges-spec : {M : Type 1} → statement M
 draw-edges-spec =
@@ -20,9 +18,7 @@ draw-edges-spec =
     μ-loop
     (λ c. search needs)
     (λ c. search needs)
-    (λ c. search needs)
     (λ c κs. search needs)
-    (λ c. search needs)
     (λ c. search needs)
     (λ c. search needs)
     (λ c. search needs)

@@ -1,16 +1,14 @@
--- `draw_nodes` is safe and ends: its loop counts up to a limit, and what it is lent keeps its length. Assumes nothing.
-use mathlib.Core.Path.{_≡_}
+-- `draw_nodes` is safe and ends: its loop counts up to a limit. Assumes nothing.
 use Prim.Native.Nat.{_-_, _≤_}
-use lib.ListN.{length}
 use borrow.Author.Needs.{needs}
 use Rattle.generator.proofs.maps.draw_nodes.Statement.{statement}
 use Rattle.generator.proofs.maps.draw_nodes.Tie as tie
 
 abbrev Inv-loop : tie.InvT-loop
-Inv-loop nodes₀ shape style units seed₀ v₀ nodes seed v = (v ≤ 16) × (length nodes ≡ length nodes₀)
+Inv-loop map₀ shape style units seed₀ v₀ map seed v = v ≤ 24
 
 abbrev μ-loop : tie.MeasureT-loop
-μ-loop nodes₀ shape style units seed₀ v₀ nodes seed v = 16 - v
+μ-loop map₀ shape style units seed₀ v₀ map seed v = 24 - v
 
 pub draw-nodes-spec : {M : Type 1} → statement M
 draw-nodes-spec =
@@ -20,9 +18,7 @@ draw-nodes-spec =
     μ-loop
     (λ c. search needs)
     (λ c. search needs)
-    (λ c. search needs)
     (λ c κs. search needs)
-    (λ c. search needs)
     (λ c. search needs)
     (λ c. search needs)
     (λ c. search needs)

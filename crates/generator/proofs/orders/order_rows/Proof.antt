@@ -1,16 +1,14 @@
--- `order_rows` is safe and ends: its loop counts up to a limit, and what it is lent keeps its length. Assumes nothing.
-use mathlib.Core.Path.{_≡_}
+-- `order_rows` is safe and ends: its loop counts up to a limit. Assumes nothing.
 use Prim.Native.Nat.{_-_, _≤_}
-use lib.ListN.{length}
 use borrow.Author.Needs.{needs}
 use Rattle.generator.proofs.orders.order_rows.Statement.{statement}
 use Rattle.generator.proofs.orders.order_rows.Tie as tie
 
 abbrev Inv-loop : tie.InvT-loop
-Inv-loop order₀ count kind seed₀ i₀ order seed i = (i ≤ 40) × (length order ≡ length order₀)
+Inv-loop order₀ count kind seed₀ i₀ order seed i = i ≤ 64
 
 abbrev μ-loop : tie.MeasureT-loop
-μ-loop order₀ count kind seed₀ i₀ order seed i = 40 - i
+μ-loop order₀ count kind seed₀ i₀ order seed i = 64 - i
 
 pub order-rows-spec : {M : Type 1} → statement M
 order-rows-spec =
@@ -20,9 +18,7 @@ order-rows-spec =
     μ-loop
     (λ c. search needs)
     (λ c. search needs)
-    (λ c. search needs)
     (λ c κs. search needs)
-    (λ c. search needs)
     (λ c. search needs)
     (λ c. search needs)
     (λ c. search needs)

@@ -1,16 +1,14 @@
--- `place_rows` is safe and ends: its loop counts up to a limit, and what it is lent keeps its length. Assumes nothing.
-use mathlib.Core.Path.{_≡_}
+-- `place_rows` is safe and ends: its loop counts up to a limit. Assumes nothing.
 use Prim.Native.Nat.{_-_, _≤_}
-use lib.ListN.{length}
 use borrow.Author.Needs.{needs}
 use Rattle.generator.proofs.orders.place_rows.Statement.{statement}
 use Rattle.generator.proofs.orders.place_rows.Tie as tie
 
 abbrev Inv-loop : tie.InvT-loop
-Inv-loop from width count order to₀ row₀ to row = (row ≤ 40) × (length to ≡ length to₀)
+Inv-loop from first width count order to₀ row₀ to row = row ≤ 64
 
 abbrev μ-loop : tie.MeasureT-loop
-μ-loop from width count order to₀ row₀ to row = 40 - row
+μ-loop from first width count order to₀ row₀ to row = 64 - row
 
 pub place-rows-spec : {M : Type 1} → statement M
 place-rows-spec =
@@ -20,9 +18,7 @@ place-rows-spec =
     μ-loop
     (λ c. search needs)
     (λ c. search needs)
-    (λ c. search needs)
     (λ c κs. search needs)
-    (λ c. search needs)
     (λ c. search needs)
     (λ c. search needs)
     (λ c. search needs)

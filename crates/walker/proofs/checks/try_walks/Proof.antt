@@ -5,10 +5,10 @@ use Rattle.walker.proofs.checks.try_walks.Statement.{statement}
 use Rattle.walker.proofs.checks.try_walks.Tie as tie
 
 abbrev Inv-loop : tie.InvT-loop
-Inv-loop nodes edges root leaf reached found count map counts₀ seed₀ k₀ counts seed k = k ≤ 10
+Inv-loop map shape root leaf reached found count counts₀ k₀ counts k = k ≤ 10
 
 abbrev μ-loop : tie.MeasureT-loop
-μ-loop nodes edges root leaf reached found count map counts₀ seed₀ k₀ counts seed k = 10 - k
+μ-loop map shape root leaf reached found count counts₀ k₀ counts k = 10 - k
 
 pub try-walks-spec : {M : Type 1} → statement M
 try-walks-spec =
@@ -17,6 +17,7 @@ try-walks-spec =
     Inv-loop
     μ-loop
     (λ c. search needs)
+    (λ c κs. search needs)
     (λ c κs. search needs)
     (λ c κs. search needs)
     (λ c. search needs)

@@ -1,13 +1,11 @@
--- `collect` is safe and ends: its loop counts up to a limit, and what it is lent keeps its length. Assumes nothing.
-use mathlib.Core.Path.{_≡_}
+-- `collect` is safe and ends: its loop counts up to a limit. Assumes nothing.
 use Prim.Native.Nat.{_-_, _≤_}
-use lib.ListN.{length}
 use borrow.Author.Needs.{needs}
 use Rattle.walker.proofs.records.collect.Statement.{statement}
 use Rattle.walker.proofs.records.collect.Tie as tie
 
 abbrev Inv-loop : tie.InvT-loop
-Inv-loop reached records₀ count₀ t₀ records count t = (t ≤ 10240) × (length records ≡ length records₀)
+Inv-loop reached records₀ count₀ t₀ records count t = t ≤ 10240
 
 abbrev μ-loop : tie.MeasureT-loop
 μ-loop reached records₀ count₀ t₀ records count t = 10240 - t
@@ -20,7 +18,6 @@ collect-spec =
     μ-loop
     (λ c. search needs)
     (λ c κs. search needs)
-    (λ c. search needs)
     (λ c. search needs)
     (λ c. search needs)
     (λ c. search needs)

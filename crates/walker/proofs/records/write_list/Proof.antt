@@ -1,13 +1,11 @@
--- `write_list` is safe and ends: its loop counts up to a limit, and what it is lent keeps its length. Assumes nothing.
-use mathlib.Core.Path.{_≡_}
+-- `write_list` is safe and ends: its loop counts up to a limit. Assumes nothing.
 use Prim.Native.Nat.{_-_, _≤_}
-use lib.ListN.{length}
 use borrow.Author.Needs.{needs}
 use Rattle.walker.proofs.records.write_list.Statement.{statement}
 use Rattle.walker.proofs.records.write_list.Tie as tie
 
 abbrev Inv-loop : tie.InvT-loop
-Inv-loop records count list₀ r₀ list r = (r ≤ 128) × (length list ≡ length list₀)
+Inv-loop records count list₀ r₀ list r = r ≤ 128
 
 abbrev μ-loop : tie.MeasureT-loop
 μ-loop records count list₀ r₀ list r = 128 - r
@@ -20,9 +18,7 @@ write-list-spec =
     μ-loop
     (λ c. search needs)
     (λ c. search needs)
-    (λ c. search needs)
     (λ c κs. search needs)
-    (λ c. search needs)
     (λ c. search needs)
     (λ c. search needs)
     (λ c. search needs)

@@ -1,13 +1,11 @@
--- `keep` is safe and ends: its loop counts up to a limit, and what it is lent keeps its length. Assumes nothing.
-use mathlib.Core.Path.{_≡_}
+-- `keep` is safe and ends: its loop counts up to a limit. Assumes nothing.
 use Prim.Native.Nat.{_-_, _≤_}
-use lib.ListN.{length}
 use borrow.Author.Needs.{needs}
 use Rattle.walker.proofs.walks.keep.Statement.{statement}
 use Rattle.walker.proofs.walks.keep.Tie as tie
 
 abbrev Inv-loop : tie.InvT-loop
-Inv-loop reached₀ first bit carried₀ i₀ reached carried i = (i ≤ 16) × (length reached ≡ length reached₀)
+Inv-loop reached₀ first bit carried₀ i₀ reached carried i = i ≤ 16
 
 abbrev μ-loop : tie.MeasureT-loop
 μ-loop reached₀ first bit carried₀ i₀ reached carried i = 16 - i
@@ -19,9 +17,9 @@ keep-spec =
     Inv-loop
     μ-loop
     (λ c. search needs)
-    (λ c κs. search needs)
-    (λ c κs. search needs)
     (λ c. search needs)
+    (λ c κs. search needs)
+    (λ c κs. search needs)
     (λ c. search needs)
     (λ c. search needs)
     (λ c. search needs)

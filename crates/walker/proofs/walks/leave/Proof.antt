@@ -1,16 +1,14 @@
--- `leave` is safe and ends: its loop counts up to a limit, and what it is lent keeps its length. Assumes nothing.
-use mathlib.Core.Path.{_≡_}
+-- `leave` is safe and ends: its loop counts up to a limit. Assumes nothing.
 use Prim.Native.Nat.{_-_, _≤_}
-use lib.ListN.{length}
 use borrow.Author.Needs.{needs}
 use Rattle.walker.proofs.walks.leave.Statement.{statement}
 use Rattle.walker.proofs.walks.leave.Tie as tie
 
 abbrev Inv-loop : tie.InvT-loop
-Inv-loop nodes edges places₀ k before count₀ e₀ places count e = (e ≤ 40) × (length places ≡ length places₀)
+Inv-loop map edges places₀ k before count₀ e₀ places count e = e ≤ 64
 
 abbrev μ-loop : tie.MeasureT-loop
-μ-loop nodes edges places₀ k before count₀ e₀ places count e = 40 - e
+μ-loop map edges places₀ k before count₀ e₀ places count e = 64 - e
 
 pub leave-spec : {M : Type 1} → statement M
 leave-spec =
@@ -20,9 +18,7 @@ leave-spec =
     μ-loop
     (λ c. search needs)
     (λ c. search needs)
-    (λ c. search needs)
     (λ c κs. search needs)
-    (λ c. search needs)
     (λ c. search needs)
     (λ c. search needs)
     (λ c. search needs)

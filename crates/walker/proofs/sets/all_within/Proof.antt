@@ -1,8 +1,8 @@
 -- `all_within` is safe and ends: its loop counts up to a limit. Assumes nothing.
 use Prim.Native.Nat.{_-_, _≤_}
 use borrow.Author.Needs.{needs}
-use Rattle.walker.proofs.verdicts.all_within.Statement.{statement}
-use Rattle.walker.proofs.verdicts.all_within.Tie as tie
+use Rattle.walker.proofs.sets.all_within.Statement.{statement}
+use Rattle.walker.proofs.sets.all_within.Tie as tie
 
 abbrev Inv-loop : tie.InvT-loop
 Inv-loop spec-reached impl-reached t₀ t = t ≤ 10240

@@ -2,6 +2,7 @@
 use crate::records::same;
 use crate::walks::NO_BIT;
 use crate::walks::REACHED;
+use crate::walks::Reached;
 use crate::walks::SLOTS;
 use crate::walks::first_slot;
 use generator::numbers::at;
@@ -15,7 +16,7 @@ pub(crate) const PARTIAL: usize = 1;
 pub(crate) const DIFFERENT: usize = 2;
 
 // Whether a leaf bit is among those of the root bit whose slots begin at `first`.
-fn has_bit(reached: &[i64], first: usize, bit: i64) -> bool {
+fn has_bit(reached: &Reached, first: usize, bit: i64) -> bool {
     for i in 0..SLOTS {
         if at(reached, sum(first, i)) == bit {
             return true;
@@ -25,7 +26,7 @@ fn has_bit(reached: &[i64], first: usize, bit: i64) -> bool {
 }
 
 // Whether what slot t of the implementation holds, if anything, is in the specification's set.
-fn slot_within(spec_reached: &[i64], impl_reached: &[i64], t: usize) -> bool {
+fn slot_within(spec_reached: &Reached, impl_reached: &Reached, t: usize) -> bool {
     let bit = at(impl_reached, t);
     if bit == NO_BIT {
         return true;
@@ -34,7 +35,7 @@ fn slot_within(spec_reached: &[i64], impl_reached: &[i64], t: usize) -> bool {
 }
 
 // Whether everything in the implementation's set is in the specification's.
-fn all_within(spec_reached: &[i64], impl_reached: &[i64]) -> bool {
+fn all_within(spec_reached: &Reached, impl_reached: &Reached) -> bool {
     for t in 0..REACHED {
         if !slot_within(spec_reached, impl_reached, t) {
             return false;
@@ -43,13 +44,21 @@ fn all_within(spec_reached: &[i64], impl_reached: &[i64]) -> bool {
     true
 }
 
-fn is_empty(reached: &[i64]) -> bool {
+fn is_empty(reached: &Reached) -> bool {
     let none = [NO_BIT; REACHED];
     same(reached, &none)
 }
 
+// Whether one of two reached sets is empty, or both are.
+pub(crate) fn is_one_empty(one: &Reached, other: &Reached) -> bool {
+    if is_empty(one) {
+        return true;
+    }
+    is_empty(other)
+}
+
 // The verdict on the reached sets of a pair.
-pub(crate) fn verdict(spec_reached: &[i64], impl_reached: &[i64]) -> usize {
+pub(crate) fn verdict(spec_reached: &Reached, impl_reached: &Reached) -> usize {
     if same(spec_reached, impl_reached) {
         return EQUAL;
     }

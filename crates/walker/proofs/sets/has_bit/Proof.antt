@@ -1,8 +1,8 @@
 -- `has_bit` is safe and ends: its loop counts up to a limit. Assumes nothing.
 use Prim.Native.Nat.{_-_, _≤_}
 use borrow.Author.Needs.{needs}
-use Rattle.walker.proofs.verdicts.has_bit.Statement.{statement}
-use Rattle.walker.proofs.verdicts.has_bit.Tie as tie
+use Rattle.walker.proofs.sets.has_bit.Statement.{statement}
+use Rattle.walker.proofs.sets.has_bit.Tie as tie
 
 abbrev Inv-loop : tie.InvT-loop
 Inv-loop reached first bit i₀ i = i ≤ 16

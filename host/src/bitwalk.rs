@@ -58,7 +58,7 @@ pub fn reached(nodes: &[i64], edges: &[i64], root: usize, leaf: usize) -> Reache
 }
 
 /// The list of a reached set: root bits grouped by displacement, cut at every gap.
-pub fn group(reached: &Reached) -> Vec<Record> {
+pub fn list(reached: &Reached) -> Vec<Record> {
     let mut root_bits: BTreeMap<i64, BTreeSet<i64>> = BTreeMap::new();
     for (root_bit, leaf_bit) in reached {
         root_bits.entry(root_bit - leaf_bit).or_default().insert(*root_bit);
@@ -86,34 +86,66 @@ pub fn verdict(spec: &Reached, implementation: &Reached) -> i64 {
     }
 }
 
-/// The comparison of two small graphs that no refusal concerns.
-pub fn compare(tables: &Tables) -> Comparison {
+/// A root row with a leaf row that leads its group: what the specification reaches in the
+/// leaf, and what the implementation reaches in the banks, each bit counted on from where
+/// its bank begins.
+pub struct Visit {
+    pub root: usize,
+    pub leaf: usize,
+    pub banks: usize,
+    pub spec: Reached,
+    pub implementation: Reached,
+}
+
+/// The visits of two small graphs that no refusal concerns, in their order.
+pub fn visits(tables: &Tables) -> Vec<Visit> {
+    let leaf_rows: Vec<&[i64]> = tables[LEAF_PAIRS].chunks(3).collect();
+    let mut visits = Vec::new();
+    for (root, roots) in tables[ROOT_PAIRS].chunks(3).enumerate() {
+        for (leaf, leading) in leaf_rows.iter().enumerate() {
+            if leaf_rows[..leaf].iter().any(|earlier| earlier[0] == leading[0]) {
+                continue;
+            }
+            let (nodes, edges) = (&tables[SPEC_NODES], &tables[SPEC_EDGES]);
+            let spec = reached(nodes, edges, roots[0] as usize, leading[0] as usize);
+            let (nodes, edges) = (&tables[IMPL_NODES], &tables[IMPL_EDGES]);
+            let mut implementation = Reached::new();
+            let banks: Vec<_> = leaf_rows.iter().filter(|row| row[0] == leading[0]).collect();
+            for bank in &banks {
+                let in_bank = reached(nodes, edges, roots[1] as usize, bank[1] as usize);
+                implementation.extend(in_bank.iter().map(|(x, leaf_bit)| (*x, leaf_bit + bank[2])));
+            }
+            visits.push(Visit { root, leaf, banks: banks.len(), spec, implementation });
+        }
+    }
+    visits
+}
+
+/// The comparison by the reached sets of the visits.
+pub fn judge(visits: &[Visit]) -> Comparison {
     let mut outcome = Outcome { whole: 0, counts: [0; 3], root: -1, leaf: -1, address: -1 };
     let mut lines = Vec::new();
-    for (root, roots) in tables[ROOT_PAIRS].chunks(2).enumerate() {
-        for (leaf, leaves) in tables[LEAF_PAIRS].chunks(2).enumerate() {
-            let reached_on = |nodes: usize, edges: usize, side: usize| {
-                let (root, leaf) = (roots[side] as usize, leaves[side] as usize);
-                reached(&tables[nodes], &tables[edges], root, leaf)
-            };
-            let spec = reached_on(SPEC_NODES, SPEC_EDGES, 0);
-            let implementation = reached_on(IMPL_NODES, IMPL_EDGES, 1);
-            let verdict = verdict(&spec, &implementation);
-            if verdict > 0 && outcome.root < 0 {
-                outcome.root = root as i64;
-                outcome.leaf = leaf as i64;
-                let differing = spec.symmetric_difference(&implementation);
-                outcome.address = differing.map(|(root_bit, _)| *root_bit).min().unwrap();
-            }
-            outcome.counts[verdict as usize] += 1;
-            outcome.whole = outcome.whole.max(verdict);
-            if !spec.is_empty() || !implementation.is_empty() {
-                let (spec, implementation) = (group(&spec).len(), group(&implementation).len());
-                lines.push(PairLine { root, leaf, verdict, spec, implementation });
-            }
+    for Visit { root, leaf, spec, implementation, .. } in visits {
+        let verdict = verdict(spec, implementation);
+        if verdict > 0 && outcome.root < 0 {
+            outcome.root = *root as i64;
+            outcome.leaf = *leaf as i64;
+            let differing = spec.symmetric_difference(implementation);
+            outcome.address = differing.map(|(root_bit, _)| *root_bit).min().unwrap();
+        }
+        outcome.counts[verdict as usize] += 1;
+        outcome.whole = outcome.whole.max(verdict);
+        if !spec.is_empty() || !implementation.is_empty() {
+            let (spec, implementation) = (list(spec).len(), list(implementation).len());
+            lines.push(PairLine { root: *root, leaf: *leaf, verdict, spec, implementation });
         }
     }
     Comparison { outcome, lines }
+}
+
+/// The comparison of two small graphs that no refusal concerns.
+pub fn compare(tables: &Tables) -> Comparison {
+    judge(&visits(tables))
 }
 
 /// How many paths lead from a node to a leaf; for graphs with few.

@@ -2,17 +2,24 @@
 //! the tables, then those of the text, for tests with two faults at once.
 
 use crate::generate::{tables, Draft, SEGMENT};
-use crate::reference::{refusal, Refusal, Tables, IMPL_NODES, MAX_TEXT, MAX_UNITS, SPEC_NODES};
+use crate::reference::{refusal, Refusal, Tables};
+use crate::reference::{IMPL_NODES, MAX_AT, MAX_TEXT, MAX_UNITS, SPEC_NODES};
 
-/// Two roots and three leaves, each root joined with each leaf, and both sides alike.
+/// Two roots and three leaves, each root joined with each leaf, and both sides alike but for
+/// the first leaf, which the implementation has in two banks, in the first and last leaf row.
 pub fn base() -> Tables {
-    let mut draft = Draft::default();
-    let roots = [draft.root(0, 64, 8), draft.root(8, 32, 16)];
-    let leaves = [draft.leaf(0, 16, 8), draft.leaf(4, 8, 32), draft.leaf(0, 1, 128)];
+    let mut spec = Draft::default();
+    let roots = [spec.root(0, 64, 8), spec.root(8, 32, 16)];
+    let leaves = [spec.leaf(0, 16, 8), spec.leaf(4, 8, 32), spec.leaf(0, 1, 128)];
     for (from, to) in roots.into_iter().flat_map(|root| leaves.map(|leaf| (root, leaf))) {
-        draft.join(from, to, 2);
+        spec.join(from, to, 2);
     }
-    tables(&draft, &draft)
+    let mut implementation = spec.clone();
+    implementation.nodes[leaves[0]].range = 8;
+    let bank = implementation.bank(0, 8, 8, 64);
+    roots.iter().for_each(|&root| implementation.join(root, bank, 10));
+    spec.leaves.push(leaves[0]);
+    tables(&spec, &implementation)
 }
 
 pub type TableFault = Box<dyn Fn(&mut Tables)>;
@@ -70,7 +77,7 @@ fn shape_faults(table: usize, rows: bool) -> (Refusal, TableFault) {
     let numbers = match (table, rows) {
         (0 | 2, true) => node.repeat(2_001),
         (1 | 3, true) => [0, 2, 0].repeat(2_601),
-        (_, true) => [0, 0].repeat(1_001),
+        (_, true) => [0, 0, 0].repeat(1_001),
         (1 | 3, false) => vec![0, 0],
         (_, false) => vec![0],
     };
@@ -89,9 +96,16 @@ pub fn table_faults(rows: bool) -> Vec<(Refusal, TableFault)> {
         (refusal(9, 4, 0), clear(4)),
         (refusal(9, 5, 0), clear(5)),
         (refusal(7, 4, 0), put(4, 1, 2)),
-        (refusal(8, 4, 1), put(4, 2, 0)),
-        (refusal(8, 5, 1), put(5, 3, 2)),
-        (refusal(7, 5, 2), put(5, 4, 1)),
+        (refusal(16, 4, 0), put(4, 2, 1)),
+        (refusal(16, 4, 1), put(4, 5, -1)),
+        (refusal(8, 4, 1), put(4, 3, 0)),
+        (refusal(16, 5, 0), put(5, 2, MAX_AT + 1)),
+        (refusal(16, 5, 1), put(5, 5, -1)),
+        (refusal(8, 5, 1), put(5, 4, 2)),
+        (refusal(7, 5, 2), put(5, 6, 1)),
+        (refusal(16, 5, 3), put(5, 11, MAX_AT + 1)),
+        (refusal(8, 5, 3), put(5, 10, 3)),
+        (refusal(10, 3, 0), append(3, [0, 5, 0].repeat(1_023))),
         (refusal(10, 3, 1), append(3, [0, 3, 0].repeat(1_024))),
         (refusal(10, 1, 1_000), append(1, [1, 2, 0].repeat(1_024))),
         (refusal(10, 3, 1_002), append(3, [1, 4, 0].repeat(1_024))),
@@ -108,11 +122,21 @@ pub fn row_faults() -> Vec<(Refusal, TableFault)> {
     };
     vec![
         (refusal(3, 1, 1), row(1, 1, &[2, 3, MAX_UNITS + 1])),
-        (refusal(3, 3, 1), row(3, 1, &[2, 5, 0])),
-        (refusal(7, 4, 1), row(4, 1, &[0, 2])),
-        (refusal(7, 4, 1), row(4, 1, &[2, 0])),
-        (refusal(7, 5, 2), row(5, 2, &[2, 0])),
-        (refusal(7, 5, 2), row(5, 2, &[9, 3])),
+        (refusal(3, 3, 1), row(3, 1, &[2, 6, 0])),
+        (refusal(7, 4, 1), row(4, 1, &[0, 2, 0])),
+        (refusal(7, 4, 1), row(4, 1, &[2, 0, 0])),
+        (refusal(7, 4, 1), row(4, 1, &[1, 2, 1])),
+        (refusal(7, 4, 1), row(4, 1, &[2, 0, -1])),
+        (refusal(16, 4, 1), row(4, 1, &[1, 0, -1])),
+        (refusal(16, 4, 1), row(4, 1, &[0, 1, 1])),
+        (refusal(7, 5, 2), row(5, 2, &[2, 0, 0])),
+        (refusal(7, 5, 2), row(5, 2, &[9, 3, 0])),
+        (refusal(7, 5, 2), row(5, 2, &[4, 0, -1])),
+        (refusal(7, 5, 2), row(5, 2, &[9, 3, MAX_AT + 1])),
+        (refusal(16, 5, 2), row(5, 2, &[4, 3, MAX_AT + 1])),
+        (refusal(16, 5, 2), row(5, 2, &[2, 2, -1])),
+        (refusal(8, 5, 2), row(5, 2, &[2, 2, MAX_AT])),
+        (refusal(8, 5, 2), row(5, 2, &[4, 3, 0])),
         (refusal(2, 0, 4), row(0, 4, &[3, -1, 0, 7])),
         (refusal(2, 2, 4), row(2, 4, &[0, MAX_UNITS, MAX_UNITS, 9])),
     ]
@@ -181,7 +205,8 @@ pub fn text_faults() -> Vec<(i64, TextFault)> {
         (14, replace_line(1, 3, b"0 0 2 -0")),
         (13, end_after(1, 3)),
         (13, replace_line(2, 0, b"role spec impl ")),
-        (14, replace_line(2, 1, b"0 0 0 0")),
+        (13, replace_line(2, 0, b"at role spec impl at")),
+        (14, replace_line(2, 1, b"0 0 0 0 0")),
         (14, replace_line(2, 2, b"0  0")),
         (14, Box::new(|text| text.push(b'\n'))),
     ]

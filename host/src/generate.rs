@@ -2,10 +2,12 @@
 //! come out equal, partial and different, the same as texts, damaged texts, and
 //! maps at both sides of every limit.
 
-use crate::reference::{refusal, Refusal, Tables, BLOCK, UNITS};
+use crate::banks::{any_banks, build_from_banks};
+use crate::reference::{refusal, Names, Refusal, Tables, BLOCK, UNITS};
 use crate::reference::{EDGE_NAMES, NODE_NAMES, PAIR_NAMES, WIDTHS};
 use crate::reference::{IMPL_EDGES, IMPL_NODES, LEAF_PAIRS, ROOT_PAIRS, SPEC_EDGES, SPEC_NODES};
-use crate::reference::{MAX_EDGES, MAX_NODES, MAX_PAIRS, MAX_TEXT, MAX_UNITS};
+use crate::reference::{MAX_AT, MAX_EDGES, MAX_NODES, MAX_PAIRS, MAX_TEXT, MAX_UNITS};
+use std::collections::BTreeSet;
 
 pub const SPACE: i64 = 0;
 pub const SEGMENT: i64 = 1;
@@ -100,13 +102,15 @@ pub struct Edge {
     pub offset: i64,
 }
 
-/// A graph with the nodes that a pairing names, pair row by pair row.
+/// A graph with the nodes that a pairing names, pair row by pair row. A specification names
+/// a leaf as often as it has banks; an implementation tells where each bank begins.
 #[derive(Clone, Default)]
 pub struct Draft {
     pub nodes: Vec<Node>,
     pub edges: Vec<Edge>,
     pub roots: Vec<usize>,
     pub leaves: Vec<usize>,
+    pub at: Vec<i64>,
 }
 
 impl Draft {
@@ -122,8 +126,13 @@ impl Draft {
     }
 
     pub fn leaf(&mut self, base: i64, range: i64, unit: i64) -> usize {
+        self.bank(base, range, unit, 0)
+    }
+
+    pub fn bank(&mut self, base: i64, range: i64, unit: i64, at: i64) -> usize {
         let leaf = self.node(BLOCK, base, range, unit);
         self.leaves.push(leaf);
+        self.at.push(at);
         leaf
     }
 
@@ -141,6 +150,14 @@ impl Draft {
         };
         let bit_offset = source.first() - target.first() + slide;
         self.join(from, to, bit_offset.div_euclid(target.unit));
+    }
+
+    /// The leaf of each of these leaf rows, in the order of the list.
+    pub fn with_leaf_rows(&self, rows: &[usize]) -> Draft {
+        let mut draft = self.clone();
+        draft.leaves = rows.iter().map(|&row| self.leaves[row]).collect();
+        draft.at = rows.iter().map(|&row| self.at[row]).collect();
+        draft
     }
 
     pub fn node_table(&self) -> Vec<i64> {
@@ -182,17 +199,28 @@ impl Draft {
 
 /// The tables of two drafts whose roots and leaves are paired in order.
 pub fn tables(spec: &Draft, implementation: &Draft) -> Tables {
-    let pairs = |left: &[usize], right: &[usize]| {
-        left.iter().zip(right).flat_map(|(l, r)| [*l as i64, *r as i64]).collect()
+    let pairs = |left: &[usize], right: &[usize], at: &[i64]| {
+        let nodes = left.iter().zip(right);
+        nodes.zip(at).flat_map(|((&l, &r), &at)| [l as i64, r as i64, at]).collect()
     };
     [
         spec.node_table(),
         spec.edge_table(),
         implementation.node_table(),
         implementation.edge_table(),
-        pairs(&spec.roots, &implementation.roots),
-        pairs(&spec.leaves, &implementation.leaves),
+        pairs(&spec.roots, &implementation.roots, &vec![0; spec.roots.len()]),
+        pairs(&spec.leaves, &implementation.leaves, &implementation.at),
     ]
+}
+
+pub fn root_rows(tables: &Tables) -> usize {
+    tables[ROOT_PAIRS].len() / WIDTHS[ROOT_PAIRS]
+}
+
+/// How many groups the leaf rows make: one for each specification leaf that they name.
+pub fn groups(tables: &Tables) -> usize {
+    let leaves = tables[LEAF_PAIRS].chunks(WIDTHS[LEAF_PAIRS]).map(|pair| pair[0]);
+    leaves.collect::<BTreeSet<i64>>().len()
 }
 
 // Habits of small graphs
@@ -461,8 +489,15 @@ fn grow(random: &mut Random, draft: &mut Draft) {
     draft.nodes[node].range += 1;
 }
 
-fn implementation(random: &mut Random, spec: &Draft) -> Draft {
+/// An implementation of a specification, whose leaf rows become as many as there are banks.
+fn implementation(random: &mut Random, spec: &mut Draft) -> Draft {
     let mut implementation = spec.clone();
+    if random.chance(45) {
+        for _ in 0..random.between(1, 2) {
+            let row = random.below(spec.leaves.len());
+            build_from_banks(random, spec, &mut implementation, row);
+        }
+    }
     for _ in 0..random.below(4) {
         keep(random, &mut implementation);
     }
@@ -472,19 +507,28 @@ fn implementation(random: &mut Random, spec: &Draft) -> Draft {
         1 => slip(random, &mut implementation),
         2..=7 => shrink(random, &mut implementation),
         8 => displace(random, &mut implementation),
-        _ => implementation = draft(random),
+        _ => {
+            implementation = draft(random);
+            any_banks(random, spec, &mut implementation);
+        }
     }
     implementation
 }
 
-/// Takes the pairing in any order and sometimes leaves roots or leaves out.
-fn mix_pairs(random: &mut Random, left: &mut Vec<usize>, right: &mut Vec<usize>) {
-    let mut pairs: Vec<_> = left.iter().copied().zip(right.iter().copied()).collect();
-    random.shuffle(&mut pairs);
+/// Takes root rows in any order and sometimes leaves some out.
+fn mix_roots(random: &mut Random, spec: &mut Draft, implementation: &mut Draft) {
+    let rows = mixed_rows(random, spec.roots.len().min(implementation.roots.len()));
+    let nodes = |draft: &Draft| rows.iter().map(|&row| draft.roots[row]).collect();
+    (spec.roots, implementation.roots) = (nodes(spec), nodes(implementation));
+}
+
+/// Rows in any order, sometimes the first few of them.
+fn mixed_rows(random: &mut Random, count: usize) -> Vec<usize> {
+    let mut rows = random.shuffled(count);
     if random.chance(20) {
-        pairs.truncate(random.between(1, 3) as usize);
+        rows.truncate(random.between(1, 3) as usize);
     }
-    (*left, *right) = pairs.into_iter().unzip();
+    rows
 }
 
 /// A pair of small graphs with few paths, none of which a refusal concerns.
@@ -494,18 +538,19 @@ pub fn small_map(random: &mut Random) -> Tables {
 }
 
 /// A specification with an implementation of it, rows and pairs in any order.
-pub fn implemented(random: &mut Random, spec: Draft) -> Tables {
-    let implementation = implementation(random, &spec);
+pub fn implemented(random: &mut Random, mut spec: Draft) -> Tables {
+    let implementation = implementation(random, &mut spec);
     let mut spec = spec.mixed(random);
     let mut implementation = implementation.mixed(random);
-    mix_pairs(random, &mut spec.roots, &mut implementation.roots);
-    mix_pairs(random, &mut spec.leaves, &mut implementation.leaves);
-    tables(&spec, &implementation)
+    mix_roots(random, &mut spec, &mut implementation);
+    let rows = mixed_rows(random, implementation.leaves.len());
+    tables(&spec.with_leaf_rows(&rows), &implementation.with_leaf_rows(&rows))
 }
 
 /// A map with its nodes moved up, some as far as they may be: the lists move with
 /// their root, which moves alike on both sides. Sometimes all nodes are counted in
-/// units of 128 first, so that addresses up to 2^55 occur.
+/// units of 128 first, so that addresses up to 2^55 occur. Some specification leaves begin
+/// sooner than before, and their banks begin as many bits later.
 pub fn raised(random: &mut Random, tables: &Tables) -> Tables {
     /// Units that are left for the map's own bases, ranges and offsets.
     const LEFT: i64 = 1 << 13;
@@ -528,8 +573,14 @@ pub fn raised(random: &mut Random, tables: &Tables) -> Tables {
         };
         (0..count).map(draw).collect::<Vec<i64>>()
     });
-    for pair in tables[ROOT_PAIRS].chunks(2) {
+    for pair in tables[ROOT_PAIRS].chunks(3) {
         steps[1][pair[1] as usize] = steps[0][pair[0] as usize];
+    }
+    if coarse {
+        let units: Vec<i64> = tables[IMPL_NODES].chunks(4).map(|node| node[3]).collect();
+        for pair in tables[LEAF_PAIRS].chunks_mut(3) {
+            pair[2] = (pair[2] * (STEP / units[pair[1] as usize])).min(MAX_AT);
+        }
     }
     for (side, nodes) in [SPEC_NODES, IMPL_NODES].into_iter().enumerate() {
         let steps = &steps[side];
@@ -543,7 +594,24 @@ pub fn raised(random: &mut Random, tables: &Tables) -> Tables {
             edge[2] += (steps[from] - steps[to]) * (STEP / units[to]);
         }
     }
+    for (leaf, &step) in steps[0].iter().enumerate() {
+        if random.chance(50) {
+            deepen_leaf(&mut tables, leaf, random.pick(&[step, step / 2, 1]).min(step) * STEP);
+        }
+    }
     tables
+}
+
+/// Lets a specification leaf begin that many bits sooner, and its banks that much later.
+fn deepen_leaf(tables: &mut Tables, leaf: usize, bits: i64) {
+    for pair in tables[LEAF_PAIRS].chunks_mut(3).filter(|pair| pair[0] == leaf as i64) {
+        pair[2] = (pair[2] + bits).min(MAX_AT);
+    }
+    let node = &mut tables[SPEC_NODES][leaf * 4..][..4];
+    if node[0] == BLOCK {
+        node[1] -= bits / node[3];
+        node[2] += bits / node[3];
+    }
 }
 
 // Long maps
@@ -560,8 +628,9 @@ fn append_map(tables: &mut Tables, more: &Tables) {
         tables[table].extend(edges.flat_map(|edge| [edge[0] + count, edge[1] + count, edge[2]]));
     }
     for table in [ROOT_PAIRS, LEAF_PAIRS] {
-        let pairs = more[table].chunks(2);
-        tables[table].extend(pairs.flat_map(|pair| [pair[0] + counts[0], pair[1] + counts[1]]));
+        let pairs = more[table].chunks(3);
+        let counted_on = |pair: &[i64]| [pair[0] + counts[0], pair[1] + counts[1], pair[2]];
+        tables[table].extend(pairs.flat_map(counted_on));
     }
 }
 
@@ -584,7 +653,7 @@ pub fn reordered(random: &mut Random, tables: &Tables) -> Tables {
             edge[..2].iter_mut().for_each(move_row);
         }
         for table in [ROOT_PAIRS, LEAF_PAIRS] {
-            tables[table].chunks_mut(2).for_each(|pair| move_row(&mut pair[side]));
+            tables[table].chunks_mut(3).for_each(|pair| move_row(&mut pair[side]));
         }
     }
     for table in [SPEC_EDGES, IMPL_EDGES, ROOT_PAIRS, LEAF_PAIRS] {
@@ -630,7 +699,8 @@ fn interleave(random: &mut Random, rows: &[Vec<i64>]) -> Vec<Vec<i64>> {
     tags.into_iter().filter_map(|tag| left[tag as usize].next().cloned()).collect()
 }
 
-fn table_text(names: &[&str], rows: &[Vec<i64>], columns: &[usize]) -> String {
+fn table_text(names: &Names, rows: &[Vec<i64>], columns: &[usize]) -> String {
+    let names: Vec<&str> = names.all().collect();
     let line = |fields: Vec<String>| fields.join(" ") + "\n";
     let mut text = line(columns.iter().map(|&column| names[column].to_string()).collect());
     for row in rows {
@@ -639,36 +709,52 @@ fn table_text(names: &[&str], rows: &[Vec<i64>], columns: &[usize]) -> String {
     text
 }
 
+/// The columns that a table's text needs: an optional name only where some number is not 0.
+fn needed_columns(names: &Names, rows: &[Vec<i64>]) -> Vec<usize> {
+    let used = |column: &usize| rows.iter().any(|row| row[*column] != 0);
+    let required = names.required.len();
+    (0..required).chain((required..names.count()).filter(used)).collect()
+}
+
 fn text_by(
-    tables: &Tables, mut arrange: impl FnMut(usize, Vec<Vec<i64>>) -> (Vec<usize>, Vec<Vec<i64>>),
+    tables: &Tables, mut arrange: impl FnMut(&Names, Vec<Vec<i64>>) -> (Vec<usize>, Vec<Vec<i64>>),
 ) -> Vec<u8> {
-    let parts: [(&[&str], usize, usize); 3] = [
-        (&NODE_NAMES, SPEC_NODES, IMPL_NODES),
-        (&EDGE_NAMES, SPEC_EDGES, IMPL_EDGES),
-        (&PAIR_NAMES, ROOT_PAIRS, LEAF_PAIRS),
+    let parts = [
+        (NODE_NAMES, SPEC_NODES, IMPL_NODES),
+        (EDGE_NAMES, SPEC_EDGES, IMPL_EDGES),
+        (PAIR_NAMES, ROOT_PAIRS, LEAF_PAIRS),
     ];
     let texts = parts.map(|(names, first, second)| {
         let rows = tagged_rows(&tables[first], &tables[second], WIDTHS[first]);
-        let (columns, rows) = arrange(names.len(), rows);
-        table_text(names, &rows, &columns)
+        let (columns, rows) = arrange(&names, rows);
+        table_text(&names, &rows, &columns)
     });
     texts.join("\n").into_bytes()
 }
 
-/// The text with the columns in the document's order and side 0, role 0 first.
+/// The text with the columns in the document's order, optional ones where they are needed,
+/// and side 0, role 0 first.
 pub fn plain_text(tables: &Tables) -> Vec<u8> {
-    text_by(tables, |columns, rows| ((0..columns).collect(), rows))
+    text_by(tables, |names, rows| (needed_columns(names, &rows), rows))
 }
 
-/// The text with the columns of each table in the given orders.
-pub fn text_with_columns(tables: &Tables, orders: [&[usize]; 3]) -> Vec<u8> {
-    let mut next = orders.into_iter();
+/// The text with these columns of each table.
+pub fn text_with_columns(tables: &Tables, columns: [&[usize]; 3]) -> Vec<u8> {
+    let mut next = columns.into_iter();
     text_by(tables, |_, rows| (next.next().unwrap().to_vec(), rows))
 }
 
-/// The text with columns in any order, sides and roles interleaved.
+/// The text with columns in any order, sometimes optional ones that are not needed, sides
+/// and roles interleaved.
 pub fn mixed_text(random: &mut Random, tables: &Tables) -> Vec<u8> {
-    text_by(tables, |columns, rows| (random.shuffled(columns), interleave(random, &rows)))
+    text_by(tables, |names, rows| {
+        let mut columns = needed_columns(names, &rows);
+        if random.chance(30) {
+            columns = (0..names.count()).collect();
+        }
+        random.shuffle(&mut columns);
+        (columns, interleave(random, &rows))
+    })
 }
 
 // Damage
@@ -677,7 +763,7 @@ pub fn mixed_text(random: &mut Random, tables: &Tables) -> Vec<u8> {
 pub const WRONG_FIELDS: &str = " - -0 00 01 -01 --1 1- 1-1 a side x1 -1 2 3 24 129 2000 \
     999999999999999999 1000000000000000000 -999999999999999999 -1000000000000000000 \
     9223372036854775808 18446744073709551617 281474976710656 281474976710657 \
-    -281474976710656 -281474976710657";
+    -281474976710656 -281474976710657 at 36028797018963967 36028797018963968";
 
 const ALLOWED: &[u8] = b"abcdefghijklmnopqrstuvwxyz0123456789- \n";
 const NOT_ALLOWED: &[u8] = b"\t\r\0+*()ASZ_.,\x7f\x80\xff`{/:";
@@ -746,7 +832,8 @@ pub fn damaged(random: &mut Random, text: &[u8]) -> Vec<u8> {
 /// Tables with wrong numbers, rows or counts; as text they stay within the file rules.
 pub fn disturbed(random: &mut Random, tables: &Tables) -> Tables {
     const SMALL: [i64; 12] = [-1, 0, 1, 2, 3, 4, 5, 8, 24, 32, 999, 2_000];
-    const LARGE: [i64; 4] = [MAX_UNITS, MAX_UNITS + 1, -MAX_UNITS, -MAX_UNITS - 1];
+    const LARGE: [i64; 6] =
+        [MAX_UNITS, MAX_UNITS + 1, -MAX_UNITS, -MAX_UNITS - 1, MAX_AT, MAX_AT + 1];
     let mut tables = tables.clone();
     for _ in 0..random.pick(&[1, 1, 2, 3]) {
         let number = random.below(6);
@@ -760,7 +847,9 @@ pub fn disturbed(random: &mut Random, tables: &Tables) -> Tables {
             0 => table.clear(),
             1 => table.truncate(table.len() - width),
             2 => table.extend(row.repeat([2_001, 2_601, 2_001, 2_601, 1_001, 1_001][number])),
-            3 if width == 3 => table.extend(row.repeat(random.pick(&[1_022, 1_023, 1_024]))),
+            3 if matches!(number, SPEC_EDGES | IMPL_EDGES) => {
+                table.extend(row.repeat(random.pick(&[1_022, 1_023, 1_024])))
+            }
             4..=9 => table.extend(row),
             10..=15 => table[place] = random.pick(&LARGE),
             _ => table[place] = random.pick(&SMALL),
@@ -848,6 +937,113 @@ fn crowded(root: usize, leaf: usize) -> Draft {
     draft
 }
 
+/// One root and one leaf, and in the implementation banks of that leaf, each joined with the
+/// root by that many parallel edges.
+pub fn banked(edges: &[usize]) -> Tables {
+    let mut spec = joined(1);
+    spec.leaves = vec![spec.leaves[0]; edges.len()];
+    let mut implementation = Draft::default();
+    let root = implementation.root(0, 64, 8);
+    for &count in edges {
+        let bank = implementation.leaf(0, 16, 8);
+        (0..count).for_each(|_| implementation.join(root, bank, 4));
+    }
+    tables(&spec, &implementation)
+}
+
+/// Where a bank begins.
+fn at_limits() -> Vec<Limit> {
+    let mut limits = Vec::new();
+    for (table, at, taken) in [
+        (LEAF_PAIRS, 0, true),
+        (LEAF_PAIRS, 1, true),
+        (LEAF_PAIRS, MAX_AT, true),
+        (LEAF_PAIRS, MAX_AT + 1, false),
+        (LEAF_PAIRS, -1, false),
+        (ROOT_PAIRS, 0, true),
+        (ROOT_PAIRS, 1, false),
+        (ROOT_PAIRS, MAX_AT, false),
+        (ROOT_PAIRS, MAX_AT + 1, false),
+        (ROOT_PAIRS, -1, false),
+    ] {
+        let mut tables = tables(&joined(1), &joined(1));
+        tables[table][2] = at;
+        let expected = (!taken).then_some(refusal(16, table, 0));
+        limits.push(Limit { name: format!("at {at} in table {table}"), tables, expected });
+    }
+    limits
+}
+
+/// How many rows and paths a group has.
+fn group_limits() -> Vec<Limit> {
+    let mut limits = Vec::new();
+    for rows in [999, 1_000, 1_001] {
+        let expected = (rows > 1_000).then_some(refusal(1, LEAF_PAIRS, 0));
+        let name = format!("{rows} banks of a leaf");
+        limits.push(Limit { name, tables: banked(&vec![0; rows]), expected });
+    }
+    for (edges, taken) in [
+        (&[512, 512][..], true),
+        (&[512, 513], false),
+        (&[513, 512], false),
+        (&[0, 1_024], true),
+        (&[0, 1_025], false),
+        (&[1, 1_024], false),
+        (&[1_025, 0, 0], false),
+        (&[341, 341, 342], true),
+        (&[342, 341, 342], false),
+        (&[1; 1_000], true),
+    ] {
+        let expected = (!taken).then_some(refusal(10, IMPL_EDGES, 0));
+        let name = format!("paths to the banks of a leaf: {:?}", &edges[..edges.len().min(3)]);
+        limits.push(Limit { name, tables: banked(edges), expected });
+    }
+    limits
+}
+
+/// A root, a leaf, and how many edges join them beside the one that joins any two.
+type More = (usize, usize, usize);
+
+/// Three roots joined with four leaves.
+fn three_by_four((root, leaf, more): More) -> Draft {
+    let mut draft = unjoined(3, 4);
+    for (from, to) in (0..3).flat_map(|from| (3..7).map(move |to| (from, to))) {
+        draft.join(from, to, 0);
+    }
+    (0..more).for_each(|_| draft.join(root, 3 + leaf, 0));
+    draft
+}
+
+/// In which row refusal 10 is told, where two leaves have two banks each.
+fn paths_of_groups() -> Vec<Limit> {
+    const NONE: More = (0, 0, 0);
+    const IN_TURN: [usize; 4] = [0, 1, 0, 1];
+    const NEIGHBOURS: [usize; 4] = [0, 0, 1, 1];
+    const AROUND: [usize; 4] = [0, 1, 1, 0];
+    let mut limits = Vec::new();
+    for (name, leaves, more_spec, more_impl, expected) in [
+        ("1,024 paths to a group", IN_TURN, NONE, (1, 3, 1_022), None),
+        ("1,025 paths, later bank", IN_TURN, NONE, (1, 3, 1_023), Some((3, 1_001))),
+        ("1,025 paths, earlier bank", IN_TURN, NONE, (2, 0, 1_023), Some((3, 2_000))),
+        ("1,025 paths to a leaf", IN_TURN, (1, 1, 1_024), NONE, Some((1, 1_001))),
+        ("1,025 paths to a leaf unpaired", IN_TURN, (1, 3, 1_024), NONE, None),
+        ("leaf and its group", IN_TURN, (1, 1, 1_024), (1, 3, 1_023), Some((1, 1_001))),
+        ("leaf and a group before it", IN_TURN, (1, 1, 1_024), (1, 2, 1_023), Some((3, 1_000))),
+        ("leaf and a group after it", IN_TURN, (1, 0, 1_024), (1, 1, 1_023), Some((1, 1_000))),
+        ("later bank of neighbours", NEIGHBOURS, NONE, (2, 3, 1_023), Some((3, 2_002))),
+        ("earlier bank of neighbours", NEIGHBOURS, NONE, (2, 2, 1_023), Some((3, 2_002))),
+        ("leaf of neighbours", NEIGHBOURS, (0, 1, 1_024), NONE, Some((1, 2))),
+        ("last bank of a group around another", AROUND, NONE, (1, 3, 1_023), Some((3, 1_000))),
+        ("last bank within", AROUND, NONE, (1, 2, 1_023), Some((3, 1_001))),
+    ] {
+        let (spec, implementation) = (three_by_four(more_spec), three_by_four(more_impl));
+        let tables = tables(&spec.with_leaf_rows(&leaves), &implementation);
+        let expected = expected.map(|(table, row)| refusal(10, table, row));
+        limits.push(Limit { name: name.to_string(), tables, expected });
+    }
+    limits
+}
+
 /// Each limit from both sides, in the specification and in the implementation.
 pub fn limits() -> Vec<Limit> {
     let graphs = [
@@ -910,6 +1106,9 @@ pub fn limits() -> Vec<Limit> {
         let name = format!("{roots} root pairs, {leaves} leaf pairs");
         limits.push(Limit { name, tables: tables(&draft, &draft), expected });
     }
+    limits.extend(at_limits());
+    limits.extend(group_limits());
+    limits.extend(paths_of_groups());
     let paths = [
         ("1,025 paths on both sides", [(1, 2), (1, 2)], refusal(10, SPEC_EDGES, 1_002)),
         ("1,025 paths, implementation earlier", [(2, 0), (1, 2)], refusal(10, IMPL_EDGES, 1_002)),
@@ -957,19 +1156,37 @@ pub fn far_rows() -> Vec<Limit> {
             limits.push(Limit { name: format!("{name}, side {side}"), tables, expected });
         }
     }
-    let full = unjoined(1_000, 1_000);
-    for (number, table, place, node) in
-        [(7, 4, 1_998, 1_000), (8, 4, 1_999, 0), (7, 5, 1_999, 0), (8, 5, 1_998, 1_000)]
-    {
+    // Rows that name where a bank begins are longer, and leave room for fewer.
+    for (number, table, column, value, [roots, leaves]) in [
+        (7, ROOT_PAIRS, 0, 1_000, [1_000, 1_000]),
+        (8, ROOT_PAIRS, 1, 0, [1_000, 1_000]),
+        (16, ROOT_PAIRS, 2, 1, [1_000, 900]),
+        (7, LEAF_PAIRS, 1, 0, [1_000, 1_000]),
+        (8, LEAF_PAIRS, 1, 1_000, [1_000, 1_000]),
+        (16, LEAF_PAIRS, 2, MAX_AT + 1, [900, 1_000]),
+    ] {
+        let full = unjoined(roots, leaves);
         let mut tables = tables(&full, &full);
-        tables[table][place] = node;
+        tables[table][999 * WIDTHS[table] + column] = value;
         let expected = Some(refusal(number, table, 999));
-        limits.push(Limit { name: format!("last pair of table {table}"), tables, expected });
+        limits.push(Limit {
+            name: format!("{number} at the last pair of {table}"),
+            tables,
+            expected,
+        });
     }
     let (few, many) = (unjoined(980, 1_000), crowded_at_end(980, 1_000));
     for (edges, tables) in [(SPEC_EDGES, tables(&many, &few)), (IMPL_EDGES, tables(&few, &many))] {
         let expected = Some(refusal(10, edges, 979_999));
         limits.push(Limit { name: format!("paths of the last pair, {edges}"), tables, expected });
+    }
+    // The crowded leaf is the last bank of a group that another row leads.
+    for leading in [0, 1, 998] {
+        let mut spec = few.clone();
+        spec.leaves[999] = spec.leaves[leading];
+        let (tables, expected) = (tables(&spec, &many), refusal(10, IMPL_EDGES, 979_000 + leading));
+        let name = format!("paths of the last bank, group {leading}");
+        limits.push(Limit { name, tables, expected: Some(expected) });
     }
     limits
 }

@@ -5,8 +5,9 @@
 //!
 //! All nodes of the texts count in units of 8 bits; offsets, bases and ranges are units.
 
-use crate::generate::{implemented, plain_text, tables, Draft, Random, SEGMENT, SPACE};
-use crate::reference::{Tables, BLOCK, LEAF_PAIRS, ROOT_PAIRS};
+use crate::generate::{groups, implemented, plain_text, root_rows, tables};
+use crate::generate::{Draft, Edge, Random, SEGMENT, SPACE};
+use crate::reference::{Tables, BLOCK};
 
 /// Records that an engine may keep for a graph if its lists share an arena of fixed size.
 pub const ARENA: usize = 3_072;
@@ -31,9 +32,9 @@ impl Hostile {
         plain_text(&self.tables)
     }
 
-    /// Root rows and leaf rows.
+    /// Root rows and groups.
     pub fn rows(&self) -> [usize; 2] {
-        [ROOT_PAIRS, LEAF_PAIRS].map(|table| self.tables[table].len() / 2)
+        [root_rows(&self.tables), groups(&self.tables)]
     }
 }
 
@@ -115,6 +116,7 @@ fn turned(draft: &Draft) -> Draft {
         (edge.from, edge.to, edge.offset) = (edge.to, edge.from, -edge.offset);
     }
     (turned.roots, turned.leaves) = (draft.leaves.clone(), draft.roots.clone());
+    turned.at = vec![0; turned.leaves.len()];
     turned.roots.iter().for_each(|&root| turned.nodes[root].kind = SPACE);
     turned.leaves.iter().for_each(|&leaf| turned.nodes[leaf].kind = BLOCK);
     turned
@@ -302,6 +304,113 @@ fn alike_digits(count: usize, chain: usize) -> Draft {
     draft
 }
 
+// Groups of banks
+
+/// Roots before one leaf that each sees in as many places as it has banks, all displacements
+/// unlike and below 0; `order` tells which place the bank of a row has. In the order of the
+/// places the records come in reverse. Slow for an engine that goes over the graph for each
+/// root and bank, or that puts the records of one bank after the other into their list.
+fn many_banks(count: usize, order: impl Fn(usize) -> usize) -> [Draft; 2] {
+    let mut hub = inner(1, SPAN);
+    (0..count).for_each(|_| root(&mut hub, 0, 0));
+    let (mut spec, mut implementation) = (hub.clone(), hub);
+    let leaf = spec.leaf(0, SPAN, 8);
+    (0..count as i64).for_each(|place| spec.join(0, leaf, -2 * place));
+    spec.leaves = vec![leaf; count];
+    for row in 0..count {
+        let bank = implementation.bank(0, 1, 8, 16 * order(row) as i64);
+        implementation.join(0, bank, 0);
+    }
+    [spec, implementation]
+}
+
+/// An order in which neighbours are far apart.
+fn scattered(count: usize) -> impl Fn(usize) -> usize {
+    const STEP: usize = 389;
+    move |row| row * STEP % count
+}
+
+/// Each pair has as many records as there are banks of a leaf and records of a hub before
+/// them together, and those of the banks interleave. Roots of 3 units, and of 2 in the
+/// implementation. Slow for an engine that goes over a list or its banks more than a few times.
+fn interleaved_banks(roots: usize, leaves: usize, banks: usize, records: usize) -> [Draft; 2] {
+    let by_bank: Step = (0..records as i64).map(|record| -(banks as i64) * record).collect();
+    let by_unit: Step = (0..banks as i64).map(|unit| -unit).collect();
+    let side = |range: i64, steps: &[Step]| {
+        let mut draft = inner(2, SPAN);
+        for _ in 0..roots {
+            let root = draft.root(0, range, 8);
+            draft.join(root, 0, 0);
+        }
+        lead(&mut draft, 0, 1, steps);
+        draft
+    };
+    let (mut spec, mut implementation) =
+        (side(3, &[by_bank.clone(), by_unit]), side(2, &[by_bank]));
+    for _ in 0..leaves {
+        let leaf = spec.leaf(0, SPAN, 8);
+        spec.join(1, leaf, 0);
+    }
+    // Leaf by leaf a bank of each, so that no two rows of a group are neighbours.
+    let (order, mut rows) = (scattered(banks), Vec::new());
+    for unit in (0..banks).map(order) {
+        for leaf in 0..leaves {
+            let bank = implementation.bank(0, SPAN, 8, 8 * unit as i64);
+            implementation.join(1, bank, 0);
+            rows.push(leaf);
+        }
+    }
+    [spec.with_leaf_rows(&rows), implementation]
+}
+
+/// The graph without the leaves that no row names.
+fn without_unpaired(draft: &Draft) -> Draft {
+    let kept = |node: usize| draft.nodes[node].kind != BLOCK || draft.leaves.contains(&node);
+    let kept: Vec<bool> = (0..draft.nodes.len()).map(kept).collect();
+    let place = |node: usize| kept[..node].iter().filter(|&&kept| kept).count();
+    let edge = |edge: &Edge| Edge { from: place(edge.from), to: place(edge.to), ..*edge };
+    let places = |nodes: &[usize]| nodes.iter().map(|&node| place(node)).collect();
+    Draft {
+        nodes: (0..kept.len()).filter(|&node| kept[node]).map(|node| draft.nodes[node]).collect(),
+        edges: draft.edges.iter().filter(|edge| kept[edge.to]).map(edge).collect(),
+        roots: places(&draft.roots),
+        leaves: places(&draft.leaves),
+        at: draft.at.clone(),
+    }
+}
+
+/// The graph as an implementation whose leaf rows are groups of two banks, the first row with
+/// the last, and the specification: it has the later row of each group alone. Where all live
+/// leaves are in the later rows, or all leaves are alike, the two are equal.
+fn in_pairs(draft: Draft) -> [Draft; 2] {
+    let mut spec = draft.clone();
+    let last = spec.leaves.len() - 1;
+    (0..=last / 2).for_each(|row| spec.leaves[row] = spec.leaves[last - row]);
+    [without_unpaired(&spec), draft]
+}
+
+/// Roots in gaps as in `gaps`, with half as many paths, so that a leaf may have two banks.
+fn gaps_of_half(count: usize) -> Draft {
+    let mut draft = inner(2, SPAN);
+    for number in 0..count {
+        let record = if number == 1 { 510 } else { number % 511 };
+        let gap = i64::from(number + LIVE < count);
+        root(&mut draft, SPACING * record as i64 + gap, 0);
+    }
+    leaves(&mut draft, count, 1);
+    lead(&mut draft, 0, 1, &with_chain(spread(SPACING, 9), INNER_CHAIN));
+    draft
+}
+
+/// The last root has a path more to the later bank of the last group, which makes 1,025 to
+/// its two banks. Slow for an engine that counts paths by bank and root.
+fn crowded_group([spec, mut implementation]: [Draft; 2]) -> [Draft; 2] {
+    let root = implementation.roots[implementation.roots.len() - 1];
+    let bank = implementation.leaves[implementation.leaves.len() / 2];
+    implementation.join(root, bank, 0);
+    [spec, implementation]
+}
+
 // Texts
 
 /// A map of two drafts.
@@ -332,10 +441,7 @@ fn maps(fewer: usize) -> Vec<Hostile> {
         both_ways("nodes that fill an arena, 4 hubs", alike(filled_arena(fillers, 4, few(505)))),
         both_ways("each root another part of a hub", [3, 2].map(|it| parts(few(500), 8, it))),
         both_ways("wide roots, leaves in gaps of a hub", alike(wide_roots(few(570), LIVE))),
-        both_ways(
-            "leaves in gaps of parallel edges",
-            alike(parallel_edges(few(400), LIVE)),
-        ),
+        both_ways("leaves in gaps of parallel edges", alike(parallel_edges(few(400), LIVE))),
         both_ways(
             "leaves in gaps of parallel edges, beside lists",
             alike(beside_lists(parallel_edges(few(390), LIVE))),
@@ -351,7 +457,18 @@ fn maps(fewer: usize) -> Vec<Hostile> {
         straight("chain of 64, mostly empty", alike(alike_digits(few(543), INNER_CHAIN))),
         straight("hub, mostly empty", alike(alike_digits(few(625), 1))),
     ];
-    maps.into_iter().flatten().chain(same_when_turned).collect()
+    let paired = gaps_of_half(few(650));
+    let with_banks = [
+        straight("banks in reverse", many_banks(few(650), |row| row)),
+        straight("banks in no order", many_banks(few(650), scattered(few(650)))),
+        straight("32 banks of 32 records", interleaved_banks(few(310), 10, 32, 32)),
+        straight("100 banks of 10 records", interleaved_banks(few(310), 10, 100, 10)),
+        straight("roots in gaps of a hub, two banks", in_pairs(paired.clone())),
+        straight("roots in gaps of a hub, two banks, turned", in_pairs(turned(&paired))),
+        straight("refusal 10 at the last group", crowded_group(in_pairs(paired))),
+    ];
+    let maps = maps.into_iter().flatten();
+    maps.chain(same_when_turned).chain(with_banks).collect()
 }
 
 /// The texts, each of at most MAX_TEXT bytes.

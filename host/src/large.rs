@@ -1,6 +1,6 @@
 //! Named maps from tiny to the limits, for the benchmark and for tests.
 
-use crate::generate::{plain_text, small_map, tables, text_of_length, unjoined};
+use crate::generate::{groups, plain_text, root_rows, small_map, tables, text_of_length, unjoined};
 use crate::generate::{Draft, Random, SEGMENT};
 use crate::reference::{parse, Tables, BLOCK, MAX_EDGES, MAX_NODES, MAX_TEXT, UNITS};
 
@@ -20,7 +20,7 @@ impl Map {
     }
 
     pub fn pairs(&self) -> usize {
-        self.tables[4].len() / 2 * (self.tables[5].len() / 2)
+        root_rows(&self.tables) * groups(&self.tables)
     }
 }
 
@@ -310,6 +310,103 @@ fn system(name: &'static str) -> Map {
     whole(name, tables(&spec, &implementation.renumbered(&reversed)))
 }
 
+/// A hub and roots before it, from these bases on.
+fn hub_before(range: i64, roots: impl Iterator<Item = i64>, root_range: i64) -> Draft {
+    let mut draft = Draft::default();
+    draft.node(SEGMENT, 0, range, 8);
+    for base in roots {
+        let root = draft.root(base, root_range, 8);
+        draft.join(root, HUB, 0);
+    }
+    draft
+}
+
+/// Roots before a hub, and one leaf behind it; in the implementation banks of one unit, which
+/// touch, so that each pair has one record.
+fn banks_of_one_leaf(name: &'static str, roots: usize, banks: usize) -> Map {
+    let range = banks as i64;
+    let mut spec = hub_before(range, (0..roots).map(|_| 0), range);
+    let mut implementation = spec.clone();
+    let leaf = spec.leaf(0, range, 8);
+    spec.join(HUB, leaf, 0);
+    spec.leaves = vec![leaf; banks];
+    for unit in 0..range {
+        let bank = implementation.bank(0, 1, 8, 8 * unit);
+        implementation.join(HUB, bank, unit);
+    }
+    whole(name, tables(&spec, &implementation))
+}
+
+/// One leaf of which each root sees two units, from that of its number on; in the
+/// implementation banks of one unit. The displacements are 0, -8, -16 and so on.
+fn two_of_many_banks(name: &'static str, count: usize) -> Map {
+    let mut spec = Draft::default();
+    (0..count).for_each(|_| _ = spec.root(0, 2, 8));
+    let mut implementation = spec.clone();
+    let leaf = spec.leaf(0, count as i64, 8);
+    spec.leaves = vec![leaf; count];
+    for number in 0..count {
+        spec.join(number, leaf, -(number as i64));
+        implementation.bank(0, 1, 8, 8 * number as i64);
+    }
+    for number in 0..count {
+        implementation.join(number, count + number, 0);
+        if number + 1 < count {
+            implementation.join(number, count + number + 1, 1);
+        }
+    }
+    whole(name, tables(&spec, &implementation))
+}
+
+/// Roots before a hub, each at the place of one leaf; in the implementation two banks of each
+/// leaf, the first in the order of the leaves, the second in the reverse order.
+fn two_banks_each(name: &'static str, roots: usize, leaves: usize) -> Map {
+    let bases = (0..roots).map(|number| 2 * (number % leaves) as i64);
+    two_banks_behind(name, hub_before(2 * leaves as i64, bases, 2), leaves)
+}
+
+/// The same with roots that see all leaves.
+fn two_banks_all(name: &'static str, roots: usize, leaves: usize) -> Map {
+    let range = 2 * leaves as i64;
+    two_banks_behind(name, hub_before(range, (0..roots).map(|_| 0), range), leaves)
+}
+
+fn two_banks_behind(name: &'static str, mut spec: Draft, leaves: usize) -> Map {
+    let mut implementation = spec.clone();
+    for number in 0..leaves as i64 {
+        let leaf = spec.leaf(0, 2, 8);
+        spec.join(HUB, leaf, 2 * number);
+    }
+    let rows: Vec<usize> = (0..leaves).chain((0..leaves).rev()).collect();
+    for (row, &leaf) in rows.iter().enumerate() {
+        let half = i64::from(row >= leaves);
+        let bank = implementation.bank(0, 1, 8, 8 * half);
+        implementation.join(HUB, bank, 2 * leaf as i64 + half);
+    }
+    whole(name, tables(&spec.with_leaf_rows(&rows), &implementation))
+}
+
+/// Roots and banks of one leaf, and no edge.
+fn unjoined_banks(name: &'static str, count: usize) -> Map {
+    let mut spec = unjoined(count, 1);
+    spec.leaves = vec![spec.leaves[0]; count];
+    whole(name, tables(&spec, &unjoined(count, count)))
+}
+
+/// Maps whose leaves are built from banks. There may be 2,000 nodes: a hub leaves room for
+/// 1,999 roots and banks.
+pub fn banked_maps() -> Vec<Map> {
+    vec![
+        banks_of_one_leaf("999 roots, 1,000 banks of one leaf", 999, 1_000),
+        two_of_many_banks("1,000 roots, each sees 2 of 1,000 banks of one leaf", 1_000),
+        two_banks_each("999 roots, 500 leaves of two banks each", 999, 500),
+        two_banks_all("99 roots that see 500 leaves of two banks each", 99, 500),
+        unjoined_banks("1,000 roots, 1,000 banks of one leaf, none connected", 1_000),
+        banks_of_one_leaf("702 roots, 702 banks of one leaf", 702, 702),
+        two_banks_each("364 roots, 500 leaves of two banks each", 364, 500),
+    ]
+}
+
 /// A funnel in the specification, and the same with shorter leaves in the implementation.
 fn partial(name: &'static str, funnel: Funnel) -> Map {
     whole(name, tables(&funnel.draft(), &funnel.shorter().draft()))
@@ -392,8 +489,8 @@ pub fn narrow_maps() -> Vec<Map> {
     ]
 }
 
-/// Maps of unequal lists, small enough for walks from each single bit address.
-pub fn small_versions() -> [Map; 5] {
+/// Maps of unequal lists and of banks, small enough for walks from each single bit address.
+pub fn small_versions() -> [Map; 8] {
     let records = Funnel { roots: 0, narrow: 2, leaves: 2, stages: 3, step: 1, ..FUNNEL };
     [
         partial("2 x 2, 8 records, partial", records),
@@ -401,6 +498,9 @@ pub fn small_versions() -> [Map; 5] {
         last_displacement_unlike("2 x 2, 8 records, last displacement unlike", 2, 8),
         last_unit_longer("2 x 2, 8 records, last one unit longer", 2, 8),
         displacements_in_reverse("2 x 2, 8 records, displacements in reverse", 2, 8),
+        banks_of_one_leaf("3 roots, 8 banks of one leaf", 3, 8),
+        two_of_many_banks("6 roots, each sees 2 of 6 banks of one leaf", 6),
+        two_banks_each("5 roots, 3 leaves of two banks each", 5, 3),
     ]
 }
 
@@ -411,7 +511,7 @@ pub fn maps() -> Vec<Map> {
     let wide = Funnel { leaves: 900, ..records };
     // Each leaf lies below every address that its edge can lead to.
     let clipped = Funnel { leaf_offset: -999, ..wide };
-    vec![
+    let maps = vec![
         whole("P1", parse(P1.as_bytes()).expect("P1 keeps the file rules")),
         whole("small map, seed 7", small_map(&mut Random::new(7))),
         system("5 x 115, 2,000 nodes, 2,600 edges"),
@@ -436,7 +536,8 @@ pub fn maps() -> Vec<Map> {
         Funnel { roots: 1, ..wide }.map("1 x 900, 1,024 paths"),
         Funnel { roots: 100, ..wide }.map("100 x 900, 1,024 paths"),
         Funnel { roots: 100, ..clipped }.map("100 x 900, all clipped at the leaf"),
-    ]
+    ];
+    maps.into_iter().chain(banked_maps()).collect()
 }
 
 // Single graphs

@@ -11,9 +11,11 @@
 //! The scripts `test` and `bench` at the top of the repository build the archives
 //! and run this project.
 
+mod banks;
 pub mod bitwalk;
 pub mod faults;
 pub mod generate;
+pub mod grouped;
 pub mod hostile;
 pub mod large;
 pub mod library;

@@ -4,7 +4,7 @@
 //! of a list are made when they are first asked for. Lists may be as long and as many as
 //! need be. Verdicts and lines come in visiting order, in one pass.
 
-use crate::reference::{check_paths, check_tables, parse, refusal, report, Graph, Pairing};
+use crate::reference::{check_paths, check_tables, parse, refusal, report, Bank, Graph, Pairing};
 use crate::reference::{Comparison, Outcome, PairLine, Record, Refusal, Tables, OUTPUT};
 use std::mem::take;
 use std::ops::Range;
@@ -170,13 +170,18 @@ impl List {
 /// A list between two addresses.
 type Part = (usize, i64, i64);
 
+/// What a paired leaf is an end of: its group, and how far an address there is above the
+/// group's bit, which is the leaf's first bit less what the bank begins at.
+#[derive(Clone, Copy)]
+struct End {
+    group: usize,
+    origin: i64,
+}
+
 /// A graph with what arrives from one root.
 struct Side<'a> {
-    graph: &'a Graph,
     roots: &'a [usize],
-    leaves: &'a [usize],
-    /// Leaf rows of the paired leaves.
-    rows: Vec<Option<usize>>,
+    ends: Vec<Option<End>>,
     /// From the lowest to the highest address that may walk on to a paired leaf.
     extents: Vec<(i64, i64)>,
     /// Edges that lead on to a paired leaf: the node that each enters, and its bit offset.
@@ -185,16 +190,21 @@ struct Side<'a> {
     inner: Vec<usize>,
     arrived: Vec<Vec<Reference>>,
     touched: Vec<usize>,
+    /// Leaves of each group at which something has arrived.
+    met: Vec<Vec<usize>>,
     lists: Vec<List>,
 }
 
 impl<'a> Side<'a> {
-    fn new(graph: &'a Graph, roots: &'a [usize], leaves: &'a [usize]) -> Side<'a> {
-        let mut rows = vec![None; graph.nodes.len()];
+    fn new(graph: &Graph, roots: &'a [usize], banks: &[&[Bank]]) -> Side<'a> {
+        let mut ends = vec![None; graph.nodes.len()];
         let mut extents = vec![(0, -1); graph.nodes.len()];
-        for (row, &leaf) in leaves.iter().enumerate() {
-            rows[leaf] = Some(row);
-            extents[leaf] = (graph.nodes[leaf].first, graph.nodes[leaf].last);
+        for (group, banks) in banks.iter().enumerate() {
+            for &Bank { leaf, at } in *banks {
+                let node = &graph.nodes[leaf];
+                ends[leaf] = Some(End { group, origin: node.first - at });
+                extents[leaf] = (node.first, node.last);
+            }
         }
         let mut leaving = vec![Vec::new(); graph.nodes.len()];
         for &node in graph.order.iter().rev() {
@@ -212,13 +222,17 @@ impl<'a> Side<'a> {
         let inner = graph.order.iter().copied().filter(|&node| !leaving[node].is_empty()).collect();
         let arrived = vec![Vec::new(); graph.nodes.len()];
         let (touched, lists) = (Vec::new(), Vec::new());
-        Side { graph, roots, leaves, rows, extents, leaving, inner, arrived, touched, lists }
+        let met = vec![Vec::new(); banks.len()];
+        Side { roots, ends, extents, leaving, inner, arrived, touched, met, lists }
     }
 
-    /// Finds what arrives from a root, and adds the leaf rows that are met.
-    fn sweep(&mut self, root: usize, met: &mut Vec<usize>) {
+    /// Finds what arrives from a root, and adds the groups that are met.
+    fn sweep(&mut self, root: usize, groups: &mut Vec<usize>) {
         while let Some(node) = self.touched.pop() {
             self.arrived[node].clear();
+            if let Some(end) = self.ends[node] {
+                self.met[end.group].clear();
+            }
         }
         self.lists.clear();
         let (first, last) = self.extents[root];
@@ -229,7 +243,7 @@ impl<'a> Side<'a> {
                 let node = self.inner[place];
                 if !self.arrived[node].is_empty() {
                     self.settle(node);
-                    self.hand_on(node, met);
+                    self.hand_on(node, groups);
                 }
             }
         }
@@ -281,26 +295,26 @@ impl<'a> Side<'a> {
     fn make(&mut self, list: usize) {
         let parts = take(&mut self.lists[list].parts);
         if !parts.is_empty() {
-            let records = self.gather(&parts, 0);
+            let mut records = Vec::new();
+            self.gather(&parts, 0, &mut records);
+            if parts.len() > 1 {
+                normalise(&mut records);
+            }
             self.lists[list] = List::made(records);
         }
     }
 
-    /// The normalised records of references, with that much more displacement.
-    fn gather(&mut self, references: &[Reference], more: i64) -> Vec<Record> {
-        let mut records = Vec::new();
+    /// Adds the records of references, with that much more displacement; those of one
+    /// reference are normalised among themselves.
+    fn gather(&mut self, references: &[Reference], more: i64, records: &mut Vec<Record>) {
         for reference in references {
             self.make(reference.list);
             let (cut, more) = (reference.cut(), reference.delta + more);
-            self.lists[reference.list].gather(cut, more, &mut records);
+            self.lists[reference.list].gather(cut, more, records);
         }
-        if references.len() > 1 {
-            normalise(&mut records);
-        }
-        records
     }
 
-    fn hand_on(&mut self, node: usize, met: &mut Vec<usize>) {
+    fn hand_on(&mut self, node: usize, groups: &mut Vec<usize>) {
         let arrived = take(&mut self.arrived[node]);
         for &(to, offset) in &self.leaving[node] {
             for reference in arrived.iter().map(|it| it.over(offset, self.extents[to])) {
@@ -308,7 +322,10 @@ impl<'a> Side<'a> {
                 if reference.low <= reference.high && there.last() != Some(&reference) {
                     if there.is_empty() {
                         self.touched.push(to);
-                        met.extend(self.rows[to]);
+                        if let Some(end) = self.ends[to] {
+                            self.met[end.group].push(to);
+                            groups.push(end.group);
+                        }
                     }
                     there.push(reference);
                 }
@@ -317,30 +334,41 @@ impl<'a> Side<'a> {
         self.arrived[node] = arrived;
     }
 
-    /// The list of a leaf row.
-    fn list_at(&mut self, row: usize) -> Vec<Record> {
-        let leaf = self.leaves[row];
-        let mut arrived = take(&mut self.arrived[leaf]);
-        arrived.retain(|&reference| self.meets(reference));
-        let records = self.gather(&arrived, self.graph.nodes[leaf].first);
-        self.arrived[leaf] = arrived;
+    /// How far an address of a paired leaf is above its group's bit.
+    fn origin(&self, leaf: usize) -> i64 {
+        self.ends[leaf].map_or(0, |end| end.origin)
+    }
+
+    /// The list of a group.
+    fn list_at(&mut self, group: usize) -> Vec<Record> {
+        let (mut records, mut references) = (Vec::new(), 0);
+        for place in 0..self.met[group].len() {
+            let leaf = self.met[group][place];
+            let mut arrived = take(&mut self.arrived[leaf]);
+            arrived.retain(|&reference| self.meets(reference));
+            self.gather(&arrived, self.origin(leaf), &mut records);
+            references += arrived.len();
+            self.arrived[leaf] = arrived;
+        }
+        if references > 1 {
+            normalise(&mut records);
+        }
         records
     }
 
-    /// The part of a list that a leaf row sees, and how far it is displaced; none where it
+    /// The part of a list that a group sees, and how far it is displaced; none where it
     /// sees several.
-    fn part_at(&mut self, row: usize) -> Option<(Part, i64)> {
-        let leaf = self.leaves[row];
+    fn part_at(&mut self, group: usize) -> Option<(Part, i64)> {
+        let leaf = match self.met[group][..] {
+            [] => return Some(((0, 0, -1), 0)),
+            [leaf] => leaf,
+            _ => return None,
+        };
         join(&mut self.arrived[leaf]);
-        match self.arrived[leaf][..] {
-            [] => Some(((0, 0, -1), 0)),
-            [only] => {
-                let (list, (low, high)) = (&self.lists[only.list], only.cut());
-                let part = (only.list, low.max(list.low), high.min(list.high));
-                Some((part, only.delta + self.graph.nodes[leaf].first))
-            }
-            _ => None,
-        }
+        let [only] = self.arrived[leaf][..] else { return None };
+        let (list, (low, high)) = (&self.lists[only.list], only.cut());
+        let part = (only.list, low.max(list.low), high.min(list.high));
+        Some((part, only.delta + self.origin(leaf)))
     }
 }
 
@@ -375,24 +403,25 @@ fn lowest_difference(spec: &[Record], implementation: &[Record]) -> Option<i64> 
 
 /// Judges all pairs; none where there are more lines than that.
 fn judge_pairs(graphs: &[Graph; 2], pairing: &Pairing, most: usize) -> Option<Comparison> {
-    let Pairing { roots, leaves } = pairing;
-    let mut sides = [0, 1].map(|side| Side::new(&graphs[side], &roots[side], &leaves[side]));
+    let Pairing { roots, groups } = pairing;
+    let mut sides = [0, 1].map(|side| Side::new(&graphs[side], &roots[side], &pairing.banks(side)));
     let mut outcome = Outcome { whole: 0, counts: [0; 3], root: -1, leaf: -1, address: -1 };
     let (mut lines, mut met) = (Vec::new(), Vec::new());
     for root in 0..roots[0].len() {
         sides.iter_mut().for_each(|side| side.sweep(side.roots[root], &mut met));
-        met.sort();
+        met.sort_unstable();
         met.dedup();
         let (mut kept, mut lists, mut judged) = (None, [Vec::new(), Vec::new()], 0);
-        for leaf in met.drain(..) {
+        for group in met.drain(..) {
             // The same parts of the same lists at the same distance: the verdict before.
-            let [one, other] = [0, 1].map(|side: usize| sides[side].part_at(leaf));
+            let [one, other] = [0, 1].map(|side: usize| sides[side].part_at(group));
             let parts = one.zip(other).map(|(one, other)| (one.0, other.0, one.1 - other.1));
             if parts.is_none() || parts != kept {
-                lists = [0, 1].map(|side: usize| sides[side].list_at(leaf));
+                lists = [0, 1].map(|side: usize| sides[side].list_at(group));
                 judged = verdict(&lists[0], &lists[1]);
                 kept = parts;
             }
+            let leaf = groups[group].row;
             let (spec, implementation) = (lists[0].len(), lists[1].len());
             if spec + implementation > 0 {
                 lines.push(PairLine { root, leaf, verdict: judged, spec, implementation });
@@ -408,9 +437,9 @@ fn judge_pairs(graphs: &[Graph; 2], pairing: &Pairing, most: usize) -> Option<Co
             outcome.whole = outcome.whole.max(judged);
         }
     }
-    // Pairs whose leaf is not met have two empty lists.
+    // Pairs whose group is not met have two empty lists.
     let unequal = outcome.counts[1] + outcome.counts[2];
-    outcome.counts[0] = (roots[0].len() * leaves[0].len()) as i64 - unequal;
+    outcome.counts[0] = (roots[0].len() * groups.len()) as i64 - unequal;
     Some(Comparison { outcome, lines })
 }
 
@@ -420,7 +449,7 @@ fn compare_within(tables: &Tables, most: usize) -> Result<Comparison, Refusal> {
     judge_pairs(&graphs, &pairing, most).ok_or(refusal(11, OUTPUT, 0))
 }
 
-/// Compares two graphs: refusals 1 to 10, or the outcome and the report's lines.
+/// Compares two graphs: refusals 1 to 10 and 16, or the outcome and the report's lines.
 pub fn compare(tables: &Tables) -> Result<Comparison, Refusal> {
     compare_within(tables, usize::MAX)
 }

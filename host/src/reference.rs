@@ -11,6 +11,7 @@ pub const MAX_CHAIN: usize = 64;
 pub const MAX_PATHS: u32 = 1_024;
 pub const MAX_TEXT: usize = 65_536;
 pub const MAX_UNITS: i64 = 1 << 48;
+pub const MAX_AT: i64 = (1 << 55) - 1;
 pub const MAX_TALLY: u64 = (1 << 63) - 1;
 pub const REPORT_ROOM: usize = 65_536;
 
@@ -28,11 +29,31 @@ pub const TEXT: usize = 6;
 pub const OUTPUT: usize = 7;
 
 /// Numbers in a row of each of the six tables.
-pub const WIDTHS: [usize; 6] = [4, 3, 4, 3, 2, 2];
+pub const WIDTHS: [usize; 6] = [4, 3, 4, 3, 3, 3];
 
-pub const NODE_NAMES: [&str; 5] = ["side", "kind", "base", "range", "unit"];
-pub const EDGE_NAMES: [&str; 4] = ["side", "from", "to", "offset"];
-pub const PAIR_NAMES: [&str; 3] = ["role", "spec", "impl"];
+/// The names of a table of a map file: those that its names line has, and those that it may
+/// have. A row holds its numbers in this order, and 0 under a name that is absent.
+#[derive(Clone, Copy)]
+pub struct Names {
+    pub required: &'static [&'static str],
+    pub optional: &'static [&'static str],
+}
+
+pub const NODE_NAMES: Names =
+    Names { required: &["side", "kind", "base", "range", "unit"], optional: &[] };
+pub const EDGE_NAMES: Names = Names { required: &["side", "from", "to", "offset"], optional: &[] };
+pub const PAIR_NAMES: Names = Names { required: &["role", "spec", "impl"], optional: &["at"] };
+
+impl Names {
+    pub const fn count(&self) -> usize {
+        self.required.len() + self.optional.len()
+    }
+
+    /// All names, in the order of a row's numbers.
+    pub fn all(&self) -> impl Iterator<Item = &'static str> {
+        self.required.iter().chain(self.optional).copied()
+    }
+}
 
 pub const CALLERS: usize = 16;
 
@@ -65,7 +86,8 @@ pub struct Record {
     pub displacement: i64,
 }
 
-/// A pair with a record on either side: its rows, its verdict, both list lengths.
+/// A root row and a group with a record on either side: the root row, the group's lowest
+/// leaf row, the verdict, both list lengths.
 #[derive(Clone, Copy, Debug, PartialEq, Eq)]
 pub struct PairLine {
     pub root: usize,
@@ -75,7 +97,7 @@ pub struct PairLine {
     pub implementation: usize,
 }
 
-/// Counts of the verdicts by verdict, the whole verdict, and root row, leaf row
+/// Counts of the verdicts by verdict, the whole verdict, and root row, lowest leaf row
 /// and lowest differing address of the first unequal pair (-1 each if none).
 #[derive(Clone, Debug, PartialEq, Eq)]
 pub struct Outcome {
@@ -335,38 +357,55 @@ pub fn merge(mut runs: Vec<Record>) -> Vec<Record> {
     list
 }
 
-/// Whether the listing goes once over the graph for each root, or for each pair.
-/// The lists are the same; the second repeats work that pairs of one root share.
+/// Whether the listing goes once over the graph for each root, or for each pair of a root
+/// and a group. The lists are the same; the second repeats work that pairs of one root share.
 #[derive(Clone, Copy, PartialEq, Eq)]
 pub enum Listing {
     ByRoot,
     ByPair,
 }
 
-/// A graph with the leaves to be listed and the nodes that a listing may enter.
+/// A leaf with the bit of its group at which it begins.
+#[derive(Clone, Copy)]
+pub(crate) struct Bank {
+    pub(crate) leaf: usize,
+    pub(crate) at: i64,
+}
+
+/// A graph with the groups to be listed, no leaf in two of them, and the nodes that a
+/// listing may enter.
 struct Lister<'a> {
     graph: &'a Graph,
-    leaves: Vec<usize>,
+    groups: Vec<&'a [Bank]>,
     leads: Vec<Vec<bool>>,
 }
 
 impl<'a> Lister<'a> {
-    fn new(graph: &'a Graph, leaves: Vec<usize>, listing: Listing) -> Lister<'a> {
-        let leads = match listing {
-            Listing::ByRoot => vec![graph.leads_to(&leaves)],
-            Listing::ByPair => leaves.iter().map(|&leaf| graph.leads_to(&[leaf])).collect(),
+    fn new(graph: &'a Graph, groups: Vec<&'a [Bank]>, listing: Listing) -> Lister<'a> {
+        let leads_to = |banks: &[Bank]| {
+            graph.leads_to(&banks.iter().map(|bank| bank.leaf).collect::<Vec<_>>())
         };
-        Lister { graph, leaves, leads }
+        let leads = match listing {
+            Listing::ByRoot => vec![leads_to(&groups.concat())],
+            Listing::ByPair => groups.iter().map(|banks| leads_to(banks)).collect(),
+        };
+        Lister { graph, groups, leads }
     }
 
-    /// The list of the root with each of the leaves.
+    /// The list of the root with each of the groups: that of what all its banks reach.
     fn lists(&self, root: usize) -> Vec<Vec<Record>> {
         let mut found = vec![Vec::new(); self.graph.nodes.len()];
         let Node { first, last, .. } = self.graph.nodes[root];
         for leads in &self.leads {
             self.graph.collect(root, (first, last, 0), leads, &mut found);
         }
-        self.leaves.iter().map(|&leaf| merge(take(&mut found[leaf]))).collect()
+        let mut runs_to = |&Bank { leaf, at }: &Bank| {
+            let mut runs = take(&mut found[leaf]);
+            runs.iter_mut().for_each(|run| run.displacement -= at);
+            runs
+        };
+        let mut list = |banks: &&[Bank]| merge(banks.iter().flat_map(&mut runs_to).collect());
+        self.groups.iter().map(&mut list).collect()
     }
 }
 
@@ -376,7 +415,8 @@ pub fn list(
 ) -> Result<Vec<Record>, Refusal> {
     let graph = Graph::new(nodes, edges, SPEC_NODES)?;
     let (root, leaf) = graph.named(root, leaf)?;
-    let lister = Lister::new(&graph, vec![leaf], Listing::ByPair);
+    let alone = [Bank { leaf, at: 0 }];
+    let lister = Lister::new(&graph, vec![&alone], Listing::ByPair);
     let list = lister.lists(root).remove(0);
     if list.len() * 3 > room {
         return Err(refusal(11, OUTPUT, 0));
@@ -440,33 +480,98 @@ pub fn lowest_difference(spec: &[Record], implementation: &[Record]) -> Option<i
     })
 }
 
-/// Judges the rows of a pair table and gives the node rows of both sides.
-fn check_pairs(
-    pairs: &[i64], table: usize, graphs: &[Graph; 2], role: fn(&Graph, i64) -> Option<usize>,
-) -> Result<[Vec<usize>; 2], Refusal> {
-    let mut rows = [Vec::new(), Vec::new()];
+/// A row of a pair table: nodes that have the table's role, and where the bank begins.
+struct Pair {
+    spec: usize,
+    implementation: usize,
+    at: i64,
+}
+
+/// What the rows of a pair table are to be.
+struct Rule {
+    table: usize,
+    role: fn(&Graph, i64) -> Option<usize>,
+    most_at: i64,
+    /// Whether a specification node may stand in several rows.
+    grouped: bool,
+}
+
+const ROOT_RULE: Rule = Rule { table: ROOT_PAIRS, role: Graph::root, most_at: 0, grouped: false };
+const LEAF_RULE: Rule =
+    Rule { table: LEAF_PAIRS, role: Graph::leaf, most_at: MAX_AT, grouped: true };
+
+/// Judges the rows of a pair table: 7, then 16, then 8.
+fn check_pairs(pairs: &[i64], graphs: &[Graph; 2], rule: &Rule) -> Result<Vec<Pair>, Refusal> {
+    let mut rows = Vec::new();
     let mut seen = [0, 1].map(|side: usize| vec![false; graphs[side].nodes.len()]);
-    for (row, pair) in pairs.chunks(2).enumerate() {
-        let spec = role(&graphs[0], pair[0]).ok_or(refusal(7, table, row))?;
-        let implementation = role(&graphs[1], pair[1]).ok_or(refusal(7, table, row))?;
-        if seen[0][spec] || seen[1][implementation] {
-            return Err(refusal(8, table, row));
+    for (row, pair) in pairs.chunks(WIDTHS[rule.table]).enumerate() {
+        let refused = |number| refusal(number, rule.table, row);
+        let spec = (rule.role)(&graphs[0], pair[0]).ok_or(refused(7))?;
+        let implementation = (rule.role)(&graphs[1], pair[1]).ok_or(refused(7))?;
+        let at = pair[2];
+        if !(0..=rule.most_at).contains(&at) {
+            return Err(refused(16));
         }
-        seen[0][spec] = true;
-        seen[1][implementation] = true;
-        rows[0].push(spec);
-        rows[1].push(implementation);
+        let repeated = [
+            replace(&mut seen[0][spec], true) && !rule.grouped,
+            replace(&mut seen[1][implementation], true),
+        ];
+        if repeated.contains(&true) {
+            return Err(refused(8));
+        }
+        rows.push(Pair { spec, implementation, at });
     }
     Ok(rows)
 }
 
-/// The node rows of the pairs, in either graph.
-pub(crate) struct Pairing {
-    pub(crate) roots: [Vec<usize>; 2],
-    pub(crate) leaves: [Vec<usize>; 2],
+/// The leaf rows that name one specification leaf: the lowest of them, that leaf, and the
+/// banks in the order of the rows.
+pub(crate) struct Group {
+    pub(crate) row: usize,
+    spec: [Bank; 1],
+    banks: Vec<Bank>,
 }
 
-/// Refusals 1 to 9, or both graphs with their pairing.
+impl Group {
+    /// What is reached in the specification, or in the implementation.
+    pub(crate) fn banks(&self, side: usize) -> &[Bank] {
+        if side == 0 {
+            &self.spec
+        } else {
+            &self.banks
+        }
+    }
+}
+
+/// The groups of the leaf rows, by their lowest rows.
+fn groups(rows: Vec<Pair>, spec_nodes: usize) -> Vec<Group> {
+    let mut groups: Vec<Group> = Vec::new();
+    let mut group_of = vec![None; spec_nodes];
+    for (row, Pair { spec, implementation, at }) in rows.into_iter().enumerate() {
+        let group = *group_of[spec].get_or_insert_with(|| {
+            let spec = [Bank { leaf: spec, at: 0 }];
+            groups.push(Group { row, spec, banks: Vec::new() });
+            groups.len() - 1
+        });
+        groups[group].banks.push(Bank { leaf: implementation, at });
+    }
+    groups
+}
+
+/// The roots of either graph, root row by root row, and the groups of leaves.
+pub(crate) struct Pairing {
+    pub(crate) roots: [Vec<usize>; 2],
+    pub(crate) groups: Vec<Group>,
+}
+
+impl Pairing {
+    /// The banks of each group in one of the graphs.
+    pub(crate) fn banks(&self, side: usize) -> Vec<&[Bank]> {
+        self.groups.iter().map(|group| group.banks(side)).collect()
+    }
+}
+
+/// Refusals 1 to 9 and 16, or both graphs with their pairing.
 pub(crate) fn check_tables(tables: &Tables) -> Result<([Graph; 2], Pairing), Refusal> {
     let graphs = [
         Graph::new(&tables[SPEC_NODES], &tables[SPEC_EDGES], SPEC_NODES)?,
@@ -480,15 +585,17 @@ pub(crate) fn check_tables(tables: &Tables) -> Result<([Graph; 2], Pairing), Ref
             return Err(refusal(9, table, 0));
         }
     }
-    let roots = check_pairs(&tables[ROOT_PAIRS], ROOT_PAIRS, &graphs, Graph::root)?;
-    let leaves = check_pairs(&tables[LEAF_PAIRS], LEAF_PAIRS, &graphs, Graph::leaf)?;
-    Ok((graphs, Pairing { roots, leaves }))
+    let roots = check_pairs(&tables[ROOT_PAIRS], &graphs, &ROOT_RULE)?;
+    let leaves = check_pairs(&tables[LEAF_PAIRS], &graphs, &LEAF_RULE)?;
+    let roots = roots.iter().map(|pair| (pair.spec, pair.implementation)).unzip();
+    let groups = groups(leaves, graphs[0].nodes.len());
+    Ok((graphs, Pairing { roots: roots.into(), groups }))
 }
 
-/// Refusal 10, pair by pair in visiting order, the specification first.
-pub(crate) fn check_paths(
-    graphs: &[Graph; 2], Pairing { roots, leaves }: &Pairing,
-) -> Result<(), Refusal> {
+/// Refusal 10, by root rows and groups in visiting order, the specification first. A
+/// group's paths are those to all its banks together.
+pub(crate) fn check_paths(graphs: &[Graph; 2], pairing: &Pairing) -> Result<(), Refusal> {
+    let Pairing { roots, groups } = pairing;
     let mut counted = [0, 1].map(|side: usize| vec![false; graphs[side].nodes.len()]);
     for (row, (&spec, &implementation)) in roots[0].iter().zip(&roots[1]).enumerate() {
         let crowded = [0, 1].map(|side: usize| {
@@ -500,8 +607,10 @@ pub(crate) fn check_paths(
                 _ => false,
             };
             let counts = if known { Vec::new() } else { graph.path_counts(root) };
-            let more = |leaf: &usize| counts.get(*leaf).is_some_and(|&count| count > MAX_PATHS);
-            leaves[side].iter().position(more).map(|leaf| (leaf, [SPEC_EDGES, IMPL_EDGES][side]))
+            let count = |bank: &Bank| counts.get(bank.leaf).copied().unwrap_or(0);
+            let more =
+                |group: &&Group| group.banks(side).iter().map(count).sum::<u32>() > MAX_PATHS;
+            groups.iter().find(more).map(|group| (group.row, [SPEC_EDGES, IMPL_EDGES][side]))
         });
         if let Some((leaf, edge_table)) = crowded.into_iter().flatten().min() {
             return Err(refusal(10, edge_table, row * 1_000 + leaf));
@@ -510,7 +619,7 @@ pub(crate) fn check_paths(
     Ok(())
 }
 
-/// Compares two graphs: refusals 1 to 10, or the outcome and the report's lines.
+/// Compares two graphs: refusals 1 to 10 and 16, or the outcome and the report's lines.
 pub fn compare(tables: &Tables) -> Result<Comparison, Refusal> {
     compare_by(tables, Listing::ByRoot)
 }
@@ -518,18 +627,18 @@ pub fn compare(tables: &Tables) -> Result<Comparison, Refusal> {
 pub fn compare_by(tables: &Tables, listing: Listing) -> Result<Comparison, Refusal> {
     let (graphs, pairing) = check_tables(tables)?;
     check_paths(&graphs, &pairing)?;
-    Ok(judge_pairs(&graphs, pairing, listing))
+    Ok(judge_pairs(&graphs, &pairing, listing))
 }
 
-fn judge_pairs(graphs: &[Graph; 2], pairing: Pairing, listing: Listing) -> Comparison {
-    let Pairing { roots, leaves: [spec_leaves, impl_leaves] } = pairing;
-    let spec = Lister::new(&graphs[0], spec_leaves, listing);
-    let implementation = Lister::new(&graphs[1], impl_leaves, listing);
+fn judge_pairs(graphs: &[Graph; 2], pairing: &Pairing, listing: Listing) -> Comparison {
+    let Pairing { roots, groups } = pairing;
+    let spec = Lister::new(&graphs[0], pairing.banks(0), listing);
+    let implementation = Lister::new(&graphs[1], pairing.banks(1), listing);
     let mut outcome = Outcome { whole: 0, counts: [0; 3], root: -1, leaf: -1, address: -1 };
     let mut lines = Vec::new();
     for (root, (&spec_root, &impl_root)) in roots[0].iter().zip(&roots[1]).enumerate() {
         let lists = spec.lists(spec_root).into_iter().zip(implementation.lists(impl_root));
-        for (leaf, (spec, implementation)) in lists.enumerate() {
+        for (leaf, (spec, implementation)) in groups.iter().map(|group| group.row).zip(lists) {
             let verdict = verdict(&spec, &implementation);
             if verdict != 0 && outcome.whole == 0 {
                 outcome.root = root as i64;
@@ -585,21 +694,24 @@ fn value(field: &[u8]) -> Option<i64> {
 }
 
 /// For each field of a names line, which of the table's names it is.
-fn columns(line: &[u8], names: &[&str]) -> Option<Vec<usize>> {
+fn columns(line: &[u8], names: &Names) -> Option<Vec<usize>> {
     let mut columns = Vec::new();
     for field in line.split(|&byte| byte == b' ') {
-        let column = names.iter().position(|name| name.as_bytes() == field)?;
+        let column = names.all().position(|name| name.as_bytes() == field)?;
         if columns.contains(&column) {
             return None;
         }
         columns.push(column);
     }
-    (columns.len() == names.len()).then_some(columns)
+    (0..names.required.len()).all(|column| columns.contains(&column)).then_some(columns)
 }
 
-/// The values of a line, put into the order of the table's names.
-fn values(line: &[u8], columns: &[usize]) -> Option<[i64; NODE_NAMES.len()]> {
-    let mut row = [0; NODE_NAMES.len()];
+/// Numbers of the longest row, the one that tells two tables apart among them.
+const MOST_NUMBERS: usize = NODE_NAMES.count();
+
+/// The values of a line, one for each column, put into the order of the table's names.
+fn values(line: &[u8], columns: &[usize]) -> Option<[i64; MOST_NUMBERS]> {
+    let mut row = [0; MOST_NUMBERS];
     let mut fields = line.split(|&byte| byte == b' ');
     for &column in columns {
         row[column] = value(fields.next()?)?;
@@ -610,7 +722,7 @@ fn values(line: &[u8], columns: &[usize]) -> Option<[i64; NODE_NAMES.len()]> {
 /// Reads one table from line `next` on into the two tables that its first column
 /// tells apart. Gives the line to go on with.
 fn read_table(
-    lines: &[&[u8]], mut next: usize, names: &[&str], tables: [&mut Vec<i64>; 2],
+    lines: &[&[u8]], mut next: usize, names: &Names, tables: [&mut Vec<i64>; 2],
     ends_with_empty_line: bool,
 ) -> Result<usize, Refusal> {
     let columns =
@@ -623,7 +735,7 @@ fn read_table(
             Some(line) if line.is_empty() && ends_with_empty_line => return Ok(next + 1),
             Some(line) => {
                 let row = values(line, &columns).ok_or(refusal(14, TEXT, next + 1))?;
-                tables[row[0] as usize].extend(&row[1..names.len()]);
+                tables[row[0] as usize].extend(&row[1..names.count()]);
             }
         }
     }

@@ -3,14 +3,15 @@
 //! maps. HEALDRIP_MAPS is the number of random maps of each kind.
 
 use host::bitwalk;
-use host::generate::{disturbed, long_map, plain_text, raised, small_map, Random};
+use host::generate::Random;
+use host::generate::{disturbed, groups, long_map, plain_text, raised, root_rows, small_map};
 use host::hostile::ARENA;
 use host::hostile::{filling_map, layered_map, small_versions, texts, Hostile};
 use host::large::{self, Map};
 use host::propagate;
 use host::reference::{compare_by, text_check, Comparison, Listing, Tables};
 use host::reference::{refusal, Refusal, MAX_TEXT, REPORT_ROOM};
-use host::reference::{IMPL_EDGES, LEAF_PAIRS, OUTPUT, ROOT_PAIRS};
+use host::reference::{IMPL_EDGES, LEAF_PAIRS, OUTPUT};
 
 const DEFAULT_MAPS: u64 = 4_000;
 /// Of so many maps one is long, and one fills an arena; one is walked bit by bit.
@@ -28,9 +29,9 @@ type Lines = (usize, i64, usize);
 /// The lines, or number, table and row of the refusal.
 type Answer = Result<Lines, [usize; 3]>;
 
-/// Name, root rows and leaf rows, and the answer. Turned round the rows are exchanged, and
+/// Name, root rows and groups, and the answer. Turned round the rows are exchanged, and
 /// nothing else.
-const EXPECTED: [(&str, [usize; 2], Answer); 18] = [
+const EXPECTED: [(&str, [usize; 2], Answer); 25] = [
     // Four roots reach every leaf, each by one record.
     ("roots in gaps of a hub", [570, 570], Ok((4 * 570, 0, 1))),
     ("roots in gaps behind 2 hubs", [570, 570], Ok((4 * 570, 0, 1))),
@@ -55,6 +56,17 @@ const EXPECTED: [(&str, [usize; 2], Answer); 18] = [
     ("chain of 64, mostly empty", [543, 543], Ok((43 * 36 + 57 * 25, 0, 1))),
     // The digits 00 to 24 stand seven times on either side, the others six times.
     ("hub, mostly empty", [625, 625], Ok((25 * 49 + 75 * 36, 0, 1))),
+    // Each bank brings a record of its own.
+    ("banks in reverse", [650, 1], Ok((650, 0, 650))),
+    ("banks in no order", [650, 1], Ok((650, 0, 650))),
+    // Each record of the implementation is one unit shorter.
+    ("32 banks of 32 records", [310, 10], Ok((310 * 10, 1, 1_024))),
+    ("100 banks of 10 records", [310, 10], Ok((310 * 10, 1, 1_000))),
+    // Four roots reach every group, in both banks alike.
+    ("roots in gaps of a hub, two banks", [650, 325], Ok((4 * 325, 0, 1))),
+    // Every root reaches the later banks of the first four groups, and nothing else.
+    ("roots in gaps of a hub, two banks, turned", [650, 325], Ok((4 * 650, 0, 1))),
+    ("refusal 10 at the last group", [650, 325], Err([10, IMPL_EDGES, 649_324])),
 ];
 
 /// Every line of a report and the counts of its last line.
@@ -83,6 +95,10 @@ fn check_text(hostile: &Hostile, rows: [usize; 2], answer: Answer) {
     }
 }
 
+fn with_banks(hostile: &Hostile) -> bool {
+    hostile.rows()[1] < hostile.tables[LEAF_PAIRS].len() / 3
+}
+
 #[test]
 fn texts_are_as_they_were_drawn_up() {
     let texts = texts();
@@ -91,6 +107,8 @@ fn texts_are_as_they_were_drawn_up() {
     for (name, [roots, leaves], answer) in EXPECTED {
         check_text(named(name).expect(name), [roots, leaves], answer);
         let turned = named(&format!("{name}, turned"));
+        // Groups do not become roots: such a map is expected for itself.
+        let turned = turned.filter(|_| !with_banks(named(name).expect(name)));
         turned.iter().for_each(|turned| check_text(turned, [leaves, roots], answer));
         found += 1 + turned.iter().count();
     }
@@ -189,7 +207,7 @@ fn layers_of_windows() {
             assert_eq!(comparison, bitwalk::compare(&tables), "seed {seed}");
         }
         shares[comparison.outcome.whole as usize] += 1;
-        pairs += tables[ROOT_PAIRS].len() / 2 * (tables[LEAF_PAIRS].len() / 2);
+        pairs += root_rows(&tables) * groups(&tables);
         lines += comparison.lines.len();
         records += comparison.lines.iter().map(|line| line.spec).sum::<usize>();
     }

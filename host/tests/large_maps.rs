@@ -6,7 +6,7 @@ use host::reference::{compare, list, text_check, Outcome, PairLine, Record};
 use host::reference::{LEAF_PAIRS, MAX_TEXT, REPORT_ROOM, ROOT_PAIRS};
 
 /// Name, counts of the verdicts, pairs with a record, records of the implementation.
-const EXPECTED: [(&str, [i64; 3], usize, usize); 18] = [
+const EXPECTED: [(&str, [i64; 3], usize, usize); 25] = [
     ("P1", [0, 1, 0], 1, 1),
     ("5 x 115, 2,000 nodes, 2,600 edges", [575, 0, 0], 575, 575),
     ("10^6 pairs, none connected", [1_000_000, 0, 0], 0, 0),
@@ -37,6 +37,15 @@ const EXPECTED: [(&str, [i64; 3], usize, usize); 18] = [
         7_226,
         7_225 + 62 * 15 + 1,
     ),
+    // One pair for each root, and one record of all its banks.
+    ("999 roots, 1,000 banks of one leaf", [999, 0, 0], 999, 999),
+    ("702 roots, 702 banks of one leaf", [702, 0, 0], 702, 702),
+    ("1,000 roots, each sees 2 of 1,000 banks of one leaf", [1_000, 0, 0], 1_000, 1_000),
+    // Each root is at the place of one leaf.
+    ("999 roots, 500 leaves of two banks each", [999 * 500, 0, 0], 999, 999),
+    ("364 roots, 500 leaves of two banks each", [364 * 500, 0, 0], 364, 364),
+    ("99 roots that see 500 leaves of two banks each", [49_500, 0, 0], 49_500, 49_500),
+    ("1,000 roots, 1,000 banks of one leaf, none connected", [1_000, 0, 0], 0, 0),
 ];
 
 /// Maps whose pairs are all alike: name, verdict, records of the specification, records
@@ -130,11 +139,25 @@ fn last_records() {
 }
 
 /// These hold more rows than a text has room for.
-const TOO_LONG: [&str; 2] =
-    ["600 x 600, hub, diagonal alive", "60 x 60, 1,024 records, displacements in reverse"];
+const TOO_LONG: [&str; 5] = [
+    "600 x 600, hub, diagonal alive",
+    "60 x 60, 1,024 records, displacements in reverse",
+    "999 roots, 1,000 banks of one leaf",
+    "1,000 roots, each sees 2 of 1,000 banks of one leaf",
+    "999 roots, 500 leaves of two banks each",
+];
+/// A text has no room for one root more in these; a root takes more than so many bytes.
+const LONGEST: [&str; 2] =
+    ["702 roots, 702 banks of one leaf", "364 roots, 500 leaves of two banks each"];
+const ROOT_BYTES: usize = 50;
 
 #[test]
-fn all_but_two_fit_into_a_text() {
+fn all_but_these_fit_into_a_text() {
+    let maps = all_maps();
+    for name in LONGEST {
+        let text = named(&maps, name).text().expect(name);
+        assert!(text.len() + ROOT_BYTES > MAX_TEXT, "{name} has {} bytes", text.len());
+    }
     for map in all_maps() {
         assert_eq!(map.text().is_none(), TOO_LONG.contains(&map.name), "{}", map.name);
         if map.name.starts_with("65,536 bytes") {

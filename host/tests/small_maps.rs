@@ -1,7 +1,8 @@
 //! The reference against the bit-by-bit walker on small maps.
 
-use host::bitwalk;
+use host::bitwalk::{self, Visit};
 use host::generate::{damaged, disturbed, mixed_text, plain_text, raised, small_map, Random};
+use host::propagate;
 use host::reference::*;
 use std::collections::BTreeSet;
 
@@ -10,7 +11,7 @@ const MAPS: u64 = 6_000;
 /// Every pair of both sides: list, and walks at and around its records' ends.
 fn check_single_calls(nodes: &[i64], edges: &[i64], root: i64, leaf: i64, random: &mut Random) {
     let reached = bitwalk::reached(nodes, edges, root as usize, leaf as usize);
-    let expected = bitwalk::group(&reached);
+    let expected = bitwalk::list(&reached);
     let records = list(nodes, edges, root, leaf, expected.len() * 3).unwrap();
     assert_eq!(records, expected);
     if !records.is_empty() {
@@ -46,17 +47,46 @@ fn differ_by_displacement(spec: &[Record], implementation: &[Record]) -> bool {
         && implementation.iter().all(contained)
 }
 
-/// How many pairs of a map differ by displacement alone.
-fn pairs_of_unlike_displacement(tables: &Tables) -> usize {
-    let rows = |table: usize| tables[table].chunks(2);
-    let pairs = rows(ROOT_PAIRS).flat_map(|root| rows(LEAF_PAIRS).map(move |leaf| (root, leaf)));
-    let lists = pairs.map(|(root, leaf)| {
-        [0, 1].map(|side| {
-            let (nodes, edges) = (&tables[2 * side], &tables[2 * side + 1]);
-            list(nodes, edges, root[side], leaf[side], usize::MAX).unwrap()
-        })
-    });
-    lists.filter(|[spec, implementation]| differ_by_displacement(spec, implementation)).count()
+/// What is drawn of groups of several banks, with one root each.
+#[derive(Default, Debug)]
+struct Groups {
+    /// By verdict; those of which something is reached.
+    verdicts: [u64; 3],
+    /// More banks than records, of those that are equal.
+    joined: u64,
+    /// A row of another group stands between two of the group.
+    apart: u64,
+    /// Two banks begin at one bit; two have bits of the group in common.
+    shared: u64,
+    overlapping: u64,
+    /// Some displacement is negative.
+    negative: u64,
+}
+
+impl Groups {
+    fn add(&mut self, tables: &Tables, visit: &Visit) {
+        let [spec, implementation] = [&visit.spec, &visit.implementation].map(bitwalk::list);
+        if visit.banks < 2 || spec.is_empty() && implementation.is_empty() {
+            return;
+        }
+        let verdict = bitwalk::verdict(&visit.spec, &visit.implementation);
+        self.verdicts[verdict as usize] += 1;
+        self.joined += u64::from(verdict == 0 && implementation.len() < visit.banks);
+        self.negative += u64::from(implementation.iter().any(|record| record.displacement < 0));
+        let rows: Vec<&[i64]> = tables[LEAF_PAIRS].chunks(3).collect();
+        let of_group = |row: &&&[i64]| row[0] == rows[visit.leaf][0];
+        let neighbours = rows[visit.leaf..].iter().take_while(of_group).count();
+        self.apart += u64::from(neighbours < visit.banks);
+        // First bit and what follows the last, in ascending order.
+        let bits = |row: &&[i64]| {
+            let leaf = &tables[IMPL_NODES][row[1] as usize * 4..][..4];
+            (row[2], row[2] + leaf[2] * leaf[3])
+        };
+        let mut banks: Vec<_> = rows.iter().filter(of_group).map(bits).collect();
+        banks.sort_unstable();
+        self.shared += u64::from(banks.windows(2).any(|two| two[0].0 == two[1].0));
+        self.overlapping += u64::from(banks.windows(2).any(|two| two[0].1 > two[1].0));
+    }
 }
 
 #[test]
@@ -64,26 +94,33 @@ fn small_maps_come_out_alike() {
     let mut shares = [0; 3];
     let (mut lines, mut unlike) = (0, 0);
     let (mut records, mut paths, mut without_line) = (0, 0, 0);
+    let mut groups = Groups::default();
     for seed in 0..MAPS {
         let random = &mut Random::new(seed);
         let mut tables = small_map(random);
         if seed % 4 == 3 {
             tables = raised(random, &tables);
         }
-        let expected = bitwalk::compare(&tables);
+        let visits = bitwalk::visits(&tables);
+        let expected = bitwalk::judge(&visits);
         assert_eq!(compare(&tables).as_ref(), Ok(&expected), "seed {seed}");
         assert_eq!(compare_by(&tables, Listing::ByPair).as_ref(), Ok(&expected), "seed {seed}");
         for text in [plain_text(&tables), mixed_text(random, &tables)] {
             assert_eq!(parse(&text).as_ref(), Ok(&tables), "seed {seed}");
         }
-        for (root, leaf) in tables[ROOT_PAIRS].chunks(2).zip(tables[LEAF_PAIRS].chunks(2)) {
+        assert_eq!(propagate::compare(&tables).as_ref(), Ok(&expected), "seed {seed}");
+        for (root, leaf) in tables[ROOT_PAIRS].chunks(3).zip(tables[LEAF_PAIRS].chunks(3)) {
             check_single_calls(&tables[0], &tables[1], root[0], leaf[0], random);
             check_single_calls(&tables[2], &tables[3], root[1], leaf[1], random);
             paths = paths.max(bitwalk::paths(&tables[3], root[1] as usize, leaf[1] as usize));
         }
         shares[expected.outcome.whole as usize] += 1;
         lines += expected.lines.len();
-        unlike += pairs_of_unlike_displacement(&tables);
+        for visit in &visits {
+            let [spec, implementation] = [&visit.spec, &visit.implementation].map(bitwalk::list);
+            unlike += usize::from(differ_by_displacement(&spec, &implementation));
+            groups.add(&tables, visit);
+        }
         without_line += u64::from(expected.lines.is_empty());
         records =
             records.max(expected.lines.iter().map(|line| line.implementation).max().unwrap_or(0));
@@ -91,9 +128,13 @@ fn small_maps_come_out_alike() {
     println!("equal, partial, different {shares:?}, {without_line} with nothing connected");
     println!("{lines} pairs with a record, {unlike} that differ by displacement alone");
     println!("{records} records, {paths} paths at most");
+    println!("{groups:?}");
     assert!(shares.iter().all(|&share| share > MAPS / 6), "{shares:?}");
     assert!(unlike > lines / 50, "{unlike} of {lines}");
     assert!(without_line < MAPS / 6 && records >= 8 && paths >= 16);
+    assert!(groups.verdicts.iter().all(|&share| share > MAPS / 20), "{groups:?}");
+    let kinds = [groups.joined, groups.apart, groups.negative, groups.shared, groups.overlapping];
+    assert!(kinds.iter().all(|&count| count > MAPS / 40), "{groups:?}");
 }
 
 #[test]
@@ -114,7 +155,7 @@ fn runs_merge_as_their_bits_do() {
             (run.first..=run.last).map(move |bit| (bit, bit - displacement))
         };
         let reached: BTreeSet<(i64, i64)> = runs.iter().flat_map(bits).collect();
-        assert_eq!(merge(runs), bitwalk::group(&reached));
+        assert_eq!(merge(runs), bitwalk::list(&reached));
     }
 }
 
@@ -135,7 +176,7 @@ fn random_lists_judge_as_their_bits_do() {
         let spec = list(random, 3);
         let mut implementation = if random.chance(30) { spec.clone() } else { list(random, 2) };
         implementation.retain(|(bit, _)| *bit != 5 || spec.len() % 2 == 0);
-        let lists = (bitwalk::group(&spec), bitwalk::group(&implementation));
+        let lists = (bitwalk::list(&spec), bitwalk::list(&implementation));
         let verdict = verdict(&lists.0, &lists.1);
         assert_eq!(verdict, bitwalk::verdict(&spec, &implementation));
         shares[verdict as usize] += 1;
@@ -184,7 +225,7 @@ fn cycles_and_chains() {
 
 #[test]
 fn damaged_texts_give_an_answer() {
-    let mut numbers = [0; 15];
+    let mut numbers = [0; 17];
     for seed in 0..40_000 {
         let random = &mut Random::new(seed);
         let tables = small_map(random);
@@ -201,7 +242,7 @@ fn damaged_texts_give_an_answer() {
         numbers[answer.err().map_or(0, |refusal| refusal.number as usize)] += 1;
     }
     println!("answers by refusal, 0 for a report: {numbers:?}");
-    for number in [0, 1, 2, 3, 4, 5, 7, 8, 9, 10, 12, 13, 14] {
+    for number in [0, 1, 2, 3, 4, 5, 7, 8, 9, 10, 12, 13, 14, 16] {
         assert!(numbers[number] > 0, "refusal {number} never told");
     }
 }

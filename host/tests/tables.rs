@@ -3,14 +3,29 @@
 #![cfg(benchcalls_library)]
 
 use host::faults::{base, table_faults};
-use host::generate::{disturbed, far_rows, limits, small_map, Random};
-use host::large::singles;
+use host::generate::{disturbed, far_rows, limits, raised, small_map, Random};
+use host::grouped::cases;
+use host::large::{banked_maps, singles};
 use host::library;
-use host::reference::{self, compare, refusal, Refusal, Tables, LEAF_PAIRS, OUTPUT, ROOT_PAIRS};
+use host::reference::{self, compare, parse, refusal, Refusal, Tables};
+use host::reference::{LEAF_PAIRS, OUTPUT, ROOT_PAIRS};
 
 const MAPS: u64 = 4_000;
-const FAR: [i64; 11] =
-    [i64::MIN, i64::MIN + 1, -1, 0, 1, 2, 8, 1 << 48, 1 << 62, i64::MAX - 1, i64::MAX];
+const FAR: [i64; 13] = [
+    i64::MIN,
+    i64::MIN + 1,
+    -1,
+    0,
+    1,
+    2,
+    8,
+    1 << 48,
+    (1 << 55) - 1,
+    1 << 55,
+    1 << 62,
+    i64::MAX - 1,
+    i64::MAX,
+];
 
 /// A call with a lent buffer, of the numbers' own length, one less and some more: the
 /// answer and every number of the buffer.
@@ -64,7 +79,7 @@ fn check(tables: &Tables) {
     for side in 0..2 {
         let (nodes, edges) = (&tables[2 * side], &tables[2 * side + 1]);
         check_graph(nodes, edges);
-        let column = |table: usize| tables[table].chunks_exact(2).map(move |pair| pair[side]);
+        let column = |table: usize| tables[table].chunks_exact(3).map(move |pair| pair[side]);
         let pairs = column(ROOT_PAIRS).zip(column(LEAF_PAIRS));
         pairs.take(2).for_each(|(root, leaf)| check_pair(nodes, edges, root, leaf));
     }
@@ -91,11 +106,20 @@ fn two_faults_at_once() {
 }
 
 #[test]
+fn groups_of_banks() {
+    for case in cases() {
+        parse(case.text().as_bytes()).iter().for_each(check);
+    }
+    banked_maps().iter().for_each(|map| check(&map.tables));
+}
+
+#[test]
 fn generated_maps() {
     for seed in 0..MAPS {
         let random = &mut Random::new(seed);
         let tables = small_map(random);
         check(&tables);
+        check(&raised(random, &tables));
         check(&disturbed(random, &tables));
     }
 }

@@ -33,13 +33,16 @@ const FEWEST_BATCHES: usize = 3;
 
 /// Maps whose text check is timed; the comparison on tables is timed on the others
 /// and on the first two.
-const AS_TEXT: [&str; 6] = [
+const AS_TEXT: [&str; 9] = [
     "P1",
     "5 x 115, 2,000 nodes, 2,600 edges",
     "small map, seed 7",
     "65,536 bytes, none connected",
     "500 x 500, hub, diagonal alive",
     "30 x 30, 1,024 paths, no merging",
+    "702 roots, 702 banks of one leaf",
+    "364 roots, 500 leaves of two banks each",
+    "1,000 roots, 1,000 banks of one leaf, none connected",
 ];
 const ALSO_AS_TABLES: usize = 2;
 

@@ -7,8 +7,8 @@ use host::generate::{Random, WRONG_FIELDS};
 use host::large::P1;
 use host::reference::{EDGE_NAMES, NODE_NAMES, PAIR_NAMES};
 
-/// P1, and a map of two roots and three leaves with a negative offset, its columns
-/// in another order and its sides and roles interleaved.
+/// P1, and a map of two roots and three leaves, one of them in two banks, with a negative
+/// offset, its columns in another order and its sides and roles interleaved.
 fn texts() -> [Vec<u8>; 2] {
     let mut tables = base();
     tables[3][5] = -12;
@@ -24,12 +24,31 @@ fn lines(text: &[u8]) -> Vec<Vec<u8>> {
 fn columns_in_every_order() {
     let mut tables = base();
     tables[3][5] = -12;
+    // The last leaf row alone tells where its bank begins.
+    tables[5].truncate(9);
     let (nodes, edges, pairs) = (permutations(5), permutations(4), permutations(3));
     let expected = check(&plain_text(&tables), Rooms::Every);
     for nodes in &nodes {
         for edges in &edges {
             for pairs in &pairs {
                 let text = text_with_columns(&tables, [nodes, edges, pairs]);
+                assert_eq!(check(&text, Rooms::Few), expected);
+            }
+        }
+    }
+}
+
+#[test]
+fn optional_columns_in_every_order() {
+    let tables = base();
+    let mut without = tables.clone();
+    without[5].truncate(9);
+    let in_order: Vec<usize> = (0..5).collect();
+    for tables in [tables, without] {
+        let expected = check(&plain_text(&tables), Rooms::Every);
+        for edges in permutations(4) {
+            for pairs in permutations(4) {
+                let text = text_with_columns(&tables, [&in_order, &edges, &pairs]);
                 assert_eq!(check(&text, Rooms::Few), expected);
             }
         }
@@ -103,7 +122,7 @@ fn shortest_texts() {
 }
 
 /// Lines to put in: empty, of spaces, of one field, the names of each table.
-const OTHER_LINES: [&[u8]; 8] = [
+const OTHER_LINES: [&[u8]; 9] = [
     b"\n",
     b" \n",
     b"  \n",
@@ -112,6 +131,7 @@ const OTHER_LINES: [&[u8]; 8] = [
     b"side kind base range unit\n",
     b"side from to offset\n",
     b"role spec impl\n",
+    b"role spec impl at\n",
 ];
 
 #[test]
@@ -162,7 +182,7 @@ fn check_fields(text: &[u8], change: impl Fn(&mut Vec<Vec<u8>>, usize)) {
 #[test]
 fn every_field_put_otherwise() {
     let mut wrong: Vec<String> = WRONG_FIELDS.split(' ').map(str::to_string).collect();
-    for name in NODE_NAMES.iter().chain(&EDGE_NAMES).chain(&PAIR_NAMES) {
+    for name in NODE_NAMES.all().chain(EDGE_NAMES.all()).chain(PAIR_NAMES.all()) {
         let shorter = &name[..name.len() - 1];
         wrong.extend([
             name.to_string(),

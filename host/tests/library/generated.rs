@@ -21,7 +21,7 @@ pub fn maps_per_thread() -> u64 {
 #[derive(Default)]
 struct Answers {
     verdicts: [u64; 3],
-    refusals: [u64; 15],
+    refusals: [u64; 17],
 }
 
 impl Answers {
@@ -95,7 +95,7 @@ fn generated_texts_in_several_threads() {
         let reports: u64 = verdicts.iter().sum();
         assert!(verdicts.iter().all(|&count| count > reports / 6), "{verdicts:?}");
         // 6 takes a chain of 65 edges, and 11 comes from the buffer.
-        for number in [1, 2, 3, 4, 5, 7, 8, 9, 10, 12, 13, 14] {
+        for number in [1, 2, 3, 4, 5, 7, 8, 9, 10, 12, 13, 14, 16] {
             assert!(refusals[number] > 0, "refusal {number} was never the answer");
         }
     }

@@ -9,6 +9,8 @@ mod file_rules;
 #[cfg(healdrip_library)]
 mod generated;
 #[cfg(healdrip_library)]
+mod groups;
+#[cfg(healdrip_library)]
 mod hostile;
 #[cfg(healdrip_library)]
 mod limits;

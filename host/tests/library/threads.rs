@@ -2,7 +2,7 @@
 
 use crate::asking::{check_room, Unlimited};
 use host::generate::{damaged, long_map, mixed_text, Random};
-use host::large::{connected, connected_beside_chain, connected_beside_owners};
+use host::large::{banked_maps, connected, connected_beside_chain, connected_beside_owners};
 use host::large::{connected_beside_shared, narrow_maps};
 use host::reference::text_check;
 use std::panic::catch_unwind;
@@ -52,12 +52,14 @@ fn texts() -> Vec<Asked> {
 }
 
 /// Maps with many lines, many paths, many records and long paths, also all in one map;
-/// in some the lists of nodes are kept, and in some they find no room.
+/// in some the lists of nodes are kept, and in some they find no room. And maps with many
+/// banks.
 fn deep_texts() -> Vec<Asked> {
     let random = &mut Random::new(8_000_000);
     let maps = COUNTS.map(connected_beside_chain).into_iter();
     let maps = maps.chain(COUNTS.map(connected_beside_shared));
     let maps = maps.chain(COUNTS.map(connected_beside_owners)).chain(narrow_maps());
+    let maps = maps.chain(banked_maps().into_iter().filter(|map| map.text().is_some()));
     maps.map(|map| asked(mixed_text(random, &map.tables))).collect()
 }
 

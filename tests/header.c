@@ -15,6 +15,7 @@ static_assert(HEALDRIP_NUMBER(1 ? -1030999999 : 0) == 10, "number");
 static_assert(HEALDRIP_TABLE(1 ? -1030999999 : 0) == 3, "table");
 static_assert(HEALDRIP_ROW(-1030000000 - 999999) == 999999, "row");
 static_assert(HEALDRIP_NUMBER(-100000000) == 1 && HEALDRIP_TABLE(-100000000) == 0 && HEALDRIP_ROW(-100000000) == 0, "lowest");
+static_assert(HEALDRIP_NUMBER(-1650000999) == 16 && HEALDRIP_TABLE(-1650000999) == 5 && HEALDRIP_ROW(-1650000999) == 999, "highest");
 
 /* The report's length by the texts of its lines, each as long as it can be; sizeof counts the zero behind a text. */
 #define BYTES(text) (sizeof(text) - 1)
@@ -75,6 +76,24 @@ static void joined_map(int count) {
     }
 }
 
+/* As many roots as banks, each joined to each through one segment. The banks are those of one block of the specification, a unit each, and the
+ * last begins so many bits above where it should. */
+static void banked_map(int count, long long more) {
+    text_length = 0;
+    add("side kind base range unit\n0 1 0 2000 8\n0 2 0 %d 8\n1 1 0 2000 8\n", count);
+    for (int row = 0; row < count; row++) {
+        add("1 2 0 1 8\n0 0 0 2000 8\n1 0 0 2000 8\n");
+    }
+    add("\nside from to offset\n0 0 1 0\n");
+    for (int row = 0; row < count; row++) {
+        add("0 %d 0 0\n1 %d 0 0\n1 0 %d %d\n", 2 + row, 2 + 2 * row, 1 + 2 * row, row);
+    }
+    add("\nrole spec impl at\n");
+    for (int row = 0; row < count; row++) {
+        add("0 %d %d 0\n1 1 %d %lld\n", 2 + row, 2 + 2 * row, 1 + 2 * row, 8 * row + (row + 1 == count ? more : 0));
+    }
+}
+
 enum { PAIRS = 990, STAGES = 10, SEGMENTS = STAGES - 1 };
 /* The last root and the last leaf are joined over stages of two edges each, so by 1,024 paths with as many displacements, at the highest
  * bit addresses. The leaf of the implementation lies one unit higher. No other root is joined with a leaf. */
@@ -132,6 +151,21 @@ int main(void) {
         int64_t length = check(HEALDRIP_REPORT_LENGTH(pairs));
         CHECK(length > (int64_t)(10 * pairs) && length <= (int64_t)HEALDRIP_REPORT_LENGTH(pairs));
     }
+
+    /* A group has one line for each root, whatever the number of its banks. */
+    enum { BANKS = 300 };
+    const long long last_at = (1LL << 55) - 1, right = 8 * (BANKS - 1);
+    banked_map(BANKS, 0);
+    CHECK(text_length < TEXT_ROOM);
+    int64_t banked = check(HEALDRIP_REPORT_LENGTH(BANKS));
+    CHECK(banked > 10 * BANKS && banked <= (int64_t)HEALDRIP_REPORT_LENGTH(BANKS));
+    const char *all_equal = "\n0 300 0 0 -1 -1 -1\n";
+    CHECK(memcmp(report + banked - strlen(all_equal), all_equal, strlen(all_equal)) == 0);
+    banked_map(BANKS, last_at - right);
+    CHECK(check(HEALDRIP_REPORT_LENGTH(BANKS)) > 0);
+    banked_map(BANKS, last_at - right + 1);
+    refused = check(ROOM);
+    CHECK(HEALDRIP_NUMBER(refused) == 16 && HEALDRIP_TABLE(refused) == 5 && HEALDRIP_ROW(refused) == BANKS - 1);
 
     /* A line as long as a line can be, and a last line with the widest rows and address. */
     const char *widest = UPPER_NAMES "989 989 2 1024 1024\n" LOWER_NAMES "2 980099 0 1 989 989 36028797018570752\n";

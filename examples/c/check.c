@@ -6,7 +6,7 @@
 #include "healdrip.h"
 
 /* Bytes of the report buffer, as many as mapcheck has: a longer report is refused with number 11.
- * Who knows the number of pairs takes HEALDRIP_REPORT_LENGTH(pairs), which is always enough. */
+ * Who knows the number of pairs, root rows times groups, takes HEALDRIP_REPORT_LENGTH(pairs), which is always enough. */
 #define REPORT_ROOM 65536
 
 /* Reads a whole file into memory that the caller frees; NULL where that fails. */

@@ -48,6 +48,7 @@ pub fn part<'a>(table: &'a [i64], from: usize, to: usize) -> &'a [i64] {
     table
 }
 
+// x + y.
 pub fn sum(x: usize, y: usize) -> usize {
     if x < LIMIT {
         if y < LIMIT {

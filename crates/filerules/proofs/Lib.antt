@@ -6,8 +6,11 @@ pub mod Lines
 pub mod Words
 pub mod Names
 pub mod Values
+pub mod RowChecks
 pub mod Text
 pub mod Refusals
 pub mod TableLines
 pub mod Tables
+pub mod Sheets
 pub mod TextCheck
+pub mod SheetCall

@@ -118,13 +118,15 @@ module _ {t : Table} (regular : Regular t) where
   pub good-few : {fs : List Bytes} → GoodFields t fs → length fs ≤ length (allNames t)
   good-few g = distinct-length (g .once) (allNames t) (good-names g)
 
-  -- the key is a field
-  pub good-key : {fs : List Bytes} → GoodFields t fs → t .key ∈ fs
-  good-key g = g .each (t .key) (subst (λ (l : List Bytes). t .key ∈ l) (sym (regular .keyed)) (List·Memᴰ·head refl))
-
   -- there is a field
   pub good-some : {fs : List Bytes} → GoodFields t fs → fs ≢ []
-  good-some g e = List·Memᴰ·not-nil (subst (λ (l : List Bytes). t .key ∈ l) e (good-key g))
+  good-some {fs} g e = go (t .names) refl (regular .some)
+    where
+      go : (ns : List Bytes) → t .names ≡ ns → t .names ≢ [] → ⊥
+      go [] q h = h q
+      go (n ∷ ns) q h =
+          let named : n ∈ t .names = subst (λ (l : List Bytes). n ∈ l) (sym q) (List·Memᴰ·head refl) in
+          List·Memᴰ·not-nil (subst (λ (l : List Bytes). n ∈ l) e (g .each n named))
 
   -- ---- names lines of a table
 

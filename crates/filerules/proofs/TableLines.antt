@@ -4,23 +4,27 @@ use mathlib.Core.Bool.{Bool, true, false}
 use mathlib.Core.Logic.{_⊎_, inl, inr, ⊎-elim}
 use mathlib.Core.List.{List, [], _∷_, _++_, map, flatMap, List·Memᴰ·cases-cons, List·Memᴰ·head, List·Memᴰ·tail, List·Memᴰ·not-nil}
 use mathlib.Core.Option.{Option, none, some}
-use Prim.Native.Nat.{ℕ, suc}
+use Prim.Native.Nat.{ℕ, suc, _≤_}
 use native.Mathlib.Omega.{arith}
 use lib.IntN.{ℤ}
+use lib.ListN.{length}
 use Rattle.lists.specs.Lists.{_∈_, isNil}
 use Rattle.lists.proofs.Membership.{map-out}
+use Rattle.model.specs.Limits.{maxText}
 use Rattle.model.specs.Bytes.{Bytes, lineFeed, blank, shown, spaced}
-use Rattle.model.specs.MapFile.{Table, allNames, GoodFields, NamesLine, Allowed}
-use Rattle.model.specs.FileRules.{Values, rowLine, tableLines, GoodRow, TableOf}
+use Rattle.model.specs.MapFile.{Values, Table, allNames, GoodFields, GoodRow, RowWritten, NamesLine, lines, Allowed, BrokenOff}
+use Rattle.model.specs.FileRules.{rowLine, tableLines, MeetsNone, AllMeetNone, TableOf}
 use Rattle.model.specs.Refusals.{Refusal}
-use Rattle.model.specs.Reader.{Layout, fieldsOf, valueOf, valuesOf, consOption, layoutOf, arranged, columns, rowOf, Reading, stopped, rows, withRow, stop, readValues, readTable}
+use Rattle.model.specs.Reader.{Layout, fieldsOf, valueOf, valuesOf, consOption, layoutOf, arranged, columns, rowOf, RowCheck, ValueLine, bad, good, judged, Reading, stopped, rows, withRow, stop, withLine, readValues, readTable, checkText}
 use Rattle.filerules.proofs.Options.{none-some}
 use Rattle.filerules.proofs.Splits.{Lacks}
 use Rattle.filerules.proofs.Fields.{spaced-out}
-use Rattle.filerules.proofs.Lines.{ended, ended-cons}
+use Rattle.filerules.proofs.Lines.{ended, ended-cons, lines-ended, ended-whole, ended-out}
+use Rattle.filerules.proofs.Text.{text-passes}
 use Rattle.filerules.proofs.Words.{Plain, Word, plain-apart, plain-allowed, Regular}
 use Rattle.filerules.proofs.Names.{good-names, names-read, names-columns}
-use Rattle.filerules.proofs.Values.{shown-all, row-in, row-out, last-step}
+use Rattle.filerules.proofs.Values.{shown-all, numbersIn, row-in, row-out}
+use Rattle.filerules.proofs.RowChecks.{CheckOf, judged-good, last-step, check-none}
 
 -- ---- the lines that write a table
 
@@ -57,6 +61,21 @@ clean-lacks-feed h m = ⊎-elim (λ e. omega arith) (λ p. plain-apart lineFeed 
 pub clean-allowed : {l : Bytes} → Clean l → (c : ℕ) → c ∈ l → Allowed c
 clean-allowed h c m = ⊎-elim (λ e. inr (inr (inr (inl e)))) plain-allowed (h c m)
 
+-- a text of such lines, each with its line feed
+module _ {text : Bytes} {ls : List Bytes} (is : text ≡ ended ls) (clean : (l : Bytes) → l ∈ ls → Clean l) where
+  -- has these lines
+  pub clean-lines : lines text ≡ ls
+  clean-lines = ap lines is ∙ lines-ended ls (λ l m. clean-lacks-feed (clean l m))
+
+  -- and passes the check of the whole text, if it is not too long
+  pub clean-passes : length text ≤ maxText → checkText text ≡ none
+  clean-passes short = text-passes text short allowed (λ b. ended-whole ls (subst BrokenOff is b))
+    where
+      allowed : (c : ℕ) → c ∈ text → Allowed c
+      allowed c m =
+          ⊎-elim (λ e. inr (inr (inr (inr e)))) (λ w. clean-allowed (clean (w .0) (w .1)) c (w .2))
+          (ended-out c ls (subst (λ (z : Bytes). c ∈ z) is m))
+
 spaced-clean : (fs : List Bytes) → ((f : Bytes) → f ∈ fs → Word f) → Clean (spaced fs)
 spaced-clean fs h c m = ⊎-elim inl (λ w. inr (h (w .0) (w .1) c (w .2))) (spaced-out c fs m)
 
@@ -78,9 +97,11 @@ pub data Ends : Bool → List Bytes → List Bytes → Type 0 where
   final : Ends true [] []
   between : {rest : List Bytes} → Ends false ([] ∷ rest) rest
 
--- the numbers of rows, in the order of the names
-abbrev pub numbersIn : List Bytes → List Values → List (List ℤ)
-numbersIn names values = map (λ value. map value names) values
+pub ends-between : {tail rest : List Bytes} → Ends false tail rest → tail ≡ [] ∷ rest
+ends-between between = refl
+
+pub ends-final : {tail rest : List Bytes} → Ends true tail rest → tail ≡ []
+ends-final final = refl
 
 -- the empty line gives no row
 empty-row : (y : Layout) → rowOf y [] ≡ none
@@ -88,26 +109,29 @@ unfolding rowOf arranged fieldsOf valuesOf valueOf consOption
 empty-row y = refl
 
 -- a line that gives a row is not empty, and so no table ends with it
-row-step : (last : Bool) (y : Layout) (n : ℕ) (l : Bytes) (ls : List Bytes) (row : List ℤ) → rowOf y l ≡ some row
-    → readValues last y n (l ∷ ls) ≡ withRow row (readValues last y (suc n) ls)
-unfolding readValues isNil
-row-step last y n [] ls row e = absurd (none-some (sym (empty-row y) ∙ e))
-row-step last y n (c ∷ l) ls row e =
-    ap (λ o. elim o [ none ↦ stop 14 n | some r ↦ withRow r (readValues last y (suc n) ls) ]) e
+row-step : (last : Bool) (check : RowCheck) (y : Layout) (n : ℕ) (before : List (List ℤ)) (l : Bytes) (ls : List Bytes) (row : List ℤ) → rowOf y l ≡ some row
+    → check before row ≡ none → readValues last check y n before (l ∷ ls) ≡ withRow row (readValues last check y (suc n) (row ∷ before) ls)
+unfolding readValues isNil withLine
+row-step last check y n before [] ls row e q = absurd (none-some (sym (empty-row y) ∙ e))
+row-step last check y n before (c ∷ l) ls row e q =
+    ap (λ (v : ValueLine). withLine n v (λ r. readValues last check y (suc n) (r ∷ before) ls)) (judged-good check before e q)
 
--- lines that were read as these rows, up to the rest: they are written by the file rules
-record RowsRead (t : Table) (fields : List Bytes) (last : Bool) (ls : List Bytes) (rs : List (List ℤ)) (rest : List Bytes) : Type 0 where
+-- lines that were read as these rows, after rows with these numbers, up to the rest: they are written by the file rules
+record RowsRead (t : Table) (fields : List Bytes) (last : Bool) (before : List Values) (ls : List Bytes) (rs : List (List ℤ)) (rest : List Bytes) : Type 0 where
   values : List Values
   good : (value : Values) → value ∈ values → GoodRow t fields value
+  meetsNone : AllMeetNone (t .conditions) before values
   numbers : rs ≡ numbersIn (allNames t) values
   tail : List Bytes
   ends : Ends last tail rest
   writes : ls ≡ map (written fields) values ++ tail
 
 -- no row, where what ends the table comes at once
-no-rows : {t : Table} {fields : List Bytes} {last : Bool} {tail : List Bytes} {rs : List (List ℤ)} {rest : List Bytes} → [] ≡ rs → Ends last tail rest
-    → RowsRead t fields last tail rs rest
-no-rows {tail} e ends = record { values = []; good = λ x k. absurd (List·Memᴰ·not-nil k); numbers = sym e; tail = tail; ends = ends; writes = refl }
+no-rows : {t : Table} {fields : List Bytes} {last : Bool} {before : List Values} {tail : List Bytes} {rs : List (List ℤ)} {rest : List Bytes} → [] ≡ rs
+    → Ends last tail rest → RowsRead t fields last before tail rs rest
+unfolding AllMeetNone
+no-rows {tail} e ends =
+    record { values = []; good = λ x k. absurd (List·Memᴰ·not-nil k); meetsNone = tt; numbers = sym e; tail = tail; ends = ends; writes = refl }
 
 -- a reading that stopped has no rows
 pub stopped-rows : {r : Refusal} {rs : List (List ℤ)} {ls : List Bytes} {n : ℕ} → stopped r ≡ rows rs ls n → ⊥
@@ -124,7 +148,7 @@ unfolding withRow
 with-out row (stopped r) rs rest m e = absurd (stopped-rows e)
 with-out row (rows qs ls n) rs rest m e = (qs, cc, sym (rows-same e .0))
 
-module _ {t : Table} (regular : Regular t) {fields : List Bytes} (named : GoodFields t fields) where
+module _ {t : Table} (regular : Regular t) (check : RowCheck) (checks : CheckOf (allNames t) (t .conditions) check) {fields : List Bytes} (named : GoodFields t fields) where
   -- the columns of the fields
   abbrev layout : Layout
   layout = layoutOf t fields
@@ -132,73 +156,90 @@ module _ {t : Table} (regular : Regular t) {fields : List Bytes} (named : GoodFi
   -- the line of a good row gives its values
   good-read : (value : Values) → GoodRow t fields value → rowOf layout (written fields value) ≡ some (map value (allNames t))
   unfolding written
-  good-read value good = row-in regular named (record { value = value; writes = refl; short = good .short; key = good .key }) (good .absent)
+  good-read value g = row-in regular named (record { good = g; writes = refl })
 
   -- the value lines of a table by the file rules are read as its rows
-  values-read : {last : Bool} {tail rest : List Bytes} → Ends last tail rest → (n : ℕ) (values : List Values)
-      → ((value : Values) → value ∈ values → GoodRow t fields value)
-      → (m : ℕ) × (readValues last layout n (map (written fields) values ++ tail) ≡ rows (numbersIn (allNames t) values) rest m)
-  unfolding readValues isNil withRow
-  values-read final n [] h = (n, refl)
-  values-read between n [] h = (suc n, refl)
-  values-read {last} {tail} e n (value ∷ values) h =
-      let w = values-read e (suc n) values (λ v m. h v (List·Memᴰ·tail m)) in
+  values-read : {last : Bool} {tail rest : List Bytes} → Ends last tail rest → (n : ℕ) (before values : List Values)
+      → ((value : Values) → value ∈ values → GoodRow t fields value) → AllMeetNone (t .conditions) before values
+      → (m : ℕ) × (readValues last check layout n (numbersIn (allNames t) before) (map (written fields) values ++ tail) ≡ rows (numbersIn (allNames t) values) rest m)
+  unfolding readValues isNil withRow AllMeetNone
+  values-read final n before [] h u = (n, refl)
+  values-read between n before [] h u = (suc n, refl)
+  values-read {last} {tail} e n before (value ∷ values) h u =
+      let w = values-read e (suc n) (value ∷ before) values (λ v m. h v (List·Memᴰ·tail m)) (u .1) in
       let row = good-read value (h value (List·Memᴰ·head refl)) in
-      let here = row-step last layout n (written fields value) (map (written fields) values ++ tail) (map value (allNames t)) row in
+      let free = check-none (allNames t) (t .conditions) check checks before value .1 (u .0) in
+      let here = row-step last check layout n (numbersIn (allNames t) before) (written fields value) (map (written fields) values ++ tail) (map value (allNames t)) row free in
       (w .0, here ∙ ap (withRow (map value (allNames t))) (w .1))
 
   -- one value line, and those after it
-  row-read : (last : Bool) (n m : ℕ) (l : Bytes) (ls : List Bytes) (reading : Reading) (rs : List (List ℤ)) (rest : List Bytes)
-      → elim (rowOf layout l) [ none ↦ stop 14 n | some r ↦ withRow r reading ] ≡ rows rs rest m
-      → ((qs : List (List ℤ)) → reading ≡ rows qs rest m → RowsRead t fields last ls qs rest) → RowsRead t fields last (l ∷ ls) rs rest
-  unfolding written stop
-  row-read last n m l ls reading rs rest e rec = go (rowOf layout l) refl e
+  row-read : (last : Bool) (n m : ℕ) (before : List Values) (l : Bytes) (ls : List Bytes) (later : List ℤ → Reading) (rs : List (List ℤ)) (rest : List Bytes)
+      → withLine n (judged check (numbersIn (allNames t) before) (rowOf layout l)) later ≡ rows rs rest m
+      → ((value : Values) (qs : List (List ℤ)) → later (map value (allNames t)) ≡ rows qs rest m → RowsRead t fields last (value ∷ before) ls qs rest)
+      → RowsRead t fields last before (l ∷ ls) rs rest
+  unfolding written stop judged withLine AllMeetNone
+  row-read last n m before l ls later rs rest e rec = go (rowOf layout l) refl e
     where
-      go : (o : Option (List ℤ)) → rowOf layout l ≡ o → elim o [ none ↦ stop 14 n | some r ↦ withRow r reading ] ≡ rows rs rest m
-          → RowsRead t fields last (l ∷ ls) rs rest
-      go none q e = absurd (stopped-rows e)
-      go (some row) q e =
-          let w = with-out row reading rs rest m e in
-          let r = rec (w .0) (w .1) in
-          let v = row-out regular named l row q in
-          let value = v .0 .value in
-          let here : GoodRow t fields value = record { short = v .0 .short; key = v .0 .key; absent = v .1 } in
+      bs : List (List ℤ)
+      bs = numbersIn (allNames t) before
+
+      make : (value : Values) → RowWritten t fields l value → MeetsNone (t .conditions) before value → (qs : List (List ℤ)) → later (map value (allNames t)) ≡ rows qs rest m
+          → rs ≡ map value (allNames t) ∷ qs → RowsRead t fields last before (l ∷ ls) rs rest
+      make value v free qs q p =
+          let r = rec value qs q in
           record {
             values = value ∷ r .values;
-            good = λ x k. ⊎-elim (λ i. subst (GoodRow t fields) (sym i) here) (r .good x) (List·Memᴰ·cases-cons k);
-            numbers = cc (w .2, v .2, r .numbers);
+            good = λ x k. ⊎-elim (λ i. subst (GoodRow t fields) (sym i) (v .good)) (r .good x) (List·Memᴰ·cases-cons k);
+            meetsNone = (free, r .meetsNone);
+            numbers = cc (p, r .numbers);
             tail = r .tail;
             ends = r .ends;
-            writes = cc (v .0 .writes, r .writes);
+            writes = cc (v .writes, r .writes);
           }
 
+      taken : (value : Values) → RowWritten t fields l value → (o : Option ℕ) → check bs (map value (allNames t)) ≡ o
+          → withLine n (elim o [ none ↦ good (map value (allNames t)) | some number ↦ bad number ]) later ≡ rows rs rest m → RowsRead t fields last before (l ∷ ls) rs rest
+      taken value v none q e =
+          let w = with-out (map value (allNames t)) (later (map value (allNames t))) rs rest m e in
+          make value v (check-none (allNames t) (t .conditions) check checks before value .0 q) (w .0) (w .1) (w .2)
+      taken value v (some number) q e = absurd (stopped-rows e)
+
+      go : (o : Option (List ℤ)) → rowOf layout l ≡ o → withLine n (judged check bs o) later ≡ rows rs rest m → RowsRead t fields last before (l ∷ ls) rs rest
+      go none q e = absurd (stopped-rows e)
+      go (some row) q e = let v = row-out regular named l row q in taken (v .0) (v .1) (check bs (map (v .0) (allNames t))) refl (rw (v .2) at e)
+
   -- value lines that are read are written by the file rules
-  read-values : (last : Bool) (n m : ℕ) (ls : List Bytes) (rs : List (List ℤ)) (rest : List Bytes) → readValues last layout n ls ≡ rows rs rest m
-      → RowsRead t fields last ls rs rest
+  read-values : (last : Bool) (n m : ℕ) (before : List Values) (ls : List Bytes) (rs : List (List ℤ)) (rest : List Bytes)
+      → readValues last check layout n (numbersIn (allNames t) before) ls ≡ rows rs rest m → RowsRead t fields last before ls rs rest
   unfolding readValues isNil stop
-  read-values true n m [] rs rest e =
+  read-values true n m before [] rs rest e =
       let w = rows-same e in
       no-rows (w .0) (subst (Ends true []) (w .1) final)
-  read-values false n m [] rs rest e = absurd (stopped-rows e)
-  read-values true n m (l ∷ ls) rs rest e =
-      row-read true n m l ls (readValues true layout (suc n) ls) rs rest (sym (last-step layout n l ls) ∙ e) (λ qs q. read-values true (suc n) m ls qs rest q)
-  read-values false n m ([] ∷ ls) rs rest e =
+  read-values false n m before [] rs rest e = absurd (stopped-rows e)
+  read-values true n m before (l ∷ ls) rs rest e =
+      let bs = numbersIn (allNames t) before in
+      row-read true n m before l ls (λ r. readValues true check layout (suc n) (r ∷ bs) ls) rs rest (sym (last-step check layout n bs l ls) ∙ e)
+      (λ value qs q. read-values true (suc n) m (value ∷ before) ls qs rest q)
+  read-values false n m before ([] ∷ ls) rs rest e =
       let w = rows-same e in
       no-rows (w .0) (subst (Ends false ([] ∷ ls)) (w .1) between)
-  read-values false n m ((c ∷ l) ∷ ls) rs rest e =
-      row-read false n m (c ∷ l) ls (readValues false layout (suc n) ls) rs rest e (λ qs q. read-values false (suc n) m ls qs rest q)
+  read-values false n m before ((c ∷ l) ∷ ls) rs rest e =
+      let bs = numbersIn (allNames t) before in
+      row-read false n m before (c ∷ l) ls (λ r. readValues false check layout (suc n) (r ∷ bs) ls) rs rest e
+      (λ value qs q. read-values false (suc n) m (value ∷ before) ls qs rest q)
 
 -- ---- a whole table
 
 -- a table by the file rules is read as its rows
-pub table-read : {t : Table} → Regular t → (w : TableOf t) {last : Bool} {tail rest : List Bytes} → Ends last tail rest → (n : ℕ)
-    → (m : ℕ) × (readTable last t n (linesOf (w .fields) (w .rows) ++ tail) ≡ rows (numbersIn (allNames t) (w .rows)) rest m)
+pub table-read : {t : Table} → Regular t → (check : RowCheck) → CheckOf (allNames t) (t .conditions) check → (w : TableOf t) {last : Bool} {tail rest : List Bytes}
+    → Ends last tail rest → (n : ℕ)
+    → (m : ℕ) × (readTable last check t n (linesOf (w .fields) (w .rows) ++ tail) ≡ rows (numbersIn (allNames t) (w .rows)) rest m)
 unfolding readTable linesOf
-table-read {t} regular w {last} {tail} {rest} e n =
+table-read {t} regular check checks w {last} {tail} {rest} e n =
     let fs = w .fields in
     let line : NamesLine t fs (spaced fs) = record { writes = refl; named = w .named } in
-    let v = values-read regular (w .named) e (suc n) (w .rows) (w .good) in
-    (v .0, ap (λ o. elim o [ none ↦ stop 13 n | some y ↦ readValues last y (suc n) (map (written fs) (w .rows) ++ tail) ]) (names-columns regular line) ∙ v .1)
+    let v = values-read regular check checks (w .named) e (suc n) [] (w .rows) (w .good) (w .meetsNone) in
+    (v .0, ap (λ o. elim o [ none ↦ stop 13 n | some y ↦ readValues last check y (suc n) [] (map (written fs) (w .rows) ++ tail) ]) (names-columns regular line) ∙ v .1)
 
 -- lines that were read as these rows, up to the rest: they write a table by the file rules
 pub record TableRead (t : Table) (last : Bool) (ls : List Bytes) (rs : List (List ℤ)) (rest : List Bytes) : Type 0 where
@@ -209,20 +250,20 @@ pub record TableRead (t : Table) (last : Bool) (ls : List Bytes) (rs : List (Lis
   pub writes : ls ≡ linesOf (table .fields) (table .rows) ++ tail
 
 -- a table that is read is written by the file rules
-pub read-table : {t : Table} → Regular t → (last : Bool) (n m : ℕ) (ls : List Bytes) (rs : List (List ℤ)) (rest : List Bytes)
-    → readTable last t n ls ≡ rows rs rest m → TableRead t last ls rs rest
+pub read-table : {t : Table} → Regular t → (check : RowCheck) → CheckOf (allNames t) (t .conditions) check → (last : Bool) (n m : ℕ) (ls : List Bytes) (rs : List (List ℤ))
+    (rest : List Bytes) → readTable last check t n ls ≡ rows rs rest m → TableRead t last ls rs rest
 unfolding readTable linesOf stop
-read-table regular last n m [] rs rest e = absurd (stopped-rows e)
-read-table {t} regular last n m (l ∷ ls) rs rest e = go (columns t l) refl e
+read-table regular check checks last n m [] rs rest e = absurd (stopped-rows e)
+read-table {t} regular check checks last n m (l ∷ ls) rs rest e = go (columns t l) refl e
   where
-    go : (o : Option Layout) → columns t l ≡ o → elim o [ none ↦ stop 13 n | some y ↦ readValues last y (suc n) ls ] ≡ rows rs rest m
+    go : (o : Option Layout) → columns t l ≡ o → elim o [ none ↦ stop 13 n | some y ↦ readValues last check y (suc n) [] ls ] ≡ rows rs rest m
         → TableRead t last (l ∷ ls) rs rest
     go none q e = absurd (stopped-rows e)
     go (some y) q e =
         let w = names-read regular l y q in
-        let r = read-values regular (w .0 .named) last (suc n) m ls rs rest (rw (w .1) at e) in
+        let r = read-values regular check checks (w .0 .named) last (suc n) m [] ls rs rest (rw (w .1) at e) in
         record {
-          table = record { fields = fieldsOf l; named = w .0 .named; rows = r .values; good = r .good };
+          table = record { fields = fieldsOf l; named = w .0 .named; rows = r .values; good = r .good; meetsNone = r .meetsNone };
           numbers = r .numbers;
           tail = r .tail;
           ends = r .ends;

@@ -13,17 +13,19 @@ use Rattle.integers.specs.Integers.{eqZ}
 use Rattle.lists.specs.Lists.{_∈_, keep}
 use Rattle.model.specs.Limits.{maxText}
 use Rattle.model.specs.Bytes.{Bytes, bytes, lineFeed}
-use Rattle.model.specs.MapFile.{Table, allNames, nodeTable, edgeTable, pairTable, lines, Allowed, BrokenOff, fileConditions}
-use Rattle.model.specs.FileRules.{Values, tableLines, TableOf, numbersUnder, nodeNumbers, edgeNumbers, pairNumbers, KeepsRules}
+use Rattle.model.specs.MapFile.{Values, Table, allNames, nodeTable, edgeTable, pairTable, lines, Allowed, BrokenOff, fileConditions}
+use Rattle.model.specs.FileRules.{tableLines, TableOf, numbersUnder, nodeNumbers, edgeNumbers, pairNumbers, KeepsRules}
 use Rattle.model.specs.Refusals.{Refusal, NoneHolds}
 use Rattle.model.specs.Compare.{Tables}
 use Rattle.model.specs.Calls.{Answer, refused, full}
-use Rattle.model.specs.Reader.{Reading, stopped, rows, readTable, rowsWith, tablesOf, readThird, readSecond, readFirst, readMap, checkText}
+use Rattle.model.specs.Reader.{checkSideOrRole, Reading, stopped, rows, readTable, rowsWith, tablesOf, readThird, readSecond, readFirst, readMap, checkText}
 use Rattle.filerules.proofs.Lines.{ended, ended-cons, ended-append, lines-ended, ended-lines, ended-whole, ended-out}
 use Rattle.filerules.proofs.Words.{node-regular, edge-regular, pair-regular}
+use Rattle.filerules.proofs.Values.{numbersIn}
+use Rattle.filerules.proofs.RowChecks.{node-check, edge-check, pair-check}
 use Rattle.filerules.proofs.Text.{text-passes, text-passed}
 use Rattle.filerules.proofs.Refusals.{read-settled}
-use Rattle.filerules.proofs.TableLines.{linesOf, table-ended, Clean, clean-lacks-feed, clean-allowed, table-clean, Ends, final, between, numbersIn, table-read, TableRead, read-table}
+use Rattle.filerules.proofs.TableLines.{linesOf, table-ended, Clean, clean-lines, clean-passes, table-clean, final, between, ends-final, ends-between, table-read, TableRead, read-table}
 
 -- ---- the numbers of rows
 
@@ -117,16 +119,11 @@ module _ {text : Bytes} {t : Tables} (k : KeepsRules text t) where
   rules-clean l m = tables-clean (k .nodes) (k .edges) (k .pairs) l m
 
   rules-lines : lines text ≡ ruleLines
-  rules-lines = ap lines rules-text ∙ lines-ended ruleLines (λ l m. clean-lacks-feed (rules-clean l m))
+  rules-lines = clean-lines rules-text rules-clean
 
   -- a text that keeps the rules passes the check of the whole text
   rules-pass : checkText text ≡ none
-  rules-pass = text-passes text (k .short) allowed (λ b. ended-whole ruleLines (subst BrokenOff rules-text b))
-    where
-      allowed : (c : ℕ) → c ∈ text → Allowed c
-      allowed c m =
-          ⊎-elim (λ e. inr (inr (inr (inr e)))) (λ w. clean-allowed (rules-clean (w .0) (w .1)) c (w .2))
-          (ended-out c ruleLines (subst (λ (z : Bytes). c ∈ z) rules-text m))
+  rules-pass = clean-passes rules-text rules-clean (k .short)
 
   -- the tables of its rows
   rules-tables : tablesOf (numbersIn (allNames nodeTable) (k .nodes .rows)) (numbersIn (allNames edgeTable) (k .edges .rows))
@@ -147,27 +144,27 @@ module _ {text : Bytes} {t : Tables} (k : KeepsRules text t) where
       (pair-rows (pos 0) ps ∙ sym (k .rootPairs))
       (pair-rows (pos 1) ps ∙ sym (k .leafPairs))
 
-  rules-first : readFirst (readTable false nodeTable 1 (lines text)) ≡ full t
+  rules-first : readFirst (readTable false checkSideOrRole nodeTable 1 (lines text)) ≡ full t
   unfolding readFirst readSecond readThird ruleLines tablesLines fileLines
   rules-first =
       let ns = numbersIn (allNames nodeTable) (k .nodes .rows) in
       let es = numbersIn (allNames edgeTable) (k .edges .rows) in
       let P = linesOf (k .pairs .fields) (k .pairs .rows) in
       let E = linesOf (k .edges .fields) (k .edges .rows) in
-      let n = table-read node-regular (k .nodes) (between {rest = E ++ [] ∷ P}) 1 in
-      let e = table-read edge-regular (k .edges) (between {rest = P}) (n .0) in
-      let p = table-read pair-regular (k .pairs) final (e .0) in
-      ap (λ (ls : List Bytes). readFirst (readTable false nodeTable 1 ls)) rules-lines
+      let n = table-read node-regular checkSideOrRole node-check (k .nodes) (between {rest = E ++ [] ∷ P}) 1 in
+      let e = table-read edge-regular checkSideOrRole edge-check (k .edges) (between {rest = P}) (n .0) in
+      let p = table-read pair-regular checkSideOrRole pair-check (k .pairs) final (e .0) in
+      ap (λ (ls : List Bytes). readFirst (readTable false checkSideOrRole nodeTable 1 ls)) rules-lines
       ∙ ap readFirst (n .1)
       ∙ ap (readSecond ns) (e .1)
-      ∙ ap (readThird ns es) (ap (readTable true pairTable (e .0)) (sym (append-nil P)) ∙ p .1)
+      ∙ ap (readThird ns es) (ap (readTable true checkSideOrRole pairTable (e .0)) (sym (append-nil P)) ∙ p .1)
       ∙ ap full rules-tables
 
 -- a text that keeps the file rules is read as its tables
 pub rules-read : (text : Bytes) (t : Tables) → KeepsRules text t → readMap text ≡ full t
 unfolding readMap
 rules-read text t k =
-    ap (λ o. elim o [ some r ↦ refused r | none ↦ readFirst (readTable false nodeTable 1 (lines text)) ]) (rules-pass k) ∙ rules-first k
+    ap (λ o. elim o [ some r ↦ refused r | none ↦ readFirst (readTable false checkSideOrRole nodeTable 1 (lines text)) ]) (rules-pass k) ∙ rules-first k
 
 -- ---- from the reader to the rules
 
@@ -185,13 +182,13 @@ record Rows (reading : Reading) (t : Tables) (next : List (List ℤ) → List By
   read : reading ≡ rows numbers rest line
   gives : next numbers rest line ≡ full t
 
-first-out : (reading : Reading) (t : Tables) → readFirst reading ≡ full t → Rows reading t (λ ns ls n. readSecond ns (readTable false edgeTable n ls))
+first-out : (reading : Reading) (t : Tables) → readFirst reading ≡ full t → Rows reading t (λ ns ls n. readSecond ns (readTable false checkSideOrRole edgeTable n ls))
 unfolding readFirst
 first-out (stopped r) t e = absurd (refused-full e)
 first-out (rows ns ls n) t e = record { numbers = ns; rest = ls; line = n; read = refl; gives = e }
 
 second-out : (ns : List (List ℤ)) (reading : Reading) (t : Tables) → readSecond ns reading ≡ full t
-    → Rows reading t (λ es ls n. readThird ns es (readTable true pairTable n ls))
+    → Rows reading t (λ es ls n. readThird ns es (readTable true checkSideOrRole pairTable n ls))
 unfolding readSecond
 second-out ns (stopped r) t e = absurd (refused-full e)
 second-out ns (rows es ls n) t e = record { numbers = es; rest = ls; line = n; read = refl; gives = e }
@@ -200,12 +197,6 @@ third-out : (ns es : List (List ℤ)) (reading : Reading) (t : Tables) → readT
 unfolding readThird
 third-out ns es (stopped r) t e = absurd (refused-full e)
 third-out ns es (rows ps ls n) t e = record { numbers = ps; rest = ls; line = n; read = refl; gives = e }
-
-ends-between : {tail rest : List Bytes} → Ends false tail rest → tail ≡ [] ∷ rest
-ends-between between = refl
-
-ends-final : {tail rest : List Bytes} → Ends true tail rest → tail ≡ []
-ends-final final = refl
 
 -- three tables that were read one after the other are those of the text
 tables-rules : (text : Bytes) (t : Tables) (ns es ps : List (List ℤ)) (r s q : List Bytes) → (length text ≤ maxText) × (BrokenOff text → ⊥)
@@ -240,32 +231,32 @@ tables-rules text t ns es ps r s q passed nodes edges pairs e =
     all = nodes .writes ∙ ap (λ (z : List Bytes). linesIn (nodes .table) ++ z) (ends-between (nodes .ends) ∙ ap {B = List Bytes} (λ z. [] ∷ z) middle)
 
 -- tables that are read are those of the text
-first-rules : (text : Bytes) (t : Tables) → checkText text ≡ none → readFirst (readTable false nodeTable 1 (lines text)) ≡ full t → KeepsRules text t
-first-rules text t passes e = go (first-out (readTable false nodeTable 1 (lines text)) t e)
+first-rules : (text : Bytes) (t : Tables) → checkText text ≡ none → readFirst (readTable false checkSideOrRole nodeTable 1 (lines text)) ≡ full t → KeepsRules text t
+first-rules text t passes e = go (first-out (readTable false checkSideOrRole nodeTable 1 (lines text)) t e)
   where
-    third : (ns es : List (List ℤ)) (n m : ℕ) (r s : List Bytes) → readTable false nodeTable 1 (lines text) ≡ rows ns r n
-        → readTable false edgeTable n r ≡ rows es s m
-        → Rows (readTable true pairTable m s) t (λ ps ls k. full (tablesOf ns es ps)) → KeepsRules text t
+    third : (ns es : List (List ℤ)) (n m : ℕ) (r s : List Bytes) → readTable false checkSideOrRole nodeTable 1 (lines text) ≡ rows ns r n
+        → readTable false checkSideOrRole edgeTable n r ≡ rows es s m
+        → Rows (readTable true checkSideOrRole pairTable m s) t (λ ps ls k. full (tablesOf ns es ps)) → KeepsRules text t
     third ns es n m r s a b c =
-        tables-rules text t ns es (c .numbers) r s (c .rest) (text-passed text passes) (read-table node-regular false 1 n (lines text) ns r a)
-        (read-table edge-regular false n m r es s b)
-        (read-table pair-regular true m (c .line) s (c .numbers) (c .rest) (c .read))
+        tables-rules text t ns es (c .numbers) r s (c .rest) (text-passed text passes) (read-table node-regular checkSideOrRole node-check false 1 n (lines text) ns r a)
+        (read-table edge-regular checkSideOrRole edge-check false n m r es s b)
+        (read-table pair-regular checkSideOrRole pair-check true m (c .line) s (c .numbers) (c .rest) (c .read))
         (full-same (c .gives))
 
-    second : (ns : List (List ℤ)) (n : ℕ) (r : List Bytes) → readTable false nodeTable 1 (lines text) ≡ rows ns r n
-        → Rows (readTable false edgeTable n r) t (λ es ls m. readThird ns es (readTable true pairTable m ls)) → KeepsRules text t
+    second : (ns : List (List ℤ)) (n : ℕ) (r : List Bytes) → readTable false checkSideOrRole nodeTable 1 (lines text) ≡ rows ns r n
+        → Rows (readTable false checkSideOrRole edgeTable n r) t (λ es ls m. readThird ns es (readTable true checkSideOrRole pairTable m ls)) → KeepsRules text t
     second ns n r a b =
-        third ns (b .numbers) n (b .line) r (b .rest) a (b .read) (third-out ns (b .numbers) (readTable true pairTable (b .line) (b .rest)) t (b .gives))
+        third ns (b .numbers) n (b .line) r (b .rest) a (b .read) (third-out ns (b .numbers) (readTable true checkSideOrRole pairTable (b .line) (b .rest)) t (b .gives))
 
-    go : Rows (readTable false nodeTable 1 (lines text)) t (λ ns ls n. readSecond ns (readTable false edgeTable n ls)) → KeepsRules text t
-    go a = second (a .numbers) (a .line) (a .rest) (a .read) (second-out (a .numbers) (readTable false edgeTable (a .line) (a .rest)) t (a .gives))
+    go : Rows (readTable false checkSideOrRole nodeTable 1 (lines text)) t (λ ns ls n. readSecond ns (readTable false checkSideOrRole edgeTable n ls)) → KeepsRules text t
+    go a = second (a .numbers) (a .line) (a .rest) (a .read) (second-out (a .numbers) (readTable false checkSideOrRole edgeTable (a .line) (a .rest)) t (a .gives))
 
 -- a text that is read as tables keeps the file rules with these
 pub read-rules : (text : Bytes) (t : Tables) → readMap text ≡ full t → KeepsRules text t
 unfolding readMap
 read-rules text t e = go (checkText text) refl e
   where
-    go : (o : Option Refusal) → checkText text ≡ o → elim o [ some r ↦ refused r | none ↦ readFirst (readTable false nodeTable 1 (lines text)) ] ≡ full t
+    go : (o : Option Refusal) → checkText text ≡ o → elim o [ some r ↦ refused r | none ↦ readFirst (readTable false checkSideOrRole nodeTable 1 (lines text)) ] ≡ full t
         → KeepsRules text t
     go none q e = first-rules text t q e
     go (some r) q e = absurd (refused-full e)

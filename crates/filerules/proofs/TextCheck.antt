@@ -22,13 +22,8 @@ use Rattle.model.proofs.Settled.{Settled, none-next, settled-next, Exact}
 use Rattle.model.proofs.SingleChecks.{output-settled}
 use Rattle.model.proofs.Pairing.{compare-settled}
 use Rattle.model.proofs.Demand.{compare-full, demand3}
-use Rattle.filerules.proofs.Refusals.{refusalIn, read-settles, settled-answers}
+use Rattle.filerules.proofs.Refusals.{refusalIn, answer-refusal, read-settles, settled-answers}
 use Rattle.filerules.proofs.Tables.{read-keeps, rules-conditions, rules-unique}
-
-answer-refusal : {A : Type 0} (c : Option Refusal) (x : A) → refusalIn (answer c x) ≡ c
-unfolding answer
-answer-refusal none x = refl
-answer-refusal (some r) x = refl
 
 -- the check of tables that were read, with room for so many bytes of report
 checkReported : ℕ → Tables → Option Refusal

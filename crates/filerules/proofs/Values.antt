@@ -9,21 +9,20 @@ use Prim.Native.Nat.{ℕ, suc, _<_, _^_}
 use native.Mathlib.Omega.{arith}
 use lib.IntN.{ℤ, pos, natAbs}
 use lib.ListN.{length, getD, length-map, List·getD-eq-default}
-use Rattle.integers.proofs.Tests.{passed, failed, eq?, eqZ?}
+use Rattle.integers.proofs.Tests.{passed, failed, eq?}
 use Rattle.lists.specs.Lists.{_∈_, isNil, Distinct, none as noMore, more}
 use Rattle.lists.proofs.Membership.{map-in, map-out}
-use Rattle.lists.proofs.Decisions.{Decides, decides-or}
+use Rattle.lists.proofs.Decisions.{Decides}
 use Rattle.lists.proofs.Places.{map-same}
 use Rattle.model.specs.Limits.{maxDigits}
 use Rattle.model.specs.Bytes.{Bytes, shown, spaced, same}
-use Rattle.model.specs.MapFile.{Table, allNames, GoodFields, ValueLine}
-use Rattle.model.specs.FileRules.{Absent}
-use Rattle.model.specs.Reader.{Layout, fieldsOf, valueOf, valuesOf, columnOf, isField, layoutOf, keyed, arranged, rowOf, withRow, stop, readValues}
+use Rattle.model.specs.MapFile.{Values, Table, allNames, GoodFields, RowWritten, RowsWritten, noLine, andLine}
+use Rattle.model.specs.Reader.{Layout, fieldsOf, valueOf, valuesOf, columnOf, isField, layoutOf, arranged, rowOf}
 use Rattle.filerules.proofs.Options.{none-some, some-same, choice-in, choice-out, Both, cons-in, cons-out}
 use Rattle.filerules.proofs.Numerals.{value-shown, shown-value}
 use Rattle.filerules.proofs.Fields.{fields-spaced, spaced-fields}
 use Rattle.filerules.proofs.Words.{same?, Word, Regular, shown-word, word-lacks-blank}
-use Rattle.filerules.proofs.Names.{isField?, column-first, column-later, column-absent, good-key, good-some}
+use Rattle.filerules.proofs.Names.{isField?, column-first, column-later, column-absent, good-some}
 
 -- ---- the values of fields
 
@@ -99,94 +98,71 @@ shown-fields value fields n =
 
 -- ---- rows
 
--- a side or role
-abbrev Key : ℤ → Type 0
-Key k = (k ≡ pos 0) ⊎ (k ≡ pos 1)
-
-keyed-in : (k : ℤ) (r : List ℤ) → Key k → keyed (k ∷ r) ≡ some (k ∷ r)
-unfolding keyed
-keyed-in k r h = choice-in none (decides-or (eqZ? k (pos 0)) (eqZ? k (pos 1))) h
-
-keyed-out : (k : ℤ) (r row : List ℤ) → keyed (k ∷ r) ≡ some row → Key k × (k ∷ r ≡ row)
-unfolding keyed
-keyed-out k r row e = let w = choice-out (decides-or (eqZ? k (pos 0)) (eqZ? k (pos 1))) e in (w .0, some-same (w .1))
-
-module _ {t : Table} (regular : Regular t) (value : Bytes → ℤ) where
-  keyed-names : Key (value (t .key)) → keyed (map value (allNames t)) ≡ some (map value (allNames t))
-  keyed-names h = rw (regular .keyed) (keyed-in (value (t .key)) (map value (regular .others ++ t .optional)) h)
-
-  names-keyed : (row : List ℤ) → keyed (map value (allNames t)) ≡ some row → Key (value (t .key)) × (map value (allNames t) ≡ row)
-  names-keyed row h = rw (regular .keyed) (keyed-out (value (t .key)) (map value (regular .others ++ t .optional)) row (rw (regular .keyed) at h))
-
--- a line of the last table: it is a value line, also where it is empty
-pub last-step : (y : Layout) (n : ℕ) (l : Bytes) (ls : List Bytes)
-    → readValues true y n (l ∷ ls) ≡ elim (rowOf y l) [ none ↦ stop 14 n | some r ↦ withRow r (readValues true y (suc n) ls) ]
-unfolding readValues isNil
-last-step y n [] ls = refl
-last-step y n (c ∷ l) ls = refl
+-- the numbers of rows, in the order of the names
+abbrev pub numbersIn : List Bytes → List Values → List (List ℤ)
+numbersIn names values = map (λ value. map value names) values
 
 module _ {t : Table} (regular : Regular t) {fields : List Bytes} (named : GoodFields t fields) where
-  -- the values of a row under all names, where they stand under the fields
-  abbrev numbersOf : List ℤ → List ℤ
-  numbersOf vs = map (under fields vs) (allNames t)
-
-  -- the row of these values
-  row-keyed : (vs : List ℤ) → length vs ≡ length fields → arranged (layoutOf t fields) (some vs) ≡ keyed (numbersOf vs)
+  -- the row of values that stand under the fields
+  row-arranged : (vs : List ℤ) → length vs ≡ length fields → arranged (layoutOf t fields) (some vs) ≡ some (map (under fields vs) (allNames t))
   unfolding arranged layoutOf
-  row-keyed vs e =
+  row-arranged vs e =
       choice-in none (eq? (length vs) (length fields)) e
-      ∙ ap keyed (map-map (λ c. getD vs c (pos 0)) (λ n. columnOf n fields) (allNames t))
+      ∙ ap some (map-map (λ c. getD vs c (pos 0)) (λ n. columnOf n fields) (allNames t))
 
-  -- a value line gives a row: the values under the fields
-  pub row-some : {line : Bytes} (v : ValueLine t fields line) → rowOf (layoutOf t fields) line ≡ some (numbersOf (map (v .value) fields))
+  -- a line that writes a row gives its values under the table's names
+  pub row-in : {line : Bytes} {value : Values} → RowWritten t fields line value → rowOf (layoutOf t fields) line ≡ some (map value (allNames t))
   unfolding rowOf
-  row-some {line} v =
-      let vs = map (v .value) fields in
+  row-in {line} {value} w =
+      let vs = map value fields in
       let parts : fieldsOf line ≡ map shown vs =
-      ap fieldsOf (v .writes) ∙ shown-fields (v .value) fields (good-some regular named) ∙ sym (map-map shown (v .value) fields)
+      ap fieldsOf (w .writes) ∙ shown-fields value fields (good-some regular named) ∙ sym (map-map shown value fields)
       in
-      let short : (x : ℤ) → x ∈ vs → Short x = λ x m. let w = map-out (v .value) fields m in subst Short (sym (w .2)) (v .short (w .0) (w .1)) in
+      let short : (x : ℤ) → x ∈ vs → Short x = λ x m. let v = map-out value fields m in subst Short (sym (v .2)) (w .good .short (v .0) (v .1)) in
       let read : valuesOf (fieldsOf line) ≡ some vs = ap valuesOf parts ∙ values-in vs short in
-      let key : Key (under fields vs (t .key)) = subst Key (sym (under-shown (v .value) fields (t .key) (good-key regular named))) (v .key) in
-      rw read (row-keyed vs (length-map fields (v .value)) ∙ keyed-names regular (under fields vs) key)
-
-  -- it is the values under the table's names, where these are 0 under a name that is no field
-  pub row-in : {line : Bytes} (v : ValueLine t fields line) → Absent t fields (v .value) → rowOf (layoutOf t fields) line ≡ some (map (v .value) (allNames t))
-  row-in v absent = row-some v ∙ ap some (map-same (under fields (map (v .value) fields)) (v .value) (allNames t) each)
+      rw read (row-arranged vs (length-map fields value) ∙ ap some (map-same (under fields vs) value (allNames t) each))
     where
-      each : (n : Bytes) → n ∈ allNames t → under fields (map (v .value) fields) n ≡ v .value n
+      each : (n : Bytes) → n ∈ allNames t → under fields (map value fields) n ≡ value n
       each n m = go (isField fields n) (isField? fields n)
         where
-          go : (b : Bool) → Decides (n ∈ fields) b → under fields (map (v .value) fields) n ≡ v .value n
-          go true (passed k) = under-shown (v .value) fields n k
+          go : (b : Bool) → Decides (n ∈ fields) b → under fields (map value fields) n ≡ value n
+          go true (passed k) = under-shown value fields n k
           go false (failed k) =
-              under-absent fields (map (v .value) fields) n k (length-map fields (v .value))
-              ∙ sym (⊎-elim (λ j. absurd (k (named .each n j))) (λ j. absent n j k) (List·Memᴰ·append-cases (t .names) m))
+              under-absent fields (map value fields) n k (length-map fields value)
+              ∙ sym (⊎-elim (λ j. absurd (k (named .each n j))) (λ j. w .good .absent n j k) (List·Memᴰ·append-cases (t .names) m))
 
-  -- a line that gives a row is a value line, and the row is the values under the table's names
+  -- a line that gives a row writes it: the row is its values under the table's names
   pub row-out : (line : Bytes) (row : List ℤ) → rowOf (layoutOf t fields) line ≡ some row
-      → (v : ValueLine t fields line) × Absent t fields (v .value) × (row ≡ map (v .value) (allNames t))
+      → (value : Values) × RowWritten t fields line value × (row ≡ map value (allNames t))
   unfolding rowOf arranged layoutOf
   row-out line row e = go (valuesOf (fieldsOf line)) refl e
     where
       go : (o : Option (List ℤ)) → valuesOf (fieldsOf line) ≡ o → arranged (layoutOf t fields) o ≡ some row
-          → (v : ValueLine t fields line) × Absent t fields (v .value) × (row ≡ map (v .value) (allNames t))
+          → (value : Values) × RowWritten t fields line value × (row ≡ map value (allNames t))
       go none q e = absurd (none-some e)
       go (some vs) q e =
           let many = choice-out (eq? (length vs) (length fields)) e .0 in
           let each = values-out (fieldsOf line) vs q in
           let value = under fields vs in
           let same-values : map value fields ≡ vs = under-all vs (named .once) many in
-          let key = names-keyed regular value row (sym (row-keyed vs many) ∙ e) in
           let shows : fieldsOf line ≡ map (λ n. shown (value n)) fields = each .0 ∙ ap (map shown) (sym same-values) ∙ map-map shown value fields in
           let among : (n : Bytes) → n ∈ fields → value n ∈ vs = λ n m. subst (λ (z : List ℤ). value n ∈ z) same-values (map-in value m) in
           let writes : line ≡ spaced (map (λ n. shown (value n)) fields) = sym (spaced-fields line) ∙ ap spaced shows in (
-            record { value = value; writes = writes; short = λ n m. each .1 (value n) (among n m); key = key .0 },
-            λ n m k. under-absent fields vs n k many,
-            sym (key .1),
+            value,
+            record { good = record { short = λ n m. each .1 (value n) (among n m); absent = λ n m k. under-absent fields vs n k many }; writes = writes },
+            some-same (sym e ∙ row-arranged vs many),
           )
 
-  -- the reader gives a row exactly where the line is a value line, and the row is the values under the table's names
+  -- the reader gives a row exactly where the line writes it
   pub row-exact : (line : Bytes) (row : List ℤ)
-      → (rowOf (layoutOf t fields) line ≡ some row) ↔ ((v : ValueLine t fields line) × Absent t fields (v .value) × (row ≡ map (v .value) (allNames t)))
-  row-exact line row = (row-out line row, λ w. row-in (w .0) (w .1) ∙ ap some (sym (w .2)))
+      → (rowOf (layoutOf t fields) line ≡ some row) ↔ ((value : Values) × RowWritten t fields line value × (row ≡ map value (allNames t)))
+  row-exact line row = (row-out line row, λ w. row-in (w .1) ∙ ap some (sym (w .2)))
+
+  -- the rows that lines write have one list of numbers
+  pub rows-once : {ls : List Bytes} {vs ws : List Values} → RowsWritten t fields ls vs → RowsWritten t fields ls ws
+      → numbersIn (allNames t) vs ≡ numbersIn (allNames t) ws
+  rows-once noLine noLine = refl
+  rows-once (andLine v vs) (andLine w ws) =
+      let here = some-same (sym (row-in v) ∙ row-in w) in
+      let later = rows-once vs ws in
+      cc

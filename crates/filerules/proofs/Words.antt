@@ -1,4 +1,4 @@
--- Words: texts of a–z, 0–9 and minus, as names and shown values are. The three tables have words for names, each once, the key first.
+-- Words: texts of a–z, 0–9 and minus, as names and shown values are. The tables have words for names, each once.
 use mathlib.Core.Path.{_≡_, refl, sym}
 use mathlib.Core.Bool.{Bool, true, false, not, cond, _&&_}
 use mathlib.Core.Logic.{_≢_, _⊎_, inl, inr, ⊎-elim}
@@ -13,6 +13,7 @@ use Rattle.lists.proofs.Membership.{all-out, any-in}
 use Rattle.lists.proofs.Decisions.{Decides, decides-iff}
 use Rattle.model.specs.Bytes.{Bytes, bytes, blank, dash, lineFeed, shown, same}
 use Rattle.model.specs.MapFile.{Table, allNames, nodeTable, edgeTable, pairTable, Allowed}
+use Rattle.model.specs.SheetFile.{sheetTable}
 use Rattle.filerules.proofs.Splits.{Lacks}
 use Rattle.filerules.proofs.Numerals.{Digit, shown-are}
 
@@ -65,10 +66,9 @@ shown-word v c m = ⊎-elim (λ e. inr (inr e)) (λ d. inr (inl d)) (shown-are v
 
 -- ---- the tables of the file
 
--- a table whose names are words, optional or not, each once, the key first
+-- a table that has names, which are words, optional or not, each once
 pub record Regular (t : Table) : Type 0 where
-  pub others : List Bytes
-  pub keyed : t .names ≡ t .key ∷ others
+  pub some : t .names ≢ []
   pub words : (n : Bytes) → n ∈ allNames t → Word n
   pub once : Distinct (allNames t)
 
@@ -96,14 +96,19 @@ apart-distinct (n ∷ ns) h =
 -- the node table
 pub node-regular : Regular nodeTable
 unfolding nodeTable bytes all isLetter apart any same
-node-regular = record { others = _; keyed = refl; words = letters-word (allNames nodeTable) tt; once = apart-distinct (allNames nodeTable) tt }
+node-regular = record { some = λ e. nil≢cons (sym e); words = letters-word (allNames nodeTable) tt; once = apart-distinct (allNames nodeTable) tt }
 
 -- the edge table
 pub edge-regular : Regular edgeTable
 unfolding edgeTable bytes all isLetter apart any same
-edge-regular = record { others = _; keyed = refl; words = letters-word (allNames edgeTable) tt; once = apart-distinct (allNames edgeTable) tt }
+edge-regular = record { some = λ e. nil≢cons (sym e); words = letters-word (allNames edgeTable) tt; once = apart-distinct (allNames edgeTable) tt }
 
 -- the pair table
 pub pair-regular : Regular pairTable
 unfolding pairTable bytes all isLetter apart any same
-pair-regular = record { others = _; keyed = refl; words = letters-word (allNames pairTable) tt; once = apart-distinct (allNames pairTable) tt }
+pair-regular = record { some = λ e. nil≢cons (sym e); words = letters-word (allNames pairTable) tt; once = apart-distinct (allNames pairTable) tt }
+
+-- the table of a sheet
+pub sheet-regular : Regular sheetTable
+unfolding sheetTable bytes all isLetter apart any same
+sheet-regular = record { some = λ e. nil≢cons (sym e); words = letters-word (allNames sheetTable) tt; once = apart-distinct (allNames sheetTable) tt }

@@ -1,1 +1,1 @@
-// The file rules: laws of the map file, its reader and its conditions. It has no code.
+// The file rules: laws of map files and of sheets, their readers and their conditions. It has no code.

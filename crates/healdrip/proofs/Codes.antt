@@ -1,26 +1,17 @@
 -- A refusal and a length as one signed number.
-use mathlib.Core.Path.{_≡_, sym, ap, _∙_}
+use mathlib.Core.Path.{_≡_, ap, _∙_}
 use Prim.Native.Nat.{ℕ, _+_, _*_, _/_, _%_, _<_, _^_}
 use native.Mathlib.Omega.{arith}
-use lib.IntN.{ℤ, pos, negℤ, _-ℤ_, negℤ-negℤ}
+use lib.IntN.{pos, negℤ}
 use mir.Syntax.{w64}
-use mir.Val.{toZ, ofZ}
+use mir.Val.{toZ}
 use mir.Facts.{toZ-pos}
 use Rattle.integers.proofs.Linear.{ints, neg}
-use Rattle.integers.proofs.Negation.{negated}
 use Rattle.model.specs.Bytes.{Bytes}
 use Rattle.model.specs.Refusals.{Refusal}
 use Rattle.model.specs.Calls.{refused, full}
 use Rattle.model.specs.TextCheck.{coded, textGives}
 use Rattle.refusals.proofs.Texts.{gives-small}
-
--- twice negated
-pub negated-twice : (n : ℕ) → pos n ≡ negℤ (negℤ (pos n))
-negated-twice n = sym (negℤ-negℤ (pos n))
-
--- what is returned for a number whose negation is a code
-pub negated-code : {n : ℕ} (z : ℤ) → n < 2 ^ 63 → pos n ≡ negℤ z → toZ w64 (ofZ w64 (pos 0 -ℤ toZ w64 n)) ≡ z
-negated-code z low e = negated low ∙ ap negℤ e ∙ negℤ-negℤ z
 
 -- a length is its own code
 pub coded-length : (text buffer : Bytes) {n : ℕ} → n < 2 ^ 63 → full n ≡ textGives text buffer → toZ w64 n ≡ coded (textGives text buffer)

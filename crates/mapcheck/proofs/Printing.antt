@@ -2,10 +2,9 @@
 use mathlib.Core.Path.{_≡_, refl, sym, ap, subst, _∙_}
 use mathlib.Core.Logic.{_⊎_, inl, inr}
 use mathlib.Core.List.{_++_}
-use Prim.Native.Nat.{ℕ, _-_, _≤_, _<_}
+use Prim.Native.Nat.{ℕ, _<_}
 use native.Mathlib.Omega.{arith}
-use lib.ListN.{length, take, drop, length-append, length-drop}
-use lib.Seq.{length-take-le, take-length, take-append-le}
+use lib.ListN.{length, length-append}
 use Rattle.model.specs.Limits.{maxText, reportRoom}
 use Rattle.model.specs.Bytes.{Bytes}
 use Rattle.model.specs.Compare.{Tables, findings, resultOf}
@@ -17,28 +16,8 @@ use Rattle.model.specs.FileRules.{KeepsRules}
 use Rattle.model.specs.TextCheck.{Reported, reportedOf, checkRead, textAnswer, reportConditions, reportOf, textGives, textAfter, printedOf, printed}
 use Rattle.model.specs.Demands.{Demand3}
 use Rattle.report.specs.Put.{Put}
-use Rattle.mapcheck.specs.declared.Input.{Input}
-use Rattle.mapcheck.specs.declared.Input.the-variants as input
-use Rattle.mapcheck.specs.Reading.{InputWithin}
-use Rattle.report.proofs.Tail.{tail-length}
 use Rattle.filerules.proofs.Refusals.{read-settled}
 use Rattle.filerules.proofs.TextCheck.{text-demand, text-demand-only}
-
--- a buffer whose tail was lent keeps its length
-pub tail-kept : (text tail : Bytes) (at : ℕ) → at ≤ length text → length tail ≡ length (take (length text - at) (drop at text))
-    → length (take at text ++ (tail ++ drop (length text - at) (drop at text))) ≡ length text
-tail-kept text tail at h e =
-    let rest = drop (length text - at) (drop at text) in
-    omega (
-      arith,
-      length-append (take at text) (tail ++ rest),
-      length-append tail rest,
-      length-take-le at text h,
-      length-drop (length text - at) (drop at text),
-      length-drop at text,
-      e,
-      tail-length text at,
-    )
 
 -- a report that was written is what is printed
 report-printed : (a : Answer Reported) {before after : Bytes} {n : ℕ} → full n ≡ lengthOf (reportOf a) → after ≡ bufferAfter (reportOf a) before
@@ -74,27 +53,6 @@ module _ (text before : Bytes) {after : Bytes} (room : length before ≡ reportR
     pub printed-refusal : printed text ≡ refusalReport r
     unfolding printed
     printed-refusal = sym (ap printedOf same-answer) ∙ refused-parts .1
-
--- the front of a text has as many bytes as are taken
-pub front-length : {k : ℕ} (text : Bytes) → k ≤ length text → k ≡ length (take k text)
-front-length {k} text h = sym (length-take-le k text h)
-
--- what was put lies within the buffer
-pub put-within : {line before after : Bytes} {n : ℕ} → Put line before after n → n ≤ length after
-put-within {line} {before} p = omega (arith, p .count, ap length (p .stands) ∙ length-append line (drop (length line) before))
-
--- the front of the buffer, as long as what was put, is what was put
-pub put-front : {line before after : Bytes} {n : ℕ} → Put line before after n → take n after ≡ line
-put-front {line} {before} {after} p = ap (λ (k : ℕ). take k after) (p .count) ∙ ap (take (length line)) (p .stands) ∙ take-append-le (length line) line (drop (length line) before) (omega arith)
-    ∙ take-length line
-
--- the bytes that were read fit
-pub input-within : {n : ℕ} (room : ℕ) (i : Input) → InputWithin room i → i ≡ input.Bytes n → n ≤ room
-input-within room i h e = subst (InputWithin room) e h
-
--- bytes that fill the buffer fit
-pub input-full : {n : ℕ} (room : ℕ) (i : Input) → InputWithin room i → i ≡ input.Full n → n ≤ room
-input-full {n} room i h e = let f : n ≡ room = subst (InputWithin room) e h in omega (arith, f)
 
 -- ---- an input that is longer than the buffer
 

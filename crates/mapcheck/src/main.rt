@@ -1,57 +1,17 @@
 // Checks the map file on standard input and prints the report, or the refusal.
 ghost use mathlib.Core.Path.{_≡_};
-ghost use Prim.Native.Nat.{suc, _≤_};
+ghost use Prim.Native.Nat.{_≤_};
 ghost use lib.ListN.{length};
-ghost use Rattle.model.specs.Limits.{maxText, reportRoom};
+ghost use Rattle.model.specs.Limits.{reportRoom};
 ghost use Rattle.model.specs.TextCheck.{printed};
 ghost use Rattle.report.specs.Put.{Put};
-ghost use Rattle.mapcheck.specs.Reading.{InputWithin};
-use libc::STDIN_FILENO;
+use input::Input;
+use input::TEXT_ROOM;
 use libc::STDOUT_FILENO;
 use model::Written;
 
-// One byte more than a text may have, so that a longer one is seen to be longer.
-const TEXT_ROOM: usize = 65537;
-
 // Bytes of the report buffer.
 const REPORT_ROOM: usize = 65536;
-
-// What was read of standard input: so many bytes up to its end, as many as the buffer has, or a read failed.
-enum Input {
-    Bytes(usize),
-    Full(usize),
-    Failed,
-}
-
-// Reads once: how many bytes came, 0 at the end of the input.
-fn read_some(text: &mut [u8]) -> Input
-    ensures { λ r. ⌜ InputWithin (length (now (text .exit))) r ⌝ }
-{
-    let got = libc::read(STDIN_FILENO, text);
-    if got < 0 {
-        return Input::Failed;
-    }
-    Input::Bytes(io::count(got, text))
-}
-
-// Reads standard input into the buffer, which has a byte more than the longest text, until the buffer is full or the input ends.
-fn read_input(text: &mut [u8]) -> Input
-    requires { ⌜ length (now text) ≡ suc maxText ⌝ }
-    ensures { λ r. ⌜ InputWithin (length (now (text .exit))) r ⌝ }
-{
-    let mut at: usize = 0;
-    while at < text.len() {
-        let input = read_some(&mut text[at..]);
-        let Input::Bytes(n) = input else {
-            return Input::Failed;
-        };
-        if n == 0 {
-            return Input::Bytes(at);
-        }
-        at += n;
-    }
-    Input::Full(at)
-}
 
 // Writes what is printed for a text, the report or the refusal, and returns its length.
 fn put_printed(text: &[u8], out: &mut [u8]) -> usize
@@ -61,13 +21,7 @@ fn put_printed(text: &[u8], out: &mut [u8]) -> usize
     let written = textcheck::text_check(text, out);
     match written {
         Written::Count(n) => n,
-        Written::Refused(reason) => {
-            let refusal = refusals::refusal_numbers(reason);
-            let number = refusal.number;
-            let table = refusal.table;
-            let row = refusal.row;
-            report::put_refusal(out, number, table, row)
-        }
+        Written::Refused(reason) => refusals::put_reason(out, reason),
     }
 }
 
@@ -93,7 +47,7 @@ fn print_text(text: &[u8], n: usize)
 
 fn main() {
     let mut text = [0u8; TEXT_ROOM];
-    let input = read_input(&mut text);
+    let input = input::read_input(&mut text);
     match input {
         Input::Bytes(n) => {
             print_text(&text, n);

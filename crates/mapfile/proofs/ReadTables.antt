@@ -16,7 +16,7 @@ use Rattle.model.specs.MapFile.{Table, allNames, nodeTable, edgeTable, pairTabl
 use Rattle.model.specs.Refusals.{Refusal}
 use Rattle.model.specs.Calls.{refused, full, answer}
 use Rattle.model.specs.Answers.{numbered}
-use Rattle.model.specs.Reader.{Layout, fieldsOf, columns, Reading, stopped, rows, stop, readValues, readTable, checkText, tablesOf, readThird, readSecond, readFirst, readMap}
+use Rattle.model.specs.Reader.{Layout, fieldsOf, columns, RowCheck, checkSideOrRole, Reading, stopped, rows, stop, readValues, readTable, checkText, tablesOf, readThird, readSecond, readFirst, readMap}
 use Rattle.characters.proofs.Text.{checked}
 use Rattle.cursor.specs.declared.Cursor.{Cursor}
 use Rattle.cursor.specs.Parts.{firstLine, laterLines}
@@ -71,23 +71,23 @@ columns-empty {t} regular several = go (columns t []) refl
     go none e = refl
     go (some y) e = absurd (omega (arith, good-many regular (names-read regular [] y e .0 .named)))
 
-module _ (last : Bool) {t : Table} (regular : Regular t) (several : 2 ≤ length (t .names)) (n : ℕ) where
+module _ (last : Bool) (check : RowCheck) {t : Table} (regular : Regular t) (several : 2 ≤ length (t .names)) (n : ℕ) where
   table-lines : (u : Bytes) {o : Option Layout} → columns t (firstLine u) ≡ o
-      → readTable last t n (lines u) ≡ elim o [ none ↦ stop 13 n | some y ↦ readValues last y (suc n) (lines (laterLines u)) ]
+      → readTable last check t n (lines u) ≡ elim o [ none ↦ stop 13 n | some y ↦ readValues last check y (suc n) [] (lines (laterLines u)) ]
   unfolding readTable lines firstLine
   table-lines [] {o} e =
-      subst (λ (o : Option Layout). stop 13 n ≡ elim o [ none ↦ stop 13 n | some y ↦ readValues last y (suc n) (lines (laterLines [])) ])
+      subst (λ (o : Option Layout). stop 13 n ≡ elim o [ none ↦ stop 13 n | some y ↦ readValues last check y (suc n) [] (lines (laterLines [])) ])
       (sym (columns-empty regular several) ∙ e) refl
   table-lines (c ∷ u) {o} e =
-      ap (readTable last t n) (lines-first c u)
-      ∙ ap (λ (o : Option Layout). elim o [ none ↦ stop 13 n | some y ↦ readValues last y (suc n) (lines (laterLines (c ∷ u))) ]) e
+      ap (readTable last check t n) (lines-first c u)
+      ∙ ap (λ (o : Option Layout). elim o [ none ↦ stop 13 n | some y ↦ readValues last check y (suc n) [] (lines (laterLines (c ∷ u))) ]) e
 
 module _ {t : Table} {text : Bytes} {from : Cursor} {cs : Columns} (regular : Regular t) (several : 2 ≤ length (t .names)) (inText : InText text from)
     (g : ColumnsGiven t (firstLine (drop (from .at) text)) cs) where
   -- the names line is wrong
-  pub table-wrong : (last : Bool) → isComplete cs ≡ false → readTable last t (from .line) (lines (drop (from .at) text)) ≡ stopped (numbered 13 6 (from .line))
+  pub table-wrong : (last : Bool) (check : RowCheck) → isComplete cs ≡ false → readTable last check t (from .line) (lines (drop (from .at) text)) ≡ stopped (numbered 13 6 (from .line))
   unfolding stop
-  table-wrong last e = table-lines last regular several (from .line) (drop (from .at) text) {o = none} (sym (g .names) ∙ rw e refl)
+  table-wrong last check e = table-lines last check regular several (from .line) (drop (from .at) text) {o = none} (sym (g .names) ∙ rw e refl)
 
   module _ (all : isComplete cs ≡ true) {next : Cursor} (s : Stands text (laterLines (drop (from .at) text)) (suc (from .line)) next) where
     -- the columns are good
@@ -107,9 +107,9 @@ module _ {t : Table} {text : Bytes} {from : Cursor} {cs : Columns} (regular : Re
     table-in-text = record { within = s .within; low = omega (arith, s .line, inText .low, later-behind text (from .at) table-there s) }
 
     -- and make up the table
-    pub table-values : (last : Bool) → readTable last t (from .line) (lines (drop (from .at) text))
-        ≡ readValues last (layoutIn cs) (next .line) (lines (drop (next .at) text))
-    table-values last = rw (s .line, s .before) (table-lines last regular several (from .line) (drop (from .at) text) (columns-laid g all))
+    pub table-values : (last : Bool) (check : RowCheck) → readTable last check t (from .line) (lines (drop (from .at) text))
+        ≡ readValues last check (layoutIn cs) (next .line) [] (lines (drop (next .at) text))
+    table-values last check = rw (s .line, s .before) (table-lines last check regular several (from .line) (drop (from .at) text) (columns-laid g all))
 
     -- a room of whole rows
     pub table-room : {room : ℕ} → (most : ℕ) × (room ≡ (length (allNames t) - 1) * most) → Roomy cs room
@@ -118,57 +118,57 @@ module _ {t : Table} {text : Bytes} {from : Cursor} {cs : Columns} (regular : Re
 -- ---- the map file
 
 -- what the check of the whole text comes to
-check-refused : (o : Option Refusal) {r : Refusal} → refused r ≡ checked o → o ≡ some r
+pub check-refused : (o : Option Refusal) {r : Refusal} → refused r ≡ checked o → o ≡ some r
 unfolding answer
 check-refused none e = cc
 check-refused (some r) e = cc
 
-check-taken : (o : Option Refusal) → full tt ≡ checked o → o ≡ none
+pub check-taken : (o : Option Refusal) → full tt ≡ checked o → o ≡ none
 unfolding answer
 check-taken none e = refl
 check-taken (some r) e = cc
 
 module _ (text : Bytes) where
   map-after : {o : Option Refusal} → checkText text ≡ o
-      → readMap text ≡ elim o [ some r ↦ refused r | none ↦ readFirst (readTable false nodeTable 1 (lines text)) ]
+      → readMap text ≡ elim o [ some r ↦ refused r | none ↦ readFirst (readTable false checkSideOrRole nodeTable 1 (lines text)) ]
   unfolding readMap
-  map-after e = ap (λ (o : Option Refusal). elim o [ some r ↦ refused r | none ↦ readFirst (readTable false nodeTable 1 (lines text)) ]) e
+  map-after e = ap (λ (o : Option Refusal). elim o [ some r ↦ refused r | none ↦ readFirst (readTable false checkSideOrRole nodeTable 1 (lines text)) ]) e
 
   -- refusal 12
   pub map-checked : {r : Refusal} → refused r ≡ checked (checkText text) → readMap text ≡ refused r
   map-checked e = map-after (check-refused (checkText text) e)
 
   module _ (taken : full tt ≡ checked (checkText text)) where
-    map-first : {x : Reading} → readTable false nodeTable 1 (lines text) ≡ x → readMap text ≡ readFirst x
+    map-first : {x : Reading} → readTable false checkSideOrRole nodeTable 1 (lines text) ≡ x → readMap text ≡ readFirst x
     map-first e = map-after (check-taken (checkText text) taken) ∙ ap readFirst e
 
     -- a refusal in the first table
-    pub map-nodes : {r : Refusal} → readTable false nodeTable 1 (lines text) ≡ stopped r → readMap text ≡ refused r
+    pub map-nodes : {r : Refusal} → readTable false checkSideOrRole nodeTable 1 (lines text) ≡ stopped r → readMap text ≡ refused r
     unfolding readFirst
     map-nodes e = map-first e
 
-    module _ {ns : List (List ℤ)} {rest : List Bytes} {n : ℕ} (nodes : readTable false nodeTable 1 (lines text) ≡ rows ns rest n) where
-      map-second : {x : Reading} → readTable false edgeTable n rest ≡ x → readMap text ≡ readSecond ns x
+    module _ {ns : List (List ℤ)} {rest : List Bytes} {n : ℕ} (nodes : readTable false checkSideOrRole nodeTable 1 (lines text) ≡ rows ns rest n) where
+      map-second : {x : Reading} → readTable false checkSideOrRole edgeTable n rest ≡ x → readMap text ≡ readSecond ns x
       unfolding readFirst
       map-second e = map-first nodes ∙ ap (readSecond ns) e
 
       -- in the second
-      pub map-edges : {r : Refusal} → readTable false edgeTable n rest ≡ stopped r → readMap text ≡ refused r
+      pub map-edges : {r : Refusal} → readTable false checkSideOrRole edgeTable n rest ≡ stopped r → readMap text ≡ refused r
       unfolding readSecond
       map-edges e = map-second e
 
-      module _ {es : List (List ℤ)} {others : List Bytes} {m : ℕ} (edges : readTable false edgeTable n rest ≡ rows es others m) where
-        map-third : {x : Reading} → readTable true pairTable m others ≡ x → readMap text ≡ readThird ns es x
+      module _ {es : List (List ℤ)} {others : List Bytes} {m : ℕ} (edges : readTable false checkSideOrRole edgeTable n rest ≡ rows es others m) where
+        map-third : {x : Reading} → readTable true checkSideOrRole pairTable m others ≡ x → readMap text ≡ readThird ns es x
         unfolding readSecond
         map-third e = map-second edges ∙ ap (readThird ns es) e
 
         -- in the third
-        pub map-pairs : {r : Refusal} → readTable true pairTable m others ≡ stopped r → readMap text ≡ refused r
+        pub map-pairs : {r : Refusal} → readTable true checkSideOrRole pairTable m others ≡ stopped r → readMap text ≡ refused r
         unfolding readThird
         map-pairs e = map-third e
 
         -- no refusal
-        pub map-tables : {ps : List (List ℤ)} {none-left : List Bytes} {k : ℕ} → readTable true pairTable m others ≡ rows ps none-left k
+        pub map-tables : {ps : List (List ℤ)} {none-left : List Bytes} {k : ℕ} → readTable true checkSideOrRole pairTable m others ≡ rows ps none-left k
             → readMap text ≡ full (tablesOf ns es ps)
         unfolding readThird
         map-tables e = map-third e

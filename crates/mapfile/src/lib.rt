@@ -3,7 +3,7 @@ ghost use mathlib.Core.Path.{_≡_};
 ghost use Prim.Native.Nat.{_≤_};
 ghost use lib.ListN.{length, drop};
 ghost use Rattle.model.specs.MapFile.{lines, nodeTable, edgeTable, pairTable};
-ghost use Rattle.model.specs.Reader.{readTable};
+ghost use Rattle.model.specs.Reader.{checkSideOrRole, readTable};
 ghost use Rattle.cursor.specs.Parts.{firstLine};
 ghost use Rattle.cursor.specs.Given.{InText};
 ghost use Rattle.columns.specs.Given.{lineFields, ColumnsGiven};
@@ -119,7 +119,7 @@ fn read_table(
     second: &mut [i64],
 ) -> Rows
     requires { ⌜ InText (now text) from × (roomOf table ≤ length (now first)) × (roomOf table ≤ length (now second)) ⌝ }
-    ensures { λ r. ⌜ RowsGiven (readTable (isLast table) (tableOf table) (from .line) (lines (drop (from .at) (now (text .entry))))) (now (text .entry)) (roomOf table) (now (first .entry)) (now (first .exit)) (now (second .entry)) (now (second .exit)) r ⌝ }
+    ensures { λ r. ⌜ RowsGiven (readTable (isLast table) checkSideOrRole (tableOf table) (from .line) (lines (drop (from .at) (now (text .entry))))) (now (text .entry)) (roomOf table) (now (first .entry)) (now (first .exit)) (now (second .entry)) (now (second .exit)) r ⌝ }
 {
     let heading = columns::count_fields(text, from);
     let cs = table_columns(table, text, from.at, heading.fields);

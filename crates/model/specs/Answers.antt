@@ -11,9 +11,12 @@ use Rattle.model.specs.declared.Written.the-variants as written
 use Rattle.model.specs.declared.Comparison.{Comparison}
 use Rattle.model.specs.declared.Compared.{Compared}
 use Rattle.model.specs.declared.Compared.the-variants as compared
+use Rattle.model.specs.declared.SheetRead.{SheetRead}
+use Rattle.model.specs.declared.SheetRead.the-variants as sheetRead
 use Rattle.model.specs.Compare.{Result}
 use Rattle.model.specs.Refusals.{Refusal}
 use Rattle.model.specs.Calls.{Answer, refused, full}
+use Rattle.model.specs.SheetCall.{TableLengths}
 
 -- a refusal by its number, table and row
 abbrev pub numbered : ℕ → ℕ → ℕ → Refusal
@@ -37,6 +40,8 @@ refusalOf (reason.Names l) = numbered 13 6 l
 refusalOf (reason.Values l) = numbered 14 6 l
 refusalOf reason.NoCaller = numbered 15 7 0
 refusalOf (reason.At t r) = numbered 16 t r
+refusalOf (reason.SheetRange l) = numbered 17 6 l
+refusalOf (reason.OtherSize l) = numbered 18 6 l
 
 -- verdict 0 equal, 1 partial, 2 different
 abbrev pub verdictNumber : Verdict → ℕ
@@ -63,3 +68,8 @@ comparisonResult c =
 abbrev pub comparedAnswer : Compared → Answer Result
 comparedAnswer (compared.Result c) = full (comparisonResult c)
 comparedAnswer (compared.Refused r) = refused (refusalOf r)
+
+-- how many numbers the two tables of a sheet have, or refused
+abbrev pub sheetReadAnswer : SheetRead → Answer TableLengths
+sheetReadAnswer (sheetRead.Tables z) = full (record { nodes = z .nodes; edges = z .edges })
+sheetReadAnswer (sheetRead.Refused r) = refused (refusalOf r)

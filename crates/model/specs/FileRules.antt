@@ -1,20 +1,15 @@
 -- The file rules, as a relation that goes from tables to bytes: what a text that keeps them looks like. No reader. Assumes nothing.
 use mathlib.Core.Path.{_≡_}
-use mathlib.Core.Logic.{_⊎_}
 use mathlib.Core.List.{List, [], _∷_, _++_, map, flatMap}
-use Prim.Native.Nat.{_<_, _≤_, _^_}
-use lib.IntN.{ℤ, pos, natAbs}
+use Prim.Native.Nat.{_≤_}
+use lib.IntN.{ℤ, pos}
 use lib.ListN.{length}
 use Rattle.integers.specs.Integers.{eqZ}
 use Rattle.lists.specs.Lists.{_∈_, keep}
-use Rattle.model.specs.Limits.{maxText, maxDigits}
+use Rattle.model.specs.Limits.{maxText}
 use Rattle.model.specs.Bytes.{Bytes, bytes, lineFeed, shown, spaced}
-use Rattle.model.specs.MapFile.{Table, GoodFields, nodeTable, edgeTable, pairTable}
+use Rattle.model.specs.MapFile.{Values, RowCondition, Table, GoodFields, GoodRow, nodeTable, edgeTable, pairTable}
 use Rattle.model.specs.Compare.{Tables}
-
--- a row of a table of the file gives each name a value
-abbrev pub Values : Type 0
-Values = Bytes → ℤ
 
 -- the line that writes a row, its values in the order of the names line
 unfoldable pub rowLine : List Bytes → Values → Bytes
@@ -24,15 +19,15 @@ rowLine fields value = spaced (map (λ n. shown (value n)) fields) ++ (lineFeed 
 unfoldable pub tableLines : List Bytes → List Values → Bytes
 tableLines fields rows = spaced fields ++ lineFeed ∷ flatMap (rowLine fields) rows
 
--- the row has 0 under each optional name that is not among the fields
-abbrev pub Absent : Table → List Bytes → Values → Type 0
-Absent t fields value = (n : Bytes) → n ∈ t .optional → (n ∈ fields → ⊥) → value n ≡ pos 0
+-- none of the conditions holds of the row, after these rows before it, the nearest first
+unfoldable pub MeetsNone : List RowCondition → List Values → Values → Type 0
+MeetsNone [] before value = Unit {0}
+MeetsNone (a ∷ more) before value = (a .holds before value → ⊥) × MeetsNone more before value
 
--- a row that can be written below these fields: values of 1 to 18 digits, side or role 0 or 1, and 0 under a name that the names line lacks
-pub record GoodRow (t : Table) (fields : List Bytes) (value : Values) : Type 0 where
-  pub short : (n : Bytes) → n ∈ fields → natAbs (value n) < 10 ^ maxDigits
-  pub key : (value (t .key) ≡ pos 0) ⊎ (value (t .key) ≡ pos 1)
-  pub absent : Absent t fields value
+-- none of the conditions holds of any of these rows, each after the rows before it
+unfoldable pub AllMeetNone : List RowCondition → List Values → List Values → Type 0
+AllMeetNone conditions before [] = Unit {0}
+AllMeetNone conditions before (value ∷ values) = MeetsNone conditions before value × AllMeetNone conditions (value ∷ before) values
 
 -- a table of the file: its names in the order of its names line, and its rows
 pub record TableOf (t : Table) : Type 0 where
@@ -40,6 +35,7 @@ pub record TableOf (t : Table) : Type 0 where
   pub named : GoodFields t fields
   pub rows : List Values
   pub good : (value : Values) → value ∈ rows → GoodRow t fields value
+  pub meetsNone : AllMeetNone (t .conditions) [] rows
 
 -- the numbers of the rows of one side or role, in row order: of each row those under these names
 unfoldable pub numbersUnder : Bytes → ℤ → List Bytes → List Values → List ℤ

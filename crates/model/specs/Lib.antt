@@ -14,7 +14,6 @@ pub mod Taken
 pub mod Checks
 pub mod Calls
 pub mod Demands
-pub mod Answers
 pub mod Bytes
 pub mod MapFile
 pub mod FileRules
@@ -22,4 +21,8 @@ pub mod Reader
 pub mod Report
 pub mod TextCheck
 pub mod Tally
+pub mod Sheet
+pub mod SheetFile
+pub mod SheetCall
+pub mod Answers
 pub mod Marked

@@ -67,6 +67,18 @@ reportRoom = 65536
 abbrev pub maxDigits : ℕ
 maxDigits = 18
 
+-- numbers of initiators and of blocks on a sheet lie below this
+abbrev pub sheetNumbers : ℕ
+sheetNumbers = 1000
+
+-- bytes of an initiator's space on a sheet: base + size of a line is at most this
+abbrev pub sheetBytes : ℕ
+sheetBytes = 2 ^ 48
+
+-- bits of a byte
+abbrev pub byteBits : ℕ
+byteBits = 8
+
 -- callers of a tally, and counts of each
 abbrev pub callers : ℕ
 callers = 16

@@ -109,19 +109,35 @@ goodFields t fs = all (isField fs) (t .names) && eqb (length fs) (length (keep (
 unfoldable pub columns : Table → Bytes → Option Layout
 columns t line = let fs = fieldsOf line in cond (goodFields t fs) (some (layoutOf t fs)) none
 
--- a row whose first number, side or role, is 0 or 1
-unfoldable pub keyed : List ℤ → Option (List ℤ)
-keyed [] = none
-keyed (k ∷ r) = cond (eqZ k (pos 0) || eqZ k (pos 1)) (some (k ∷ r)) none
-
 -- the values at the columns, where there are as many values as the names line has fields; 0 behind them
 unfoldable pub arranged : Layout → Option (List ℤ) → Option (List ℤ)
 arranged layout none = none
-arranged layout (some vs) = cond (eqb (length vs) (layout .fields)) (keyed (map (λ c. getD vs c (pos 0)) (layout .at))) none
+arranged layout (some vs) = cond (eqb (length vs) (layout .fields)) (some (map (λ c. getD vs c (pos 0)) (layout .at))) none
 
 -- the row of a value line, in the order of the table's names
 unfoldable pub rowOf : Layout → Bytes → Option (List ℤ)
 rowOf layout line = arranged layout (valuesOf (fieldsOf line))
+
+-- ---- the conditions of a row
+
+-- the check of a row: by the rows before, the nearest first, and the row, the number of the refusal, if one is given
+abbrev pub RowCheck : Type 0
+RowCheck = List (List ℤ) → List ℤ → Option ℕ
+
+-- 14 where the first number, side or role, is neither 0 nor 1
+unfoldable pub checkSideOrRole : RowCheck
+checkSideOrRole before [] = none
+checkSideOrRole before (k ∷ r) = cond (eqZ k (pos 0) || eqZ k (pos 1)) none (some 14)
+
+-- a value line: the number of its refusal, or its row
+pub data ValueLine : Type 0 where
+  bad : ℕ → ValueLine
+  good : List ℤ → ValueLine
+
+-- 14 where it gives no row, then the check of its row
+unfoldable pub judged : RowCheck → List (List ℤ) → Option (List ℤ) → ValueLine
+judged check before none = bad 14
+judged check before (some r) = elim (check before r) [ none ↦ good r | some number ↦ bad number ]
 
 -- ---- tables
 
@@ -139,19 +155,24 @@ withRow r (rows rs rest n) = rows (r ∷ rs) rest n
 unfoldable pub stop : ℕ → ℕ → Reading
 stop number line = stopped (record { number = number; table = 6; row = line })
 
--- the value lines from line n on; the last table ends with the text, another with an empty line
-unfoldable pub readValues : Bool → Layout → ℕ → List Bytes → Reading
-readValues last layout n [] = cond last (rows [] [] n) (stop 13 n)
-readValues last layout n (l ∷ ls) =
+-- a value line, line n: its refusal, or its row before what reading the lines after it comes to
+unfoldable pub withLine : ℕ → ValueLine → (List ℤ → Reading) → Reading
+withLine n (bad number) later = stop number n
+withLine n (good r) later = withRow r (later r)
+
+-- the value lines from line n on, after these rows, the nearest first; the last table ends with the text, another with an empty line
+unfoldable pub readValues : Bool → RowCheck → Layout → ℕ → List (List ℤ) → List Bytes → Reading
+readValues last check layout n before [] = cond last (rows [] [] n) (stop 13 n)
+readValues last check layout n before (l ∷ ls) =
     elim (isNil l && not last) [
       | true ↦ rows [] ls (suc n)
-      | false ↦ elim (rowOf layout l) [ none ↦ stop 14 n | some r ↦ withRow r (readValues last layout (suc n) ls) ]
+      | false ↦ withLine n (judged check before (rowOf layout l)) (λ r. readValues last check layout (suc n) (r ∷ before) ls)
     ]
 
 -- a table from its names line on, which is line n
-unfoldable pub readTable : Bool → Table → ℕ → List Bytes → Reading
-readTable last t n [] = stop 13 n
-readTable last t n (l ∷ ls) = elim (columns t l) [ none ↦ stop 13 n | some layout ↦ readValues last layout (suc n) ls ]
+unfoldable pub readTable : Bool → RowCheck → Table → ℕ → List Bytes → Reading
+readTable last check t n [] = stop 13 n
+readTable last check t n (l ∷ ls) = elim (columns t l) [ none ↦ stop 13 n | some layout ↦ readValues last check layout (suc n) [] ls ]
 
 -- the rows of one side or role, without that number, one after the other: rows count per side or role
 unfoldable pub rowsWith : ℤ → List (List ℤ) → List ℤ
@@ -171,12 +192,12 @@ readThird ns es (rows ps rest n) = full (tablesOf ns es ps)
 
 unfoldable pub readSecond : List (List ℤ) → Reading → Answer Tables
 readSecond ns (stopped r) = refused r
-readSecond ns (rows es rest n) = readThird ns es (readTable true pairTable n rest)
+readSecond ns (rows es rest n) = readThird ns es (readTable true checkSideOrRole pairTable n rest)
 
 unfoldable pub readFirst : Reading → Answer Tables
 readFirst (stopped r) = refused r
-readFirst (rows ns rest n) = readSecond ns (readTable false edgeTable n rest)
+readFirst (rows ns rest n) = readSecond ns (readTable false checkSideOrRole edgeTable n rest)
 
 -- the tables of a map file
 unfoldable pub readMap : Bytes → Answer Tables
-readMap text = elim (checkText text) [ some r ↦ refused r | none ↦ readFirst (readTable false nodeTable 1 (lines text)) ]
+readMap text = elim (checkText text) [ some r ↦ refused r | none ↦ readFirst (readTable false checkSideOrRole nodeTable 1 (lines text)) ]

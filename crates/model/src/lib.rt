@@ -37,6 +37,15 @@ pub const MAX_UNITS: i64 = 281474976710656;
 // The highest leaf bit at which a bank may begin: 2^55 - 1.
 pub const LAST_AT: i64 = 36028797018963967;
 
+// Numbers of initiators and of blocks on a sheet lie below this.
+pub const SHEET_NUMBERS: usize = 1000;
+
+// Bytes of an initiator's space on a sheet: 2^48.
+pub const SHEET_BYTES: i64 = 281474976710656;
+
+// Bits of a byte.
+pub const BYTE_BITS: i64 = 8;
+
 // Digits of a value in a text at most.
 pub const MAX_DIGITS: usize = 18;
 
@@ -176,6 +185,8 @@ pub enum Reason {
     Values { line: usize },
     NoCaller,
     At { table: usize, row: usize },
+    SheetRange { line: usize },
+    OtherSize { line: usize },
 }
 
 // The verdict on a pair, or on two graphs.
@@ -222,5 +233,17 @@ pub struct Comparison {
 // The answer of the comparison of two graphs.
 pub enum Compared {
     Result(Comparison),
+    Refused(Reason),
+}
+
+// How many numbers the two tables of a sheet have.
+pub struct SheetSizes {
+    pub nodes: usize,
+    pub edges: usize,
+}
+
+// The answer of the call that reads a sheet.
+pub enum SheetRead {
+    Tables(SheetSizes),
     Refused(Reason),
 }

@@ -20,40 +20,44 @@ use Rattle.model.proofs.Visits.{visits-in}
 use Rattle.model.proofs.GroupRows.{group-leaf}
 use Rattle.model.proofs.Taken.{shape-taken}
 use Rattle.tables.proofs.Rows.{node-own, edge-own, pair-own}
-use Rattle.refusals.specs.Small.{lastNumber, SmallCheck}
+use Rattle.refusals.specs.Small.{lastNumber, lastOfText, SmallRefusal, SmallCheck}
 
 -- ---- one check after the other
 
--- the number of a refusal that a text can get
-abbrev pub NumberOfText : ℕ → Type 0
-NumberOfText n = (1 ≤ n) × (n ≤ lastNumber) × (n ≢ 15)
+-- the number of a small refusal
+abbrev pub SmallNumber : ℕ → ℕ → Type 0
+SmallNumber last n = (1 ≤ n) × (n ≤ last) × (n ≢ 15)
 
-pub when-small : (b : Bool) {n t r : ℕ} → NumberOfText n → t < 8 → r < 10000000 → SmallCheck (when b n t r)
+pub when-small : (b : Bool) {n t r : ℕ} → SmallNumber lastOfText n → t < 8 → r < 10000000 → SmallCheck lastOfText (when b n t r)
 unfolding when
 when-small true h i j = record { least = h .0; number = h .1; noCaller = h .2; table = i; row = j }
 when-small false h i j = tt
 
-pub then-small : (a b : Option Refusal) → SmallCheck a → (a ≡ none → SmallCheck b) → SmallCheck (a then b)
+pub then-small : (a b : Option Refusal) → SmallCheck lastOfText a → (a ≡ none → SmallCheck lastOfText b) → SmallCheck lastOfText (a then b)
 unfolding _then_
 then-small none b s f = f refl
 then-small (some r) b s f = s
 
-first-small : {A : Type 0} (check : A → Option Refusal) (l : List A) → ((x : A) → x ∈ l → SmallCheck (check x)) → SmallCheck (firstOf check l)
+first-small : {A : Type 0} (check : A → Option Refusal) (l : List A) → ((x : A) → x ∈ l → SmallCheck lastOfText (check x)) → SmallCheck lastOfText (firstOf check l)
 unfolding firstOf
 first-small check [] f = tt
 first-small check (x ∷ l) f =
     then-small (check x) (firstOf check l) (f x (List·Memᴰ·head refl)) (λ e. first-small check l (λ y m. f y (List·Memᴰ·tail m)))
 
+-- a refusal of the text check is small among all
+pub small-wide : {r : Refusal} → SmallRefusal lastOfText r → SmallRefusal lastNumber r
+small-wide s = record { least = s .least; number = omega (arith, s .number); noCaller = s .noCaller; table = s .table; row = s .row }
+
 -- ---- rows
 
-shape-small : (t width most : ℕ) (xs : List ℤ) → t < 8 → SmallCheck (checkShape t width most xs)
+shape-small : (t width most : ℕ) (xs : List ℤ) → t < 8 → SmallCheck lastOfText (checkShape t width most xs)
 unfolding checkShape
 shape-small t width most xs h = when-small (not (eqb (length xs % width) 0) || ltb (width * most) (length xs)) (omega arith) h (omega arith)
 
 -- ---- one graph
 
 -- the refusals of a graph are small
-graph-small : (t : ℕ) (ns es : List ℤ) → t < 7 → SmallCheck (checkGraph t ns es)
+graph-small : (t : ℕ) (ns es : List ℤ) → t < 7 → SmallCheck lastOfText (checkGraph t ns es)
 unfolding checkGraph checkNode checkEdge
 graph-small t ns es h =
     then-small (checkShape t nodeWidth maxNodes ns) _ (shape-small t nodeWidth maxNodes ns (omega arith)) (λ d.
@@ -72,7 +76,7 @@ graph-small t ns es h =
 
 -- the refusals of pair rows are small
 pairs-small : (t : ℕ) (spec impl : ℤ → Bool) (most : ℤ) (same : Pair → Pair → Bool) (ps : List ℤ) → t < 8 → length ps ≤ pairWidth * maxPairs
-    → SmallCheck (firstOf (checkPair t spec impl most same (pairRows ps)) (pairRows ps))
+    → SmallCheck lastOfText (firstOf (checkPair t spec impl most same (pairRows ps)) (pairRows ps))
 unfolding checkPair
 pairs-small t spec impl most same ps h few =
     first-small (checkPair t spec impl most same (pairRows ps)) (pairRows ps) (λ p m.
@@ -82,7 +86,7 @@ pairs-small t spec impl most same ps h few =
 
 -- so are those of visits
 visits-refused : (t : Tables) → length (t .rootPairs) ≤ pairWidth * maxPairs → length (t .leafPairs) ≤ pairWidth * maxPairs
-    → SmallCheck (firstOf (checkVisit t) (visits (rootRows t) (groups t)))
+    → SmallCheck lastOfText (firstOf (checkVisit t) (visits (rootRows t) (groups t)))
 unfolding checkVisit
 visits-refused t h j =
     first-small (checkVisit t) (visits (rootRows t) (groups t)) (λ v m.
@@ -92,7 +96,7 @@ visits-refused t h j =
     let place : v .root .row * rootStride + v .leaf .row < 10000000 = omega arith in
     then-small (when _ 10 1 _) _ (when-small _ (omega arith) (omega arith) place) (λ _. when-small _ (omega arith) (omega arith) place))
 
-pairing-small : (t : Tables) → SmallCheck (checkPairing t)
+pairing-small : (t : Tables) → SmallCheck lastOfText (checkPairing t)
 unfolding checkPairing
 pairing-small t =
     then-small (checkShape 4 pairWidth maxPairs (t .rootPairs)) _ (shape-small 4 pairWidth maxPairs (t .rootPairs) (omega arith)) (λ d.
@@ -110,7 +114,7 @@ pairing-small t =
 -- ---- all six tables
 
 -- the refusals of tables are small
-pub tables-small : (t : Tables) → SmallCheck (checkTables t)
+pub tables-small : (t : Tables) → SmallCheck lastOfText (checkTables t)
 unfolding checkTables
 tables-small t =
     then-small (checkGraph 0 (t .specNodes) (t .specEdges)) _ (graph-small 0 (t .specNodes) (t .specEdges) (omega arith)) (λ _.

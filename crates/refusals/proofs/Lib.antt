@@ -1,3 +1,5 @@
 pub mod Checks
 pub mod Numbers
 pub mod Texts
+pub mod Sheets
+pub mod Codes

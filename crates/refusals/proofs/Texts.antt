@@ -1,13 +1,14 @@
 -- The refusals of a text are small: a text that is not refused for its length has fewer lines than bytes and one.
 use mathlib.Core.Path.{_≡_, refl, sym, subst}
-use mathlib.Core.Bool.{Bool, true, false, not, cond, _&&_}
+use mathlib.Core.Bool.{Bool, true, false, not, cond, _&&_, _||_}
 use mathlib.Core.List.{List, [], _∷_}
 use mathlib.Core.Option.{Option, none, some}
 use Prim.Native.Nat.{ℕ, suc, _+_, _≤_, _<_}
 use native.Mathlib.Omega.{arith}
 use lib.Dec.{eqb, ltb}
-use lib.IntN.{ℤ}
+use lib.IntN.{ℤ, pos}
 use lib.ListN.{length}
+use Rattle.integers.specs.Integers.{eqZ}
 use Rattle.integers.proofs.Tests.{Test, failed, ltb?}
 use Rattle.lists.specs.Lists.{isNil}
 use Rattle.model.specs.Limits.{maxText}
@@ -18,11 +19,11 @@ use Rattle.model.specs.Refusals.{Refusal}
 use Rattle.model.specs.Checks.{when, _then_, checkTables, checkOutput}
 use Rattle.model.specs.Calls.{Answer, refused, full, answer, lengthOf}
 use Rattle.model.specs.Report.{report}
-use Rattle.model.specs.Reader.{Layout, allowed, checkBytes, brokenOff, checkText, columns, rowOf, Reading, stopped, rows, withRow, stop, readValues, readTable, readThird, readSecond, readFirst, readMap}
+use Rattle.model.specs.Reader.{Layout, allowed, checkBytes, brokenOff, checkText, columns, rowOf, RowCheck, checkSideOrRole, bad, good, judged, Reading, stopped, rows, withRow, stop, withLine, readValues, readTable, readThird, readSecond, readFirst, readMap}
 use Rattle.model.specs.TextCheck.{Reported, reportedOf, checkRead, textAnswer, reportOf, textGives}
 use Rattle.model.proofs.Checks.{then-none}
-use Rattle.refusals.specs.Small.{SmallRefusal, SmallCheck, SmallAnswer}
-use Rattle.refusals.proofs.Checks.{NumberOfText, when-small, then-small, tables-small}
+use Rattle.refusals.specs.Small.{lastOfText, SmallRefusal, SmallCheck, SmallAnswer}
+use Rattle.refusals.proofs.Checks.{SmallNumber, when-small, then-small, tables-small}
 
 -- ---- 12
 
@@ -31,7 +32,7 @@ next-line : (n : ℕ) (b : Bool) → cond b (suc n) n ≤ suc n
 next-line n true = omega arith
 next-line n false = omega arith
 
-bytes-small : (n : ℕ) (text : Bytes) → n + length text < 10000000 → SmallCheck (checkBytes n text)
+bytes-small : (n : ℕ) (text : Bytes) → n + length text < 10000000 → SmallCheck lastOfText (checkBytes n text)
 unfolding checkBytes
 bytes-small n [] h = tt
 bytes-small n (c ∷ text) h =
@@ -52,14 +53,14 @@ text-short text = go (ltb maxText (length text)) (ltb? maxText (length text))
     go true h e = let z : _≡_ {A = ℕ} 0 1 = cc in absurd (omega arith)
     go false (failed h) e = h
 
-text-small : (text : Bytes) → SmallCheck (checkText text)
+pub text-small : (text : Bytes) → SmallCheck lastOfText (checkText text)
 unfolding checkText
 text-small text =
     then-small (when (ltb maxText (length text)) 12 6 0) _ (when-small (ltb maxText (length text)) (omega arith) (omega arith) (omega arith)) (λ e.
     then-small (checkBytes 1 text) _ (bytes-small 1 text (omega (arith, text-short text e))) (λ _.
     when-small (brokenOff text) (omega arith) (omega arith) (omega (arith, feeds-short text, text-short text e))))
 
-checked-short : (text : Bytes) → checkText text ≡ none → length text ≤ maxText
+pub checked-short : (text : Bytes) → checkText text ≡ none → length text ≤ maxText
 unfolding checkText
 checked-short text e = text-short text (then-none (when (ltb maxText (length text)) 12 6 0) _ e .0)
 
@@ -70,7 +71,7 @@ unfolding onto
 onto-length c [] = omega arith
 onto-length c (l ∷ ls) = omega arith
 
-lines-short : (text : Bytes) → length (lines text) ≤ length text
+pub lines-short : (text : Bytes) → length (lines text) ≤ length text
 unfolding lines
 lines-short [] = omega arith
 lines-short (c ∷ text) = go (eqb c lineFeed) (lines-short text)
@@ -81,95 +82,128 @@ lines-short (c ∷ text) = go (eqb c lineFeed) (lines-short text)
 
 -- ---- tables
 
--- a reading stops with a small refusal, or leaves lines of which none has a number above `last`
-abbrev SmallReading : ℕ → Reading → Type 0
-SmallReading last (stopped r) = SmallRefusal r
-SmallReading last (rows rs ls n) = n + length ls ≤ last
+-- a reading stops with a small refusal, or leaves lines of which none has a number above `most`
+abbrev pub SmallReading : ℕ → ℕ → Reading → Type 0
+SmallReading last most (stopped r) = SmallRefusal last r
+SmallReading last most (rows rs ls n) = n + length ls ≤ most
 
-row-reading : (last : ℕ) (row : List ℤ) (reading : Reading) → SmallReading last reading → SmallReading last (withRow row reading)
-unfolding withRow
-row-reading last row (stopped r) s = s
-row-reading last row (rows rs ls n) s = s
+-- the number of a refusal of the text, if there is one
+abbrev pub SmallGiven : ℕ → Option ℕ → Type 0
+SmallGiven last none = Unit {0}
+SmallGiven last (some number) = SmallNumber last number
 
-module _ (most : ℕ) (low : most < 10000000) where
-  stop-small : (number n : ℕ) → NumberOfText number → n ≤ most → SmallReading most (stop number n)
+-- the lines of a table, whose refusals have numbers up to `last`, 13 and 14 among them
+module _ (last : ℕ) (enough : 14 ≤ last) (most : ℕ) (low : most < 10000000) where
+  row-reading : (row : List ℤ) (reading : Reading) → SmallReading last most reading → SmallReading last most (withRow row reading)
+  unfolding withRow
+  row-reading row (stopped r) s = s
+  row-reading row (rows rs ls n) s = s
+
+  stop-small : (number n : ℕ) → SmallNumber last number → n ≤ most → SmallReading last most (stop number n)
   unfolding stop
   stop-small number n h i = record { least = h .0; number = h .1; noCaller = h .2; table = omega arith; row = omega arith }
 
-  values-small : (last : Bool) (y : Layout) (n : ℕ) (ls : List Bytes) → n + length ls ≤ most → SmallReading most (readValues last y n ls)
-  unfolding readValues
-  values-small true y n [] h = omega arith
-  values-small false y n [] h = stop-small 13 n (omega arith) (omega arith)
-  values-small last y n (l ∷ ls) h = go (isNil l && not last) (rowOf y l) (values-small last y (suc n) ls (omega arith))
-    where
-      go : (b : Bool) (o : Option (List ℤ)) → SmallReading most (readValues last y (suc n) ls)
-          → SmallReading most (elim b [ true ↦ rows [] ls (suc n) | false ↦ elim o [ none ↦ stop 14 n | some r ↦ withRow r (readValues last y (suc n) ls) ] ])
-      go true o later = omega arith
-      go false none later = stop-small 14 n (omega arith) (omega arith)
-      go false (some r) later = row-reading most r (readValues last y (suc n) ls) later
+  module _ (check : RowCheck) (numbers : (before : List (List ℤ)) (r : List ℤ) → SmallGiven last (check before r)) where
+    line-small : (n : ℕ) → n ≤ most → (before : List (List ℤ)) (o : Option (List ℤ)) (later : List ℤ → Reading) → ((r : List ℤ) → SmallReading last most (later r))
+        → SmallReading last most (withLine n (judged check before o) later)
+    unfolding judged withLine
+    line-small n h before none later s = stop-small 14 n (omega arith) h
+    line-small n h before (some r) later s = go (check before r) (numbers before r)
+      where
+        go : (o : Option ℕ) → SmallGiven last o → SmallReading last most (withLine n (elim o [ none ↦ good r | some number ↦ bad number ]) later)
+        go none k = row-reading r (later r) (s r)
+        go (some number) k = stop-small number n k h
 
-  table-small : (last : Bool) (t : Table) (n : ℕ) (ls : List Bytes) → n + length ls ≤ most → SmallReading most (readTable last t n ls)
-  unfolding readTable
-  table-small last t n [] h = stop-small 13 n (omega arith) (omega arith)
-  table-small last t n (l ∷ ls) h = go (columns t l)
-    where
-      go : (o : Option Layout) → SmallReading most (elim o [ none ↦ stop 13 n | some y ↦ readValues last y (suc n) ls ])
-      go none = stop-small 13 n (omega arith) (omega arith)
-      go (some y) = values-small last y (suc n) ls (omega arith)
+    values-small : (final : Bool) (y : Layout) (n : ℕ) (before : List (List ℤ)) (ls : List Bytes) → n + length ls ≤ most
+        → SmallReading last most (readValues final check y n before ls)
+    unfolding readValues
+    values-small true y n before [] h = omega arith
+    values-small false y n before [] h = stop-small 13 n (omega arith) (omega arith)
+    values-small final y n before (l ∷ ls) h = go (isNil l && not final) (λ r. values-small final y (suc n) (r ∷ before) ls (omega arith))
+      where
+        go : (b : Bool) → ((r : List ℤ) → SmallReading last most (readValues final check y (suc n) (r ∷ before) ls))
+            → SmallReading last most (elim b [ true ↦ rows [] ls (suc n) | false ↦ withLine n (judged check before (rowOf y l)) (λ r. readValues final check y (suc n) (r ∷ before) ls) ])
+        go true later = omega arith
+        go false later = line-small n (omega arith) before (rowOf y l) (λ r. readValues final check y (suc n) (r ∷ before) ls) later
 
-  third-small : (ns es : List (List ℤ)) (reading : Reading) → SmallReading most reading → SmallAnswer (readThird ns es reading)
+    pub table-small : (final : Bool) (t : Table) (n : ℕ) (ls : List Bytes) → n + length ls ≤ most → SmallReading last most (readTable final check t n ls)
+    unfolding readTable
+    table-small final t n [] h = stop-small 13 n (omega arith) (omega arith)
+    table-small final t n (l ∷ ls) h = go (columns t l)
+      where
+        go : (o : Option Layout) → SmallReading last most (elim o [ none ↦ stop 13 n | some y ↦ readValues final check y (suc n) [] ls ])
+        go none = stop-small 13 n (omega arith) (omega arith)
+        go (some y) = values-small final y (suc n) [] ls (omega arith)
+
+-- ---- the three tables of a map file
+
+-- the check of a side or role gives 14
+key-small : (before : List (List ℤ)) (r : List ℤ) → SmallGiven lastOfText (checkSideOrRole before r)
+unfolding checkSideOrRole
+key-small before [] = tt
+key-small before (k ∷ r) = go (eqZ k (pos 0) || eqZ k (pos 1))
+  where
+    go : (b : Bool) → SmallGiven lastOfText (cond b none (some 14))
+    go true = tt
+    go false = omega arith
+
+module _ (most : ℕ) (low : most < 10000000) where
+  file-small : (final : Bool) (t : Table) (n : ℕ) (ls : List Bytes) → n + length ls ≤ most → SmallReading lastOfText most (readTable final checkSideOrRole t n ls)
+  file-small = table-small lastOfText (omega arith) most low checkSideOrRole key-small
+
+  third-small : (ns es : List (List ℤ)) (reading : Reading) → SmallReading lastOfText most reading → SmallAnswer lastOfText (readThird ns es reading)
   unfolding readThird
   third-small ns es (stopped r) s = s
   third-small ns es (rows ps ls n) s = tt
 
-  second-small : (ns : List (List ℤ)) (reading : Reading) → SmallReading most reading → SmallAnswer (readSecond ns reading)
+  second-small : (ns : List (List ℤ)) (reading : Reading) → SmallReading lastOfText most reading → SmallAnswer lastOfText (readSecond ns reading)
   unfolding readSecond
   second-small ns (stopped r) s = s
-  second-small ns (rows es ls n) s = third-small ns es (readTable true pairTable n ls) (table-small true pairTable n ls s)
+  second-small ns (rows es ls n) s = third-small ns es (readTable true checkSideOrRole pairTable n ls) (file-small true pairTable n ls s)
 
-  first-small : (reading : Reading) → SmallReading most reading → SmallAnswer (readFirst reading)
+  first-small : (reading : Reading) → SmallReading lastOfText most reading → SmallAnswer lastOfText (readFirst reading)
   unfolding readFirst
   first-small (stopped r) s = s
-  first-small (rows ns ls n) s = second-small ns (readTable false edgeTable n ls) (table-small false edgeTable n ls s)
+  first-small (rows ns ls n) s = second-small ns (readTable false checkSideOrRole edgeTable n ls) (file-small false edgeTable n ls s)
 
 -- ---- the text check
 
 -- the refusals of the reader are small
-map-small : (text : Bytes) → SmallAnswer (readMap text)
+map-small : (text : Bytes) → SmallAnswer lastOfText (readMap text)
 unfolding readMap
 map-small text = go (checkText text) refl
   where
     go : (o : Option Refusal) → checkText text ≡ o
-        → SmallAnswer {A = Tables} (elim o [ some r ↦ refused r | none ↦ readFirst (readTable false nodeTable 1 (lines text)) ])
-    go (some r) e = subst SmallCheck e (text-small text)
+        → SmallAnswer {A = Tables} lastOfText (elim o [ some r ↦ refused r | none ↦ readFirst (readTable false checkSideOrRole nodeTable 1 (lines text)) ])
+    go (some r) e = subst (SmallCheck lastOfText) e (text-small text)
     go none e =
         let short : 1 + length (lines text) ≤ suc maxText = omega (arith, lines-short text, checked-short text e) in
-        first-small (suc maxText) (omega arith) (readTable false nodeTable 1 (lines text))
-        (table-small (suc maxText) (omega arith) false nodeTable 1 (lines text) short)
+        first-small (suc maxText) (omega arith) (readTable false checkSideOrRole nodeTable 1 (lines text))
+        (file-small (suc maxText) (omega arith) false nodeTable 1 (lines text) short)
 
-answer-small : {A : Type 0} (o : Option Refusal) (a : A) → SmallCheck o → SmallAnswer (answer o a)
+pub answer-small : {A : Type 0} (o : Option Refusal) (a : A) → SmallCheck lastOfText o → SmallAnswer lastOfText (answer o a)
 unfolding answer
 answer-small none a s = tt
 answer-small (some r) a s = s
 
-read-small : (room : ℕ) (a : Answer Tables) → SmallAnswer a → SmallAnswer (checkRead room a)
+read-small : (room : ℕ) (a : Answer Tables) → SmallAnswer lastOfText a → SmallAnswer lastOfText (checkRead room a)
 unfolding checkRead checkOutput
 read-small room (refused r) s = s
 read-small room (full t) s =
     answer-small (checkTables t then checkOutput (length (report (findings t))) room) (reportedOf (findings t))
     (then-small (checkTables t) _ (tables-small t) (λ _. when-small (ltb room (length (report (findings t)))) (omega arith) (omega arith) (omega arith)))
 
-length-small : (a : Answer Reported) → SmallAnswer a → SmallAnswer (lengthOf (reportOf a))
+length-small : (a : Answer Reported) → SmallAnswer lastOfText a → SmallAnswer lastOfText (lengthOf (reportOf a))
 unfolding lengthOf reportOf
 length-small (refused r) s = s
 length-small (full c) s = tt
 
 -- the refusals of the text check are small
-pub gives-small : (text buffer : Bytes) {r : Refusal} → refused r ≡ textGives text buffer → SmallRefusal r
+pub gives-small : (text buffer : Bytes) {r : Refusal} → refused r ≡ textGives text buffer → SmallRefusal lastOfText r
 unfolding textGives textAnswer
 gives-small text buffer e =
     let small = length-small (textAnswer (length buffer) text) (read-small (length buffer) (readMap text) (map-small text)) in
-    subst SmallAnswer (sym e) small
+    subst (λ (a : Answer ℕ). SmallAnswer lastOfText a) (sym e) small
 
 -- ---- the length of a report
 

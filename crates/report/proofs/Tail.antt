@@ -5,7 +5,7 @@ use Prim.Native.Nat.{ℕ, suc, _+_, _-_, _≤_, _<_}
 use native.Mathlib.Numerals.{add-one}
 use native.Mathlib.Omega.{arith}
 use lib.ListN.{length, take, drop, set, getD, length-append, length-drop, drop-of-length-le}
-use lib.Seq.{take-at, take-all, take-suc, drop-at, drop-drop, drop-cons, set-at}
+use lib.Seq.{take-at, take-all, take-length, take-append-le, take-suc, drop-at, drop-drop, drop-cons, set-at}
 use Rattle.model.specs.Bytes.{Bytes}
 use Rattle.report.specs.Put.{Put}
 
@@ -74,3 +74,12 @@ put-next text {old} {out} {at} p i h = rw (taken text at i) (put-byte (getD text
 pub put-behind : {line out tail : Bytes} {n : ℕ} (x : ℕ) → 0 < length out → Put line (take (length (set out 0 x) - 1) (drop 1 (set out 0 x))) tail n
     → Put (x ∷ line) out (take 1 (set out 0 x) ++ (tail ++ drop (length (set out 0 x) - 1) (drop 1 (set out 0 x)))) (1 + n)
 put-behind {line} {out} {tail} x h q = put-tail (put-byte x (put-none out) h) q
+
+-- what was put lies within the buffer
+pub put-within : {line before after : Bytes} {n : ℕ} → Put line before after n → n ≤ length after
+put-within {line} {before} p = omega (arith, p .count, ap length (p .stands) ∙ length-append line (drop (length line) before))
+
+-- the front of the buffer, as long as what was put, is what was put
+pub put-front : {line before after : Bytes} {n : ℕ} → Put line before after n → take n after ≡ line
+put-front {line} {before} {after} p = ap (λ (k : ℕ). take k after) (p .count) ∙ ap (take (length line)) (p .stands) ∙ take-append-le (length line) line (drop (length line) before) (omega arith)
+    ∙ take-length line

@@ -16,7 +16,8 @@ use Rattle.integers.specs.Integers.{eqZ}
 use Rattle.integers.proofs.Tests.{Test, passed, failed, ltb?, is-false, eqZ→eq}
 use Rattle.lists.proofs.Places.{map-at}
 use Rattle.model.specs.Bytes.{Bytes}
-use Rattle.model.specs.Reader.{Layout, fieldsOf, valuesOf, keyed, arranged, rowOf}
+use Rattle.model.specs.Reader.{Layout, fieldsOf, valuesOf, arranged, rowOf, checkSideOrRole, bad, good, judged}
+use Rattle.filerules.proofs.RowChecks.{judged-none, judged-good, judged-bad}
 use Rattle.cursor.specs.Parts.{firstLine, exactly, lineValues}
 use Rattle.columns.specs.declared.Columns.{Columns}
 use Rattle.columns.specs.Given.{columnList, layoutIn, GoodColumns}
@@ -43,15 +44,16 @@ arranged-exactly y none = refl
 arranged-exactly y (some vs) = go (eqb (length vs) (y .fields)) refl
   where
     go : (b : Bool) → eqb (length vs) (y .fields) ≡ b
-        → arranged y (cond b (some vs) none) ≡ cond b (keyed (map (λ c. getD vs c (pos 0)) (y .at))) none
+        → arranged y (cond b (some vs) none) ≡ cond b (some (map (λ c. getD vs c (pos 0)) (y .at))) none
     go true e = rw e refl
     go false e = refl
 
 -- ---- the row of a line
 
-keyed-none : (k : ℤ) (r : List ℤ) → k ≢ pos 0 → k ≢ pos 1 → keyed (k ∷ r) ≡ none
-unfolding keyed
-keyed-none k r p q = rw (is-false (eqZ k (pos 0)) (λ t. p (eqZ→eq k (pos 0) t)), is-false (eqZ k (pos 1)) (λ t. q (eqZ→eq k (pos 1) t))) refl
+-- side or role that is neither 0 nor 1
+keyless-check : (k : ℤ) (r : List ℤ) → k ≢ pos 0 → k ≢ pos 1 → checkSideOrRole [] (k ∷ r) ≡ some 14
+unfolding checkSideOrRole
+keyless-check k r p q = rw (is-false (eqZ k (pos 0)) (λ t. p (eqZ→eq k (pos 0) t)), is-false (eqZ k (pos 1)) (λ t. q (eqZ→eq k (pos 1) t))) refl
 
 -- side or role of a row
 abbrev pub rowKey : Columns → List ℤ → ℤ
@@ -74,6 +76,10 @@ module _ {cs : Columns} (g : GoodColumns cs) (t : Bytes) where
   unfolding arranged
   row-broken e = row-values ∙ rw e refl
 
+  -- and so is refused
+  pub line-broken : lineValues (cs .fields) t ≡ none → judged checkSideOrRole [] (rowOf (layoutIn cs) (firstLine t)) ≡ bad 14
+  line-broken e = judged-none checkSideOrRole [] (row-broken e)
+
   module _ (row : List ℤ) (room : rowRoom ≤ length row) (clear : Clear cs row) where
     numbers-key : numbersAt (columnList cs) row ≡ rowKey cs row ∷ rowNumbers cs row
     numbers-key =
@@ -82,28 +88,32 @@ module _ {cs : Columns} (g : GoodColumns cs) (t : Bytes) where
         ∙ rw (getD-take (cs .count) (cs .at) 0 0 (omega (arith, g .several))) refl
 
     module _ (values : lineValues (cs .fields) t ≡ some (take (cs .fields) row)) where
-      row-keyed : rowOf (layoutIn cs) (firstLine t) ≡ keyed (rowKey cs row ∷ rowNumbers cs row)
+      -- the row is the numbers at the columns
+      pub row-numbers : rowOf (layoutIn cs) (firstLine t) ≡ some (numbersAt (columnList cs) row)
       unfolding arranged
-      row-keyed =
+      row-numbers =
           let many : length (take (cs .fields) row) ≡ cs .fields = length-take-le (cs .fields) row (omega (arith, g .fewFields)) in
           let most : (j : ℕ) → j < length (columnList cs) → getD (columnList cs) j 0 ≤ cs .fields =
           λ j h. let k : j < cs .count = omega (arith, g .whole) in rw (getD-take (cs .count) (cs .at) j 0 k) (g .within j k) in
           row-values ∙ rw (values, eq-eqb (length (take (cs .fields) row)) (cs .fields) many)
-          (ap keyed (numbers-take (cs .fields) (columnList cs) row clear most ∙ numbers-key))
+          (ap some (numbers-take (cs .fields) (columnList cs) row clear most))
+
+      row-given : rowOf (layoutIn cs) (firstLine t) ≡ some (rowKey cs row ∷ rowNumbers cs row)
+      row-given = row-numbers ∙ ap some numbers-key
 
       -- side or role 0
-      pub row-first : rowKey cs row ≡ pos 0 → rowOf (layoutIn cs) (firstLine t) ≡ some (pos 0 ∷ rowNumbers cs row)
-      unfolding keyed
-      row-first e = row-keyed ∙ rw e refl
+      pub row-first : rowKey cs row ≡ pos 0 → judged checkSideOrRole [] (rowOf (layoutIn cs) (firstLine t)) ≡ good (pos 0 ∷ rowNumbers cs row)
+      unfolding checkSideOrRole
+      row-first e = judged-good checkSideOrRole [] (row-given ∙ rw e refl) refl
 
       -- side or role 1
-      pub row-second : rowKey cs row ≡ pos 1 → rowOf (layoutIn cs) (firstLine t) ≡ some (pos 1 ∷ rowNumbers cs row)
-      unfolding keyed
-      row-second e = row-keyed ∙ rw e refl
+      pub row-second : rowKey cs row ≡ pos 1 → judged checkSideOrRole [] (rowOf (layoutIn cs) (firstLine t)) ≡ good (pos 1 ∷ rowNumbers cs row)
+      unfolding checkSideOrRole
+      row-second e = judged-good checkSideOrRole [] (row-given ∙ rw e refl) refl
 
       -- another
-      pub row-keyless : rowKey cs row ≢ pos 0 → rowKey cs row ≢ pos 1 → rowOf (layoutIn cs) (firstLine t) ≡ none
-      row-keyless p q = row-keyed ∙ keyed-none (rowKey cs row) (rowNumbers cs row) p q
+      pub row-keyless : rowKey cs row ≢ pos 0 → rowKey cs row ≢ pos 1 → judged checkSideOrRole [] (rowOf (layoutIn cs) (firstLine t)) ≡ bad 14
+      row-keyless p q = judged-bad checkSideOrRole [] row-given (keyless-check (rowKey cs row) (rowNumbers cs row) p q)
 
 -- ---- the numbers of a row, appended
 

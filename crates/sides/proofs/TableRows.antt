@@ -16,14 +16,14 @@ use Rattle.lists.specs.Lists.{isNil}
 use Rattle.model.specs.Bytes.{Bytes}
 use Rattle.model.specs.MapFile.{lines}
 use Rattle.model.specs.Answers.{numbered}
-use Rattle.model.specs.Reader.{Layout, rowOf, Reading, stopped, rows, withRow, stop, readValues, rowsWith}
+use Rattle.model.specs.Reader.{Layout, rowOf, checkSideOrRole, ValueLine, bad, good, judged, Reading, stopped, rows, withRow, stop, withLine, readValues, rowsWith}
 use Rattle.cursor.specs.declared.Cursor.{Cursor}
 use Rattle.cursor.specs.Parts.{firstLine, laterLines}
 use Rattle.cursor.specs.Given.{InText, Stands}
 use Rattle.cursor.proofs.Lines.{lines-none, lines-more, later-behind, later-empty}
 use Rattle.columns.specs.declared.Columns.{Columns}
 use Rattle.columns.specs.Given.{layoutIn}
-use Rattle.sides.specs.Given.{Stored, Appended, RowsRead}
+use Rattle.sides.specs.Given.{lineAt, Stored, Appended, RowsRead}
 
 -- ---- numbers of a side or role
 
@@ -128,24 +128,63 @@ unfolding withRow
 with-more done r (stopped f) = refl
 with-more done r (rows rs rest n) = ap (λ (l : List (List ℤ)). rows l rest n) (sym (append-assoc done (r ∷ []) rs))
 
+-- the check of a side or role does not depend on the rows before
+judged-alone : (before : List (List ℤ)) (o : Option (List ℤ)) → judged checkSideOrRole before o ≡ judged checkSideOrRole [] o
+unfolding judged checkSideOrRole
+judged-alone before none = refl
+judged-alone before (some []) = refl
+judged-alone before (some (k ∷ r)) = refl
+
+with-line-same : (n : ℕ) (v : ValueLine) (f g : List ℤ → Reading) → ((r : List ℤ) → f r ≡ g r) → withLine n v f ≡ withLine n v g
+unfolding withLine
+with-line-same n (bad k) f g h = refl
+with-line-same n (good r) f g h = ap (withRow r) (h r)
+
+-- and so neither does the reading
+values-alone : (last : Bool) (y : Layout) (n : ℕ) (before : List (List ℤ)) (ls : List Bytes)
+    → readValues last checkSideOrRole y n before ls ≡ readValues last checkSideOrRole y n [] ls
+unfolding readValues
+values-alone last y n before [] = refl
+values-alone last y n before (l ∷ ls) =
+    go (isNil l && not last) (λ b r. values-alone last y (suc n) (r ∷ b) ls)
+  where
+    go : (e : Bool) → ((b : List (List ℤ)) (r : List ℤ) → readValues last checkSideOrRole y (suc n) (r ∷ b) ls ≡ readValues last checkSideOrRole y (suc n) [] ls)
+        → _≡_ {A = Reading}
+        (elim e [ true ↦ rows [] ls (suc n) | false ↦ withLine n (judged checkSideOrRole before (rowOf y l)) (λ r. readValues last checkSideOrRole y (suc n) (r ∷ before) ls) ])
+        (elim e [ true ↦ rows [] ls (suc n) | false ↦ withLine n (judged checkSideOrRole [] (rowOf y l)) (λ r. readValues last checkSideOrRole y (suc n) (r ∷ []) ls) ])
+    go true rec = refl
+    go false rec =
+        ap (λ (v : ValueLine). withLine n v (λ r. readValues last checkSideOrRole y (suc n) (r ∷ before) ls)) (judged-alone before (rowOf y l))
+        ∙ with-line-same n (judged checkSideOrRole [] (rowOf y l)) (λ r. readValues last checkSideOrRole y (suc n) (r ∷ before) ls)
+        (λ r. readValues last checkSideOrRole y (suc n) (r ∷ []) ls) (λ r. rec before r ∙ sym (rec [] r))
+
 module _ (last : Bool) (y : Layout) (n : ℕ) (l : Bytes) (ls : List Bytes) where
-  value-line : {b : Bool} → (isNil l && not last) ≡ b → readValues last y n (l ∷ ls)
-      ≡ elim b [ true ↦ rows [] ls (suc n) | false ↦ elim (rowOf y l) [ none ↦ stop 14 n | some r ↦ withRow r (readValues last y (suc n) ls) ] ]
+  value-line : {b : Bool} → (isNil l && not last) ≡ b → readValues last checkSideOrRole y n [] (l ∷ ls)
+      ≡ elim b [ true ↦ rows [] ls (suc n) | false ↦ withLine n (judged checkSideOrRole [] (rowOf y l)) (λ r. readValues last checkSideOrRole y (suc n) (r ∷ []) ls) ]
   unfolding readValues
   value-line e =
-      subst (λ (b : Bool). readValues last y n (l ∷ ls)
-      ≡ elim b [ true ↦ rows [] ls (suc n) | false ↦ elim (rowOf y l) [ none ↦ stop 14 n | some r ↦ withRow r (readValues last y (suc n) ls) ] ]) e refl
+      subst (λ (b : Bool). readValues last checkSideOrRole y n [] (l ∷ ls)
+      ≡ elim b [ true ↦ rows [] ls (suc n) | false ↦ withLine n (judged checkSideOrRole [] (rowOf y l)) (λ r. readValues last checkSideOrRole y (suc n) (r ∷ []) ls) ]) e refl
 
-  value-row : {o : Option (List ℤ)} → (isNil l && not last) ≡ false → rowOf y l ≡ o
-      → readValues last y n (l ∷ ls) ≡ elim o [ none ↦ stop 14 n | some r ↦ withRow r (readValues last y (suc n) ls) ]
-  value-row e q = value-line e ∙ ap (λ (o : Option (List ℤ)). elim o [ none ↦ stop 14 n | some r ↦ withRow r (readValues last y (suc n) ls) ]) q
+  -- a line that is refused
+  value-bad : {k : ℕ} → (isNil l && not last) ≡ false → judged checkSideOrRole [] (rowOf y l) ≡ bad k → readValues last checkSideOrRole y n [] (l ∷ ls) ≡ stop k n
+  unfolding withLine
+  value-bad e q = value-line e ∙ ap (λ (v : ValueLine). withLine n v (λ r. readValues last checkSideOrRole y (suc n) (r ∷ []) ls)) q
+
+  -- a line that is taken
+  value-row : {r : List ℤ} → (isNil l && not last) ≡ false → judged checkSideOrRole [] (rowOf y l) ≡ good r
+      → readValues last checkSideOrRole y n [] (l ∷ ls) ≡ withRow r (readValues last checkSideOrRole y (suc n) [] ls)
+  unfolding withLine
+  value-row {r} e q =
+      value-line e ∙ ap (λ (v : ValueLine). withLine n v (λ r. readValues last checkSideOrRole y (suc n) (r ∷ []) ls)) q
+      ∙ ap (withRow r) (values-alone last y (suc n) (r ∷ []) ls)
 
 -- rows of the table from c₀ on are read, and the cursor c stands before the other lines
 pub record RowsLeft (text : Bytes) (cs : Columns) (last : Bool) (room : ℕ) (first₀ second₀ : List ℤ) (c₀ : Cursor)
     (first second : List ℤ) (c : Cursor) (n m : ℕ) : Type 0 where
   pub done : List (List ℤ)
-  pub same : readValues last (layoutIn cs) (c₀ .line) (lines (drop (c₀ .at) text))
-      ≡ withRows done (readValues last (layoutIn cs) (c .line) (lines (drop (c .at) text)))
+  pub same : readValues last checkSideOrRole (layoutIn cs) (c₀ .line) [] (lines (drop (c₀ .at) text))
+      ≡ withRows done (readValues last checkSideOrRole (layoutIn cs) (c .line) [] (lines (drop (c .at) text)))
   pub inText : InText text c
   pub inFirst : Held room (cs .count - 1) (rowsWith (pos 0) done) first₀ first n
   pub inSecond : Held room (cs .count - 1) (rowsWith (pos 1) done) second₀ second m
@@ -157,7 +196,7 @@ unfolding rowsWith
 rows-start {text} {c} cs last {room} most first second p e =
     record {
       done = [];
-      same = sym (with-none (readValues last (layoutIn cs) (c .line) (lines (drop (c .at) text))));
+      same = sym (with-none (readValues last checkSideOrRole (layoutIn cs) (c .line) [] (lines (drop (c .at) text))));
       inText = p;
       inFirst = held-none room (cs .count - 1) most first e;
       inSecond = held-none room (cs .count - 1) most second e;
@@ -167,7 +206,7 @@ module _ {text : Bytes} {cs : Columns} {last : Bool} {room : ℕ} {first₀ seco
     (l : RowsLeft text cs last room first₀ second₀ c₀ first second c n m) where
   -- what is read from c₀ on
   abbrev pub readFrom : Reading
-  readFrom = readValues last (layoutIn cs) (c₀ .line) (lines (drop (c₀ .at) text))
+  readFrom = readValues last checkSideOrRole (layoutIn cs) (c₀ .line) [] (lines (drop (c₀ .at) text))
 
   -- no line is left
   module _ (end : length text ≤ c .at) where
@@ -214,32 +253,37 @@ module _ {text : Bytes} {cs : Columns} {last : Bool} {room : ℕ} {first₀ seco
         both-first false e = e
 
     module _ (goes : (isNil (firstLine (drop (c .at) text)) && not last) ≡ false) where
-      left-row : {o : Option (List ℤ)} → rowOf (layoutIn cs) (firstLine (drop (c .at) text)) ≡ o
-          → readValues last (layoutIn cs) (c .line) (lines (drop (c .at) text))
-          ≡ elim o [ none ↦ stop 14 (c .line) | some r ↦ withRow r (readValues last (layoutIn cs) (suc (c .line)) (lines (laterLines (drop (c .at) text)))) ]
-      left-row e =
-          ap (readValues last (layoutIn cs) (c .line)) (lines-more text (c .at) more)
-          ∙ value-row last (layoutIn cs) (c .line) (firstLine (drop (c .at) text)) (lines (laterLines (drop (c .at) text))) goes e
-
-      -- a line that is no row
-      pub rows-bad : rowOf (layoutIn cs) (firstLine (drop (c .at) text)) ≡ none → readFrom ≡ stopped (numbered 14 6 (c .line))
+      -- a line that is refused
+      pub rows-bad : {k : ℕ} → lineAt text c cs ≡ bad k → readFrom ≡ stopped (numbered k 6 (c .line))
       unfolding stop
-      rows-bad e = l .same ∙ rw (left-row e) refl
+      rows-bad e =
+          l .same
+          ∙ rw (
+            lines-more text (c .at) more,
+            value-bad last (layoutIn cs) (c .line) (firstLine (drop (c .at) text)) (lines (laterLines (drop (c .at) text))) goes e,
+          ) refl
 
       module _ {d : Cursor} (s : Stands text (laterLines (drop (c .at) text)) (suc (c .line)) d) where
         -- the next line starts behind this one
         pub rows-onward : c .at < d .at
         rows-onward = later-behind text (c .at) more s
 
-        left-more : {r : List ℤ} → rowOf (layoutIn cs) (firstLine (drop (c .at) text)) ≡ some r
-            → readFrom ≡ withRows (l .done ++ (r ∷ [])) (readValues last (layoutIn cs) (d .line) (lines (drop (d .at) text)))
-        left-more {r} e = l .same ∙ rw (left-row e, s .line, s .before) (with-more (l .done) r _)
+        left-more : {r : List ℤ} → lineAt text c cs ≡ good r
+            → readFrom ≡ withRows (l .done ++ (r ∷ [])) (readValues last checkSideOrRole (layoutIn cs) (d .line) [] (lines (drop (d .at) text)))
+        left-more {r} e =
+            l .same
+            ∙ rw (
+              lines-more text (c .at) more,
+              value-row last (layoutIn cs) (c .line) (firstLine (drop (c .at) text)) (lines (laterLines (drop (c .at) text))) goes e,
+              s .line,
+              s .before,
+            ) (with-more (l .done) r _)
 
         left-in-text : InText text d
         left-in-text = record { within = s .within; low = omega (arith, l .inText .low, s .line, rows-onward) }
 
         -- a row of side or role 0
-        pub rows-first : {r next : List ℤ} {k : ℕ} → rowOf (layoutIn cs) (firstLine (drop (c .at) text)) ≡ some (pos 0 ∷ r)
+        pub rows-first : {r next : List ℤ} {k : ℕ} → lineAt text c cs ≡ good (pos 0 ∷ r)
             → length r ≡ cs .count - 1 → 2 ≤ cs .count → room ≤ length first₀ → Appended room r first next n k
             → RowsLeft text cs last room first₀ second₀ c₀ next second d k m
         rows-first {r} e long several space a =
@@ -252,7 +296,7 @@ module _ {text : Bytes} {cs : Columns} {last : Bool} {room : ℕ} {first₀ seco
             }
 
         -- a row of side or role 1
-        pub rows-second : {r next : List ℤ} {k : ℕ} → rowOf (layoutIn cs) (firstLine (drop (c .at) text)) ≡ some (pos 1 ∷ r)
+        pub rows-second : {r next : List ℤ} {k : ℕ} → lineAt text c cs ≡ good (pos 1 ∷ r)
             → length r ≡ cs .count - 1 → 2 ≤ cs .count → room ≤ length second₀ → Appended room r second next m k
             → RowsLeft text cs last room first₀ second₀ c₀ first next d n k
         rows-second {r} e long several space a =

@@ -1,8 +1,7 @@
 -- What the functions of value lines give: rows of side or role 0 and 1, in two slices. Assumes nothing.
 use mathlib.Core.Path.{_≡_}
 use mathlib.Core.Bool.{cond}
-use mathlib.Core.List.{List, _∷_, _++_, map}
-use mathlib.Core.Option.{none, some}
+use mathlib.Core.List.{List, [], _∷_, _++_, map}
 use Prim.Native.Nat.{ℕ, suc, _+_, _-_, _*_}
 use lib.Dec.{leb}
 use lib.IntN.{ℤ, pos}
@@ -10,7 +9,7 @@ use lib.ListN.{length, take, drop, getD}
 use Rattle.model.specs.Bytes.{Bytes}
 use Rattle.model.specs.MapFile.{lines}
 use Rattle.model.specs.Answers.{refusalOf}
-use Rattle.model.specs.Reader.{rowOf, Reading, stopped, rows, rowsWith}
+use Rattle.model.specs.Reader.{rowOf, checkSideOrRole, ValueLine, bad, good, judged, Reading, stopped, rows, rowsWith}
 use Rattle.cursor.specs.declared.Cursor.{Cursor}
 use Rattle.cursor.specs.Parts.{firstLine, laterLines}
 use Rattle.cursor.specs.Given.{InText, Stands}
@@ -41,15 +40,15 @@ numbersAt cs row = map (λ c. getD row c (pos 0)) cs
 abbrev pub rowNumbers : Columns → List ℤ → List ℤ
 rowNumbers cs row = numbersAt (drop 1 (columnList cs)) row
 
+-- the value line that starts at a place of the text. Its check does not look at the rows before
+abbrev pub lineAt : Bytes → Cursor → Columns → ValueLine
+lineAt text c cs = judged checkSideOrRole [] (rowOf (layoutIn cs) (firstLine (drop (c .at) text)))
+
 -- a row of side or role 0 or 1, with the cursor before the next line
 abbrev pub RowGiven : Bytes → Cursor → Columns → List ℤ → Row → Type 0
-RowGiven text c cs row (rowRead.First d) =
-    (rowOf (layoutIn cs) (firstLine (drop (c .at) text)) ≡ some (pos 0 ∷ rowNumbers cs row))
-    × Stands text (laterLines (drop (c .at) text)) (suc (c .line)) d
-RowGiven text c cs row (rowRead.Second d) =
-    (rowOf (layoutIn cs) (firstLine (drop (c .at) text)) ≡ some (pos 1 ∷ rowNumbers cs row))
-    × Stands text (laterLines (drop (c .at) text)) (suc (c .line)) d
-RowGiven text c cs row rowRead.Bad = rowOf (layoutIn cs) (firstLine (drop (c .at) text)) ≡ none
+RowGiven text c cs row (rowRead.First d) = (lineAt text c cs ≡ good (pos 0 ∷ rowNumbers cs row)) × Stands text (laterLines (drop (c .at) text)) (suc (c .line)) d
+RowGiven text c cs row (rowRead.Second d) = (lineAt text c cs ≡ good (pos 1 ∷ rowNumbers cs row)) × Stands text (laterLines (drop (c .at) text)) (suc (c .line)) d
+RowGiven text c cs row rowRead.Bad = lineAt text c cs ≡ bad 14
 
 -- numbers appended behind n numbers of a table, where the room lasts for them
 pub record Appended (room : ℕ) (numbers before after : List ℤ) (n m : ℕ) : Type 0 where

@@ -1,11 +1,12 @@
 // The value lines of a table, read as rows: those of side or role 0 go to one slice, those of 1 to another.
 ghost use mathlib.Core.Path.{_≡_};
 ghost use mathlib.Core.Bool.{not, _&&_};
+ghost use mathlib.Core.List.{[]};
 ghost use Prim.Native.Nat.{_≤_, _<_};
 ghost use lib.ListN.{length, drop};
 ghost use Rattle.lists.specs.Lists.{isNil};
 ghost use Rattle.model.specs.MapFile.{lines};
-ghost use Rattle.model.specs.Reader.{readValues};
+ghost use Rattle.model.specs.Reader.{checkSideOrRole, readValues};
 ghost use Rattle.cursor.specs.Parts.{firstLine};
 ghost use Rattle.cursor.specs.Given.{InText};
 ghost use Rattle.columns.specs.Given.{layoutIn, GoodColumns};
@@ -100,7 +101,7 @@ pub fn read_rows(
     second: &mut [i64],
 ) -> Rows
     requires { ⌜ InText (now text) from × GoodColumns cs × Roomy cs room × (room ≤ length (now first)) × (room ≤ length (now second)) ⌝ }
-    ensures { λ r. ⌜ RowsGiven (readValues last (layoutIn cs) (from .line) (lines (drop (from .at) (now (text .entry))))) (now (text .entry)) room (now (first .entry)) (now (first .exit)) (now (second .entry)) (now (second .exit)) r ⌝ }
+    ensures { λ r. ⌜ RowsGiven (readValues last checkSideOrRole (layoutIn cs) (from .line) [] (lines (drop (from .at) (now (text .entry))))) (now (text .entry)) room (now (first .entry)) (now (first .exit)) (now (second .entry)) (now (second .exit)) r ⌝ }
 {
     let mut row = [0i64; ROW_ROOM];
     let mut c = from;

@@ -11,6 +11,7 @@ use Rattle.model.specs.Calls.{refused, full}
 use Rattle.model.specs.Answers.{refusalOf, writtenAnswer}
 use Rattle.model.specs.TextCheck.{coded, textGives}
 use Rattle.textcheck.proofs.Promises.{text-promise}
+use Rattle.refusals.proofs.Checks.{small-wide}
 use Rattle.refusals.proofs.Texts.{gives-small, gives-held}
 use Rattle.healdrip.proofs.Codes.{coded-length}
 use Rattle.healdrip.proofs.healdrip_text_check.Statement.{statement}
@@ -44,7 +45,7 @@ cast-result : tie.Need-cast-result
 cast-result c = fits64 (omega (arith, low c))
 
 negative-code-requires : tie.Need-negative-code-requires
-negative-code-requires c κs = let s = start (refused-of c) in rw (c .refusal-numbers .ensures) (gives-small (s .args .text .now) (s .args .report .now) (told c))
+negative-code-requires c κs = let s = start (refused-of c) in rw (c .refusal-numbers .ensures) (small-wide (gives-small (s .args .text .now) (s .args .report .now) (told c)))
 
 returns : tie.Need-returns
 returns c = let s = start (checked c) in

@@ -3,7 +3,7 @@ use Prim.Native.Nat.{ℕ, suc}
 use borrow.Author.Needs.{needs}
 use lib.ListN.{length, length-replicate}
 use Rattle.model.specs.Limits.{maxText}
-use Rattle.mapcheck.proofs.Printing.{input-within, input-full}
+use Rattle.input.proofs.Reading.{input-within, input-full}
 use Rattle.mapcheck.proofs.main.Statement.{statement}
 use Rattle.mapcheck.proofs.main.Tie as tie
 

@@ -1,7 +1,8 @@
 -- What is lent to be written is the front of the buffer, as long as what was put there.
 use native.Mathlib.Omega.{arith}
 use borrow.Author.Needs.{needs}
-use Rattle.mapcheck.proofs.Printing.{front-length, put-within, put-front}
+use Rattle.report.proofs.Tail.{put-within, put-front}
+use Rattle.input.proofs.Reading.{front-length}
 use Rattle.mapcheck.proofs.print_text.Statement.{statement}
 use Rattle.mapcheck.proofs.print_text.Tie as tie
 

@@ -7,7 +7,7 @@ use lib.ListN.{drop}
 use Rattle.model.specs.MapFile.{lines, nodeTable, edgeTable, pairTable}
 use Rattle.model.specs.Calls.{full}
 use Rattle.model.specs.Answers.{checkedAnswer}
-use Rattle.model.specs.Reader.{checkText, readTable, tablesOf}
+use Rattle.model.specs.Reader.{checkText, checkSideOrRole, readTable, tablesOf}
 use Rattle.characters.proofs.Text.{checked}
 use Rattle.sides.specs.declared.Rows.{Rows}
 use Rattle.sides.specs.Given.{RowsGiven, RowsRead}
@@ -30,7 +30,7 @@ taken n =
 abbrev NodesGiven : tie.After-read-table → Rows → Type 0
 NodesGiven n =
     let s = Entry n .args in
-    RowsGiven (readTable false nodeTable 1 (lines (s .text .now))) (s .text .now) nodeRoom
+    RowsGiven (readTable false checkSideOrRole nodeTable 1 (lines (s .text .now))) (s .text .now) nodeRoom
     (s .spec-nodes .now) (n .read-table .last .1 .1 .1 .0) (s .impl-nodes .now) (n .read-table .last .1 .1 .1 .1 .0)
 
 nodes-given : (n : tie.After-read-table) → NodesGiven n (n .read-table .result)
@@ -40,7 +40,7 @@ abbrev Nodes : tie.After-rows2 → tie.After-read-table
 Nodes r = r .before .before .before .before
 
 nodes-read : (r : tie.After-rows2) → let n = Nodes r in let s = Entry n .args in let k = r .rows2 .given .0 in
-    RowsRead (readTable false nodeTable 1 (lines (s .text .now))) (s .text .now) nodeRoom
+    RowsRead (readTable false checkSideOrRole nodeTable 1 (lines (s .text .now))) (s .text .now) nodeRoom
     (s .spec-nodes .now) (n .read-table .last .1 .1 .1 .0) (s .impl-nodes .now) (n .read-table .last .1 .1 .1 .1 .0)
     (k .0) (k .1 .0 .first) (k .1 .0 .second)
 nodes-read r = subst (NodesGiven (Nodes r)) (r .rows2 .given .1) (nodes-given (Nodes r))
@@ -51,7 +51,7 @@ EdgesGiven e =
     let r = e .before .before .before .before in
     let s = Entry (Nodes r) .args in
     let c = r .rows2 .given .0 .0 in
-    RowsGiven (readTable false edgeTable (c .line) (lines (drop (c .at) (s .text .now)))) (s .text .now) edgeRoom
+    RowsGiven (readTable false checkSideOrRole edgeTable (c .line) (lines (drop (c .at) (s .text .now)))) (s .text .now) edgeRoom
     (s .spec-edges .now) (e .read-table2 .last .1 .1 .1 .0) (s .impl-edges .now) (e .read-table2 .last .1 .1 .1 .1 .0)
 
 abbrev Before : tie.After-rows4 → tie.After-rows2
@@ -59,7 +59,7 @@ Before t = t .before .before .before .before .before .before .before .before
 
 edges-read : (t : tie.After-rows4) → let e = t .before .before .before .before in let s = Entry (Nodes (Before t)) .args in
     let c = Before t .rows2 .given .0 .0 in let k = t .rows4 .given .0 in
-    RowsRead (readTable false edgeTable (c .line) (lines (drop (c .at) (s .text .now)))) (s .text .now) edgeRoom
+    RowsRead (readTable false checkSideOrRole edgeTable (c .line) (lines (drop (c .at) (s .text .now)))) (s .text .now) edgeRoom
     (s .spec-edges .now) (e .read-table2 .last .1 .1 .1 .0) (s .impl-edges .now) (e .read-table2 .last .1 .1 .1 .1 .0)
     (k .0) (k .1 .0 .first) (k .1 .0 .second)
 edges-read t = let e = t .before .before .before .before in subst (EdgesGiven e) (t .rows4 .given .1) (e .read-table2 .ensures)
@@ -70,7 +70,7 @@ PairsGiven p =
     let t = p .before .before .before .before in
     let s = Entry (Nodes (Before t)) .args in
     let c = t .rows4 .given .0 .0 in
-    RowsGiven (readTable true pairTable (c .line) (lines (drop (c .at) (s .text .now)))) (s .text .now) pairRoom
+    RowsGiven (readTable true checkSideOrRole pairTable (c .line) (lines (drop (c .at) (s .text .now)))) (s .text .now) pairRoom
     (s .root-pairs .now) (p .read-table3 .last .1 .1 .1 .0) (s .leaf-pairs .now) (p .read-table3 .last .1 .1 .1 .1 .0)
 
 returns : tie.Need-returns

@@ -2,6 +2,7 @@
 use mathlib.Core.Path.{sym, _∙_}
 use borrow.Author.Needs.{needs}
 use borrow.Author.Tests.{not-true, not-false}
+use Rattle.model.specs.Reader.{checkSideOrRole}
 use Rattle.mapfile.specs.Given.{isLast}
 use Rattle.mapfile.proofs.ReadTables.{file-regular, file-several, file-few, file-room, table-wrong, table-good, table-in-text, table-values, table-room}
 use Rattle.mapfile.proofs.read_table.Statement.{statement}
@@ -12,7 +13,7 @@ returns c =
     let k = c .before .before in
     let s = k .before .before .before in
     let f = s .args .table in
-    table-wrong (file-regular f) (file-several f) (s .pre .0) (k .table-columns .ensures) (isLast f) (sym (c .before .complete .ensures) ∙ not-true _ (c .if1 .taken))
+    table-wrong (file-regular f) (file-several f) (s .pre .0) (k .table-columns .ensures) (isLast f) checkSideOrRole (sym (c .before .complete .ensures) ∙ not-true _ (c .if1 .taken))
 
 read-rows-requires : tie.Need-read-rows-requires
 read-rows-requires c κs =
@@ -42,7 +43,7 @@ returns-2 c =
     let f = s .args .table in
     let all = sym (e .before .complete .ensures) ∙ not-false _ (e .if1 .left) in
     let values = table-values (file-regular f) (file-several f) (s .pre .0) (k .table-columns .ensures) all (k .before .count-fields .ensures .1) in
-    rw (values (isLast f), ← m .before .is-last .ensures, ← m .room-of .ensures) (r .read-rows .ensures)
+    rw (values (isLast f) checkSideOrRole, ← m .before .is-last .ensures, ← m .room-of .ensures) (r .read-rows .ensures)
 
 pub read-table-spec : {M : Type 1} → statement M
 read-table-spec =

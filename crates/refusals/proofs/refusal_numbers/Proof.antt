@@ -58,10 +58,20 @@ returns-15 c = by-case (c .numbered15 .ensures) (c .before .enum-told2 .given .1
 returns-16 : tie.Need-returns-16
 returns-16 c = by-case (c .numbered16 .ensures) (c .before .before .reason14 .given .1)
 
+returns-17 : tie.Need-returns-17
+returns-17 c = by-case (c .numbered17 .ensures) (c .before .before .reason15 .given .1)
+
+returns-18 : tie.Need-returns-18
+returns-18 c = by-case (c .numbered18 .ensures) (c .before .before .reason16 .given .1)
+
 pub refusal-numbers-spec : {M : Type 1} → statement M
 refusal-numbers-spec =
     tie.close
     (tie.spec
+    (λ c. search needs)
+    (λ c κs. search needs)
+    (λ c. search needs)
+    (λ c κs. search needs)
     (λ c. search needs)
     (λ c κs. search needs)
     (λ c. search needs)
@@ -109,4 +119,6 @@ refusal-numbers-spec =
     returns-13
     returns-14
     returns-15
-    returns-16)
+    returns-16
+    returns-17
+    returns-18)

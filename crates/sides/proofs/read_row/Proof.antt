@@ -12,7 +12,7 @@ use mir.Facts.{toZ-ofZ}
 use Rattle.cursor.specs.declared.Line.{Line}
 use Rattle.cursor.specs.Given.{LineGiven}
 use Rattle.sides.specs.Given.{rowRoom, Clear}
-use Rattle.sides.proofs.RowLines.{clear-kept, row-broken, row-first, row-second, row-keyless}
+use Rattle.sides.proofs.RowLines.{clear-kept, line-broken, row-first, row-second, row-keyless}
 use Rattle.sides.proofs.read_row.Statement.{statement}
 use Rattle.sides.proofs.read_row.Tie as tie
 
@@ -35,7 +35,7 @@ returns : tie.Need-returns
 returns c =
     let k = c .before .before .before in
     let s = k .before .before .before in
-    (row-broken (s .pre .1) (drop (s .args .from .at) (s .args .text .now)) (subst (Given k) (c .enum-told .given .1) (k .read-line .ensures .0)), clear k)
+    (line-broken (s .pre .1) (drop (s .args .from .at) (s .args .text .now)) (subst (Given k) (c .enum-told .given .1) (k .read-line .ensures .0)), clear k)
 
 mul-key : tie.Need-mul-key
 mul-key c =

@@ -7,10 +7,10 @@ use borrow.Author.Needs.{needs}
 use lib.ListN.{length, take, drop}
 use Rattle.model.specs.Bytes.{Bytes}
 use Rattle.report.proofs.Tail.{tail-length}
-use Rattle.mapcheck.specs.declared.Input.the-variants as input
-use Rattle.mapcheck.proofs.Printing.{tail-kept, input-within}
-use Rattle.mapcheck.proofs.read_input.Statement.{statement}
-use Rattle.mapcheck.proofs.read_input.Tie as tie
+use Rattle.input.specs.declared.Input.the-variants as input
+use Rattle.input.proofs.Reading.{tail-kept, input-within}
+use Rattle.input.proofs.read_input.Statement.{statement}
+use Rattle.input.proofs.read_input.Tie as tie
 
 abbrev Inv-loop : tie.InvT-loop
 Inv-loop text₀ at₀ text at = (at ≤ length text) × (length text ≡ length text₀)

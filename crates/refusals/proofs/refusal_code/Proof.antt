@@ -2,9 +2,9 @@
 use native.Mathlib.Omega.{arith}
 use borrow.Author.Needs.{needs}
 use Rattle.model.specs.TextCheck.{coded}
-use Rattle.healdrip.proofs.Codes.{negated-twice}
-use Rattle.healdrip.proofs.refusal_code.Statement.{statement}
-use Rattle.healdrip.proofs.refusal_code.Tie as tie
+use Rattle.refusals.proofs.Codes.{negated-twice}
+use Rattle.refusals.proofs.refusal_code.Statement.{statement}
+use Rattle.refusals.proofs.refusal_code.Tie as tie
 
 returns : tie.Need-returns
 unfolding coded

@@ -1,9 +1,9 @@
 -- The code fits, and so does its negation.
 use borrow.Author.Needs.{needs}
 use Rattle.integers.proofs.Negation.{negated-fits}
-use Rattle.healdrip.proofs.Codes.{negated-code}
-use Rattle.healdrip.proofs.negative_code.Statement.{statement}
-use Rattle.healdrip.proofs.negative_code.Tie as tie
+use Rattle.refusals.proofs.Codes.{negated-code}
+use Rattle.refusals.proofs.negative_code.Statement.{statement}
+use Rattle.refusals.proofs.negative_code.Tie as tie
 
 sub-result : tie.Need-sub-result
 sub-result c = negated-fits (c .refusal-code .ensures .1)

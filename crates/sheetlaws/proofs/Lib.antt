@@ -1,0 +1,9 @@
+pub mod Rows
+pub mod Places
+pub mod Lines
+pub mod Graph
+pub mod Ways
+pub mod Taken
+pub mod Ends
+pub mod Bytes
+pub mod Walks

@@ -3,6 +3,9 @@ use Prim.Native.Nat.{ℕ, _+_, _*_, _^_, min}
 use lib.IntN.{ℤ, pos, negℤ}
 use Rattle.model.specs.Compare.{Result}
 use Rattle.model.specs.Calls.{Answer, refused, full}
+use Rattle.model.specs.TextCheck.{coded}
+use Rattle.model.specs.SheetCall.{TableLengths}
+use Rattle.model.specs.declared.SheetSizes.{SheetSizes}
 
 -- the highest count that 20 binary digits hold; 1,000 × 1,000 pairs are fewer
 abbrev pub mostCounted : ℕ
@@ -32,3 +35,16 @@ taken = signed (λ _. 0)
 -- the answer of walk and list: how many numbers or records were written, at most 1,024
 abbrev pub written : Answer ℕ → ℤ
 written = signed digits
+
+-- the lengths of the two tables of a sheet
+abbrev pub sheetLengths : SheetSizes → TableLengths
+sheetLengths z = record { nodes = z .nodes; edges = z .edges }
+
+-- the lengths of two tables as one number
+abbrev pub lengths : TableLengths → ℕ
+lengths n = digits (n .nodes) * 100000 + digits (n .edges)
+
+-- the answer of the reader of sheets: how long both tables are, or the code of the refusal
+unfoldable pub tables : Answer TableLengths → ℤ
+tables (refused r) = coded (refused r)
+tables (full n) = pos (lengths n)

@@ -1,11 +1,13 @@
-// The calls on tables through C linkage, for the benchmark and the tests of host/: a text holds at most 65,536 bytes, and some of the maps that are
-// measured need more. The library that the design environment links has the text check alone.
+// The calls on tables and the reader of sheets through C linkage, for the benchmark and the tests of host/: a text holds at most 65,536 bytes, and some of
+// the maps that are measured need more. The library that the design environment links has the text check alone.
 ghost use mathlib.Core.Path.{_≡_};
 ghost use lib.IntN.{pos, negℤ};
-ghost use Rattle.model.specs.Answers.{comparisonResult, refusalOf, checkedAnswer, writtenAnswer};
+ghost use Rattle.model.specs.Answers.{comparisonResult, refusalOf, checkedAnswer, writtenAnswer, sheetReadAnswer};
 ghost use Rattle.model.specs.Calls.{checkAnswer, walkGives, walkAfter, listGives, listAfter, compareAnswer};
+ghost use Rattle.model.specs.SheetCall.{sheetGives, sheetNodesAfter, sheetEdgesAfter};
 ghost use Rattle.pairing.specs.Pairs.{tablesOf};
-ghost use Rattle.benchcalls.specs.Summary.{digits, packed, summary, taken, written};
+ghost use Rattle.benchcalls.specs.Summary.{digits, packed, summary, taken, written, sheetLengths, lengths, tables};
+ghost use Rattle.refusals.specs.Small.{lastNumber, SmallAnswer};
 use bitmapping::list;
 use bitmapping::walk;
 use compare::compare;
@@ -14,9 +16,13 @@ use model::Checked;
 use model::Compared;
 use model::Comparison;
 use model::Reason;
+use model::SheetRead;
+use model::SheetSizes;
 use model::Written;
 use model::verdict_number;
+use refusals::negative_code;
 use refusals::refusal_numbers;
+use sheet::read_sheet;
 
 // The highest count that 20 binary digits hold.
 const MOST_COUNTED: usize = 1048575;
@@ -27,6 +33,9 @@ const EQUAL_PLACE: usize = 1099511627776;
 const PARTIAL_PLACE: usize = 1048576;
 
 const VERDICT_PLACE: usize = 1152921504606846976;
+
+// What the length of the node table counts for in the answer of the reader of sheets.
+const NODES_PLACE: usize = 100000;
 
 // A count in 20 binary digits.
 fn digits_of(count: usize) -> usize
@@ -76,6 +85,26 @@ fn written_number(given: Written) -> i64
     match given {
         Written::Count(n) => digits_of(n) as i64,
         Written::Refused(reason) => refused_number(reason),
+    }
+}
+
+// The lengths of the two tables of a sheet as one number.
+fn lengths_of(sizes: SheetSizes) -> i64
+    ensures { λ r. ⌜ r ≡ pos (lengths (sheetLengths sizes)) ⌝ }
+{
+    let nodes = digits_of(sizes.nodes);
+    let edges = digits_of(sizes.edges);
+    (nodes * NODES_PLACE + edges) as i64
+}
+
+// The answer of the reader of sheets.
+fn read_number(read: SheetRead) -> i64
+    requires { ⌜ SmallAnswer lastNumber (sheetReadAnswer read) ⌝ }
+    ensures { λ r. ⌜ r ≡ tables (sheetReadAnswer read) ⌝ }
+{
+    match read {
+        SheetRead::Tables(sizes) => lengths_of(sizes),
+        SheetRead::Refused(reason) => negative_code(refusal_numbers(reason)),
     }
 }
 
@@ -150,4 +179,15 @@ pub extern "C" fn benchcalls_compare(
         Compared::Result(c) => packed_of(c),
         Compared::Refused(reason) => refused_number(reason),
     }
+}
+
+// Reads a sheet and gives the answer as one number: how long both tables are, or the refusal with its table and row, below zero.
+#[no_mangle]
+pub extern "C" fn benchcalls_read_sheet(text: &[u8], nodes: &mut [i64], edges: &mut [i64]) -> i64
+    ensures returned { λ r. ⌜ r ≡ tables (sheetGives (now (text .entry)) (now (nodes .entry)) (now (edges .entry))) ⌝ }
+    ensures nodes { λ _. ⌜ now (nodes .exit) ≡ sheetNodesAfter (now (text .entry)) (now (nodes .entry)) (now (edges .entry)) ⌝ }
+    ensures edges { λ _. ⌜ now (edges .exit) ≡ sheetEdgesAfter (now (text .entry)) (now (nodes .entry)) (now (edges .entry)) ⌝ }
+{
+    let read = read_sheet(text, nodes, edges);
+    read_number(read)
 }

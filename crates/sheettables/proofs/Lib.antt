@@ -1,0 +1,9 @@
+pub mod Stores
+pub mod Numbers
+pub mod Present
+pub mod Passes
+pub mod Lines
+pub mod Members
+pub mod Ranges
+pub mod Tables
+pub mod Answers

@@ -16,7 +16,13 @@ const LIBRARIES: [(&str, &str, &[&str]); 2] = [
     (
         "benchcalls",
         "BENCHCALLS_LIB_DIR",
-        &["benchcalls_check", "benchcalls_list", "benchcalls_walk", "benchcalls_compare"],
+        &[
+            "benchcalls_check",
+            "benchcalls_list",
+            "benchcalls_walk",
+            "benchcalls_compare",
+            "benchcalls_read_sheet",
+        ],
     ),
 ];
 

@@ -1,10 +1,15 @@
 # shellcheck shell=bash
-# Read by ./mapcheck and ./install: proves and builds what they run or copy, and says what that is made from.
-# They have root, the folder of the repository; say, which prints a line on standard error; and stop, which prints one and ends with 2.
+# Read by ./mapcheck, ./sheetgraph and ./install: proves and builds what they run or copy, and says what that is made from.
+# They have root, the folder of the repository, and the functions of tools/command.sh.
 : "${root:?}"
 
-# How long the proof of all crates takes, as measured.
-whole_proof='5 to 8 minutes on two cores'
+# How long the proof of the crates that $1 uses takes, as measured.
+proof_time() {
+  case $1 in
+  sheetgraph) echo '2 to 3 minutes on two cores' ;;
+  *) echo '5 to 8 minutes on two cores' ;;
+  esac
+}
 
 # Crate $1 and the crates that it uses, the uppermost first. In crates.txt a crate stands behind those that it uses.
 crates_of() {
@@ -54,19 +59,19 @@ prove() {
   [ -e "$3" ] || stop "rt built no $3; remove $root/target and try again"
 }
 
-# Proves and builds the program $1 on first use, and again where a crate has changed since. Its time is then that at which the proof began.
+# Proves crate $1 and builds its program $2 on first use, and again where a crate has changed since. Its time is then that at which the proof began.
 build_where_due() {
   local due began
-  if [ ! -x "$1" ]; then
-    due="first use: proving $(crates_of mapcheck | wc -l) crates and building the program, which takes $whole_proof"
-  elif changed_since mapcheck "$1"; then
-    due="sources have changed: proving those of $(crates_of mapcheck | wc -l) crates that depend on them, which takes at most $whole_proof"
+  if [ ! -x "$2" ]; then
+    due="first use: proving $(crates_of "$1" | wc -l) crates and building the program, which takes $(proof_time "$1")"
+  elif changed_since "$1" "$2"; then
+    due="sources have changed: proving those of $(crates_of "$1" | wc -l) crates that depend on them, which takes at most $(proof_time "$1")"
   else
     return
   fi
   began=$(date +%s.%N)
-  prove check mapcheck "$1" "$due"
-  touch -d "@$began" "$1"
+  prove check "$1" "$2" "$due"
+  touch -d "@$began" "$2"
   say 'the program is proved and built'
 }
 
@@ -80,7 +85,7 @@ git_here() (
 version_text() {
   local prefix commit changes tree toolchain
   if prefix=$(git_here rev-parse --show-prefix) && [ -z "$prefix" ] && commit=$(git_here rev-parse HEAD) &&
-    changes=$(git_here status --porcelain -- crates.txt crates mapcheck include docs examples); then
+    changes=$(git_here status --porcelain -- crates.txt crates mapcheck sheetgraph tools/command.sh include docs examples); then
     [ -z "$changes" ] && tree='as committed' || tree='with changes'
   else
     commit=unknown tree=unknown

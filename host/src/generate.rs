@@ -3,13 +3,12 @@
 //! maps at both sides of every limit.
 
 use crate::banks::{any_banks, build_from_banks};
-use crate::reference::{refusal, Names, Refusal, Tables, BLOCK, UNITS};
+use crate::reference::{refusal, Names, Refusal, Tables, BLOCK, SPACE, UNITS};
 use crate::reference::{EDGE_NAMES, NODE_NAMES, PAIR_NAMES, WIDTHS};
 use crate::reference::{IMPL_EDGES, IMPL_NODES, LEAF_PAIRS, ROOT_PAIRS, SPEC_EDGES, SPEC_NODES};
 use crate::reference::{MAX_AT, MAX_EDGES, MAX_NODES, MAX_PAIRS, MAX_TEXT, MAX_UNITS};
 use std::collections::BTreeSet;
 
-pub const SPACE: i64 = 0;
 pub const SEGMENT: i64 = 1;
 
 /// A xorshift generator.
@@ -699,7 +698,7 @@ fn interleave(random: &mut Random, rows: &[Vec<i64>]) -> Vec<Vec<i64>> {
     tags.into_iter().filter_map(|tag| left[tag as usize].next().cloned()).collect()
 }
 
-fn table_text(names: &Names, rows: &[Vec<i64>], columns: &[usize]) -> String {
+pub(crate) fn table_text(names: &Names, rows: &[Vec<i64>], columns: &[usize]) -> String {
     let names: Vec<&str> = names.all().collect();
     let line = |fields: Vec<String>| fields.join(" ") + "\n";
     let mut text = line(columns.iter().map(|&column| names[column].to_string()).collect());
@@ -797,19 +796,18 @@ fn damage_lines(random: &mut Random, text: &[u8]) -> Vec<u8> {
     lines.concat()
 }
 
-fn damage_field(random: &mut Random, text: &[u8]) -> Vec<u8> {
+fn damage_field(random: &mut Random, text: &[u8], wrong: &[&str]) -> Vec<u8> {
     let mut lines: Vec<Vec<u8>> = text.split(|&byte| byte == b'\n').map(<[u8]>::to_vec).collect();
     let line = random.below(lines.len());
     let mut fields: Vec<&[u8]> = lines[line].split(|&byte| byte == b' ').collect();
     let field = random.below(fields.len());
-    let wrong: Vec<&str> = WRONG_FIELDS.split(' ').collect();
     match random.below(8) {
         0 => fields.insert(field, b""),
         1 => fields.push(b""),
         2 => _ = fields.remove(field),
         3 => fields.push(fields[field]),
         4 => fields[field] = fields[random.below(fields.len())],
-        _ => fields[field] = random.pick(&wrong).as_bytes(),
+        _ => fields[field] = random.pick(wrong).as_bytes(),
     }
     lines[line] = fields.join(&b' ');
     lines.join(&b'\n')
@@ -817,13 +815,19 @@ fn damage_field(random: &mut Random, text: &[u8]) -> Vec<u8> {
 
 /// A text with one fault, often with more; some faults leave it valid.
 pub fn damaged(random: &mut Random, text: &[u8]) -> Vec<u8> {
+    damaged_by(random, text, WRONG_FIELDS)
+}
+
+/// The same with other fields to put in, parted by single spaces.
+pub fn damaged_by(random: &mut Random, text: &[u8], wrong: &str) -> Vec<u8> {
+    let wrong: Vec<&str> = wrong.split(' ').collect();
     let mut text = text.to_vec();
     for _ in 0..random.pick(&[1, 1, 1, 2, 2, 3]) {
         match random.below(10) {
             0 => _ = text.pop(),
             1 | 2 => damage_bytes(random, &mut text),
             3 | 4 => text = damage_lines(random, &text),
-            _ => text = damage_field(random, &text),
+            _ => text = damage_field(random, &text, &wrong),
         }
     }
     text

@@ -6,8 +6,8 @@
 //! All nodes of the texts count in units of 8 bits; offsets, bases and ranges are units.
 
 use crate::generate::{groups, implemented, plain_text, root_rows, tables};
-use crate::generate::{Draft, Edge, Random, SEGMENT, SPACE};
-use crate::reference::{Tables, BLOCK};
+use crate::generate::{Draft, Edge, Random, SEGMENT};
+use crate::reference::{Tables, BLOCK, SPACE};
 
 /// Records that an engine may keep for a graph if its lists share an arena of fixed size.
 pub const ARENA: usize = 3_072;

@@ -21,5 +21,7 @@ pub mod large;
 pub mod library;
 pub mod propagate;
 pub mod reference;
+pub mod sheet;
+pub mod sheet_texts;
 #[cfg(healdrip_library)]
 pub mod stack;

@@ -46,6 +46,13 @@ extern "C" {
         impl_edges: *const i64, impl_edges_len: usize, root_pairs: *const i64,
         root_pairs_len: usize, leaf_pairs: *const i64, leaf_pairs_len: usize,
     ) -> i64;
+
+    /// How many numbers the two tables have as `lengths` gives it, or
+    /// -(number * 100,000,000 + table * 10,000,000 + row).
+    fn benchcalls_read_sheet(
+        text: *const u8, text_len: usize, nodes: *mut i64, nodes_len: usize, edges: *mut i64,
+        edges_len: usize,
+    ) -> i64;
 }
 
 /// Check of one graph by the verified code.
@@ -98,6 +105,14 @@ pub fn compare(tables: &crate::reference::Tables) -> i64 {
     }
 }
 
+/// A sheet read by the verified code into a node table and an edge table.
+#[cfg(benchcalls_library)]
+pub fn read_sheet(text: &[u8], nodes: &mut [i64], edges: &mut [i64]) -> i64 {
+    let (t, n, e) = (text.len(), nodes.len(), edges.len());
+    // SAFETY: every pointer is valid for its length during the call.
+    unsafe { benchcalls_read_sheet(text.as_ptr(), t, nodes.as_mut_ptr(), n, edges.as_mut_ptr(), e) }
+}
+
 /// An answer as one number: the whole verdict, then the counts of equal, partial and
 /// different pairs with 20 binary digits each; or the refusal's number below zero.
 pub fn summary(answer: &Result<crate::reference::Comparison, crate::reference::Refusal>) -> i64 {
@@ -114,4 +129,13 @@ pub fn summary(answer: &Result<crate::reference::Comparison, crate::reference::R
 /// refusal's number below zero.
 pub fn count<T>(answer: &Result<Vec<T>, crate::reference::Refusal>) -> i64 {
     answer.as_ref().map_or_else(|refusal| -refusal.number, |written| written.len() as i64)
+}
+
+/// What reading a sheet gives as one number: how many numbers the node table has, times
+/// 100,000, and how many the edge table has; or the coded refusal.
+pub fn lengths(answer: &Result<[usize; 2], crate::reference::Refusal>) -> i64 {
+    match answer {
+        Ok([nodes, edges]) => (nodes * 100_000 + edges) as i64,
+        Err(refusal) => crate::reference::coded_refusal(refusal),
+    }
 }

@@ -1,6 +1,7 @@
 //! Address map graphs in the straightforward way: adjacency lists, a depth-first
-//! listing of the paths, sort and merge. All calls of the documents are here; a
-//! call on tables takes flat slices of numbers, which may hold anything.
+//! listing of the paths, sort and merge. All calls of the documents are here, but for the
+//! reading of address sheets; a call on tables takes flat slices of numbers, which may hold
+//! anything.
 
 use std::mem::{replace, take};
 
@@ -15,6 +16,7 @@ pub const MAX_AT: i64 = (1 << 55) - 1;
 pub const MAX_TALLY: u64 = (1 << 63) - 1;
 pub const REPORT_ROOM: usize = 65_536;
 
+pub const SPACE: i64 = 0;
 pub const BLOCK: i64 = 2;
 pub const UNITS: [i64; 5] = [8, 16, 32, 64, 128];
 
@@ -31,7 +33,7 @@ pub const OUTPUT: usize = 7;
 /// Numbers in a row of each of the six tables.
 pub const WIDTHS: [usize; 6] = [4, 3, 4, 3, 3, 3];
 
-/// The names of a table of a map file: those that its names line has, and those that it may
+/// The names of a table of a text: those that its names line has, and those that it may
 /// have. A row holds its numbers in this order, and 0 under a name that is absent.
 #[derive(Clone, Copy)]
 pub struct Names {
@@ -658,7 +660,8 @@ fn judge_pairs(graphs: &[Graph; 2], pairing: &Pairing, listing: Listing) -> Comp
 
 // Map files
 
-fn check_bytes(text: &[u8]) -> Result<(), Refusal> {
+/// Refusal 12.
+pub(crate) fn check_bytes(text: &[u8]) -> Result<(), Refusal> {
     if text.len() > MAX_TEXT {
         return Err(refusal(12, TEXT, 0));
     }
@@ -694,7 +697,7 @@ fn value(field: &[u8]) -> Option<i64> {
 }
 
 /// For each field of a names line, which of the table's names it is.
-fn columns(line: &[u8], names: &Names) -> Option<Vec<usize>> {
+pub(crate) fn columns(line: &[u8], names: &Names) -> Option<Vec<usize>> {
     let mut columns = Vec::new();
     for field in line.split(|&byte| byte == b' ') {
         let column = names.all().position(|name| name.as_bytes() == field)?;
@@ -710,13 +713,13 @@ fn columns(line: &[u8], names: &Names) -> Option<Vec<usize>> {
 const MOST_NUMBERS: usize = NODE_NAMES.count();
 
 /// The values of a line, one for each column, put into the order of the table's names.
-fn values(line: &[u8], columns: &[usize]) -> Option<[i64; MOST_NUMBERS]> {
+pub(crate) fn values(line: &[u8], columns: &[usize]) -> Option<[i64; MOST_NUMBERS]> {
     let mut row = [0; MOST_NUMBERS];
     let mut fields = line.split(|&byte| byte == b' ');
     for &column in columns {
         row[column] = value(fields.next()?)?;
     }
-    (fields.next().is_none() && (0..=1).contains(&row[0])).then_some(row)
+    fields.next().is_none().then_some(row)
 }
 
 /// Reads one table from line `next` on into the two tables that its first column
@@ -734,19 +737,26 @@ fn read_table(
             None => return Ok(next),
             Some(line) if line.is_empty() && ends_with_empty_line => return Ok(next + 1),
             Some(line) => {
-                let row = values(line, &columns).ok_or(refusal(14, TEXT, next + 1))?;
+                let row = values(line, &columns).filter(|row| (0..=1).contains(&row[0]));
+                let row = row.ok_or(refusal(14, TEXT, next + 1))?;
                 tables[row[0] as usize].extend(&row[1..names.count()]);
             }
         }
     }
 }
 
-/// Reads a map file: refusals 12 to 14, or the six tables.
-pub fn parse(text: &[u8]) -> Result<Tables, Refusal> {
-    check_bytes(text)?;
+/// The lines of a text that refusal 12 does not concern, without their line feeds.
+pub(crate) fn lines_of(text: &[u8]) -> Vec<&[u8]> {
     let mut lines: Vec<&[u8]> = text.split(|&byte| byte == b'\n').collect();
     // What follows the last line feed is no line.
     lines.pop();
+    lines
+}
+
+/// Reads a map file: refusals 12 to 14, or the six tables.
+pub fn parse(text: &[u8]) -> Result<Tables, Refusal> {
+    check_bytes(text)?;
+    let lines = lines_of(text);
     let mut tables = Tables::default();
     let [spec_nodes, spec_edges, impl_nodes, impl_edges, roots, leaves] = &mut tables;
     let next = read_table(&lines, 0, &NODE_NAMES, [spec_nodes, impl_nodes], true)?;

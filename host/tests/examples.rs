@@ -1,19 +1,28 @@
 //! The files under examples/ and the pages that show them. A map has its report
-//! beside it, worked out without the library; a map or report on a page is the
-//! text of its file.
+//! beside it and a sheet its tables, worked out without the library; a map, report,
+//! sheet or table on a page is the text of its file.
 
-use host::reference::{coded, printed, text_check, REPORT_ROOM};
+use host::reference::{coded, printed, refusal_report, text_check, REPORT_ROOM};
+use host::sheet::{parse, tables};
 use std::fs;
 use std::path::{Path, PathBuf};
 
-const PAGES: [&str; 3] = ["README.md", "docs/MAP-FILE.md", "docs/REFUSALS.md"];
+const PAGES: [&str; 4] = ["README.md", "docs/MAP-FILE.md", "docs/SHEET.md", "docs/REFUSALS.md"];
 const REFUSALS_PAGE: &str = "docs/REFUSALS.md";
+const SHEET_PAGE: &str = "docs/SHEET.md";
 const REFUSED: &str = "examples/refused";
+const REFUSED_SHEETS: &str = "examples/sheet/refused";
 const FENCE: &str = "```";
 
-/// How the names lines of maps, reports and refusals begin when they are shown.
-const SHOWN: [&str; 5] =
-    ["side kind", "side from", "role spec", "root leaf verdict", "refusal table"];
+/// How the names lines of maps, reports, refusals and sheets begin when they are shown.
+const SHOWN: [&str; 6] = [
+    "side kind",
+    "side from",
+    "role spec",
+    "root leaf verdict",
+    "refusal table",
+    "initiator block",
+];
 
 /// The top folder of the repository, which holds this project's folder.
 fn top() -> &'static Path {
@@ -49,8 +58,20 @@ fn maps() -> Vec<PathBuf> {
     maps
 }
 
+fn sheets() -> Vec<PathBuf> {
+    let sheets = files(&top().join("examples"), "sheet");
+    assert!(!sheets.is_empty(), "no sheet under examples/");
+    sheets
+}
+
 fn report_of(map: &Path) -> Vec<u8> {
     bytes_of(&map.with_extension("report"))
+}
+
+/// What is to be printed for a map or for a sheet.
+fn answer_of(file: &Path) -> Vec<u8> {
+    let is_map = file.extension().is_some_and(|end| end == "map");
+    bytes_of(&file.with_extension(if is_map { "report" } else { "tables" }))
 }
 
 fn as_text(bytes: &[u8]) -> String {
@@ -65,6 +86,52 @@ fn a_report_beside_each_map() {
     for report in files(&top().join("examples"), "report") {
         assert!(report.with_extension("map").is_file(), "{}: no map", report.display());
     }
+}
+
+#[test]
+fn tables_beside_each_sheet() {
+    for sheet in sheets() {
+        assert!(sheet.with_extension("tables").is_file(), "{}: no tables", sheet.display());
+    }
+    for tables in files(&top().join("examples"), "tables") {
+        assert!(tables.with_extension("sheet").is_file(), "{}: no sheet", tables.display());
+    }
+}
+
+/// Rows of side 0 below their names.
+fn side_0(names: &str, numbers: &[i64], width: usize) -> String {
+    let line = |row: &[i64]| row.iter().fold("0".into(), |line: String, n| format!("{line} {n}"));
+    numbers.chunks(width).fold(format!("{names}\n"), |text, row| format!("{text}{}\n", line(row)))
+}
+
+/// What is printed for a sheet.
+fn printed_tables(text: &[u8]) -> String {
+    const LINES: usize = 2_600;
+    let lines = match parse(text) {
+        Ok(lines) if lines.len() <= LINES => lines,
+        Ok(_) => return "refusal table row\n1 1 0\n".into(),
+        Err(refusal) => return as_text(&refusal_report(&refusal)),
+    };
+    let [nodes, edges] = tables(&lines);
+    let nodes = side_0("side kind base range unit", &nodes, 4);
+    format!("{nodes}\n{}", side_0("side from to offset", &edges, 3))
+}
+
+#[test]
+fn the_reference_prints_the_tables() {
+    for sheet in sheets() {
+        let answer = printed_tables(&bytes_of(&sheet));
+        assert_eq!(answer, as_text(&answer_of(&sheet)), "{}", sheet.display());
+    }
+}
+
+/// The map that docs/SHEET.md puts together has the tables of its sheet on side 0.
+#[test]
+fn a_map_from_a_sheet() {
+    let [text, nodes, edges, pairs, map] = ["tables", "nodes", "edges", "pairs", "map"]
+        .map(|end| page(&format!("examples/sheet/soc.{end}")));
+    let (node_lines, edge_lines) = text.split_once("\n\n").unwrap();
+    assert_eq!(map, format!("{node_lines}\n{nodes}\n{edge_lines}{edges}\n{pairs}"));
 }
 
 #[test]
@@ -143,21 +210,38 @@ fn quoted_line(cell: &str) -> Option<(usize, &str)> {
     Some((number.parse().ok()?, text.strip_suffix('`')?))
 }
 
-/// A row of one of the page's tables tells of each refused file the line and the refusal.
+/// The file that a row of one of the page's tables names: a map, or a sheet.
+fn named_file(row: &str) -> Option<PathBuf> {
+    let name = row.strip_prefix("| `")?.split('`').next()?;
+    let numbered = name.starts_with(|first: char| first.is_ascii_digit());
+    let map = top().join(REFUSED).join(format!("{name}.map"));
+    let sheet = top().join(REFUSED_SHEETS).join(format!("{name}.sheet"));
+    numbered.then_some(if map.is_file() { map } else { sheet })
+}
+
+/// A row tells of its file the changed line and the refusal.
+fn row_holds(row: &str, file: &Path) {
+    let cells: Vec<&str> = row.split('|').map(str::trim).collect();
+    let answer = as_text(&answer_of(file));
+    let numbers = answer.lines().nth(1).unwrap();
+    assert_eq!(cells[3], format!("`{numbers}`"), "{}", file.display());
+    if let Some((number, line)) = quoted_line(cells[2]) {
+        let text = as_text(&bytes_of(file));
+        assert_eq!(text.lines().nth(number - 1), Some(line), "{}", file.display());
+    }
+}
+
+/// Each refused file has a row on its page.
 #[test]
 fn the_page_has_each_refused_file() {
-    let page = page(REFUSALS_PAGE);
-    for map in files(&top().join(REFUSED), "map") {
-        let name = map.file_stem().unwrap().to_str().unwrap();
-        let row = page.lines().find(|line| line.starts_with(&format!("| `{name}` |")));
-        let row = row.unwrap_or_else(|| panic!("{REFUSALS_PAGE}: {name} is missing"));
-        let cells: Vec<&str> = row.split('|').map(str::trim).collect();
-        let report = as_text(&report_of(&map));
-        let numbers = report.lines().nth(1).unwrap();
-        assert_eq!(cells[3], format!("`{numbers}`"), "{name}");
-        if let Some((number, line)) = quoted_line(cells[2]) {
-            let text = as_text(&bytes_of(&map));
-            assert_eq!(text.lines().nth(number - 1), Some(line), "{name}");
+    for (name, folder, end) in
+        [(REFUSALS_PAGE, REFUSED, "map"), (SHEET_PAGE, REFUSED_SHEETS, "sheet")]
+    {
+        let page = page(name);
+        for file in files(&top().join(folder), end) {
+            let stem = file.file_stem().unwrap().to_str().unwrap();
+            let row = page.lines().find(|line| line.starts_with(&format!("| `{stem}` |")));
+            row_holds(row.unwrap_or_else(|| panic!("{name}: {stem} is missing")), &file);
         }
     }
 }
@@ -169,15 +253,13 @@ fn the_page_codes_a_refusal() {
     assert!(page(REFUSALS_PAGE).contains(&format!("= \u{2212}{}.", -code)), "{code}");
 }
 
-/// A row of a table of the page names a file that is there.
+/// A row of a table of the page names a file that is there, and tells of it.
 #[test]
 fn the_page_names_no_other_file() {
-    for line in page(REFUSALS_PAGE).lines() {
-        let Some(name) = line.strip_prefix("| `").and_then(|rest| rest.split('`').next()) else {
-            continue;
-        };
-        let map = top().join(REFUSED).join(format!("{name}.map"));
-        let numbered = name.starts_with(|first: char| first.is_ascii_digit());
-        assert!(!numbered || map.is_file(), "{REFUSALS_PAGE}: no file {name}");
+    for row in page(REFUSALS_PAGE).lines() {
+        if let Some(file) = named_file(row) {
+            assert!(file.is_file(), "{REFUSALS_PAGE}: no file {}", file.display());
+            row_holds(row, &file);
+        }
     }
 }

@@ -1,8 +1,8 @@
 //! Times the verified code beside the reference and the engine that propagates lists on
 //! the named maps and prints tables in markdown: the calls on one graph, the text check,
-//! the comparison on tables, the text check on texts made to be slow, and the whole program
-//! with its start. The answers must agree. A last table has the stack that the text check
-//! takes.
+//! the comparison on tables, the text check on texts made to be slow, the reading of address
+//! sheets, and the whole program with its start. The answers must agree. A last table has the
+//! stack that the text check takes.
 //!
 //! ```text
 //! bench [--long] [part of a map's name or of a table's title]
@@ -17,7 +17,9 @@ use host::hostile::{texts, Hostile};
 use host::large::{deep_maps, maps, singles, Call, Map, Single};
 use host::propagate;
 use host::reference::{check, compare_by, list, printed, text_check_by, walk, Listing, Refusal};
-use host::reference::{text_check, REPORT_ROOM};
+use host::reference::{text_check, MAX_EDGES, MAX_NODES, REPORT_ROOM};
+use host::sheet::read_sheet;
+use host::sheet_texts::{sheets, Sheet};
 use std::ffi::c_long;
 use std::hint::black_box;
 use std::io::Write;
@@ -51,6 +53,7 @@ const ONE_GRAPH: &str = "One graph";
 const TEXT_CHECK: &str = "Text check";
 const COMPARISON: &str = "Comparison on tables";
 const HOSTILE: &str = "Texts made to be slow, one run each";
+const SHEETS: &str = "Sheets";
 const PROGRAM: &str = "Whole program, its start included";
 const STACK: &str = "Stack of the text check";
 
@@ -308,6 +311,48 @@ fn print_hostile(texts: &[Hostile]) {
     print_table(HOSTILE, &[&names[..], &["Proved"], &columns].concat(), &rows);
 }
 
+/// A sheet read by the reference into buffers of the largest tables, filled with a number that
+/// no table has: what it gave, and the buffers.
+fn rust_sheet(text: &[u8]) -> (Result<[usize; 2], Refusal>, [Vec<i64>; 2]) {
+    let [mut nodes, mut edges] = [4 * MAX_NODES, 3 * MAX_EDGES].map(|room| vec![-1; room]);
+    (read_sheet(text, &mut nodes, &mut edges), [nodes, edges])
+}
+
+#[cfg(benchcalls_library)]
+fn time_sheet(text: &[u8]) -> Option<f64> {
+    use host::library;
+    let (expected, buffers) = rust_sheet(text);
+    let [mut nodes, mut edges] = [&buffers[0], &buffers[1]].map(|buffer| vec![-1; buffer.len()]);
+    let mut answer = 0;
+    let millis = time(|| answer = library::read_sheet(text, &mut nodes, &mut edges));
+    assert_eq!(answer, library::lengths(&expected), "the answers differ");
+    assert!([nodes, edges] == buffers, "the tables differ");
+    Some(millis)
+}
+
+#[cfg(not(benchcalls_library))]
+fn time_sheet(_text: &[u8]) -> Option<f64> {
+    None
+}
+
+fn print_sheets(sheets: &[Sheet]) {
+    let mut rows = Vec::new();
+    for sheet in sheets {
+        let (expected, [mut nodes, mut edges]) = rust_sheet(&sheet.text);
+        let made = match expected {
+            Ok([numbers, _]) => (numbers / 4).to_string(),
+            Err(refusal) => format!("refusal {}", refusal.number),
+        };
+        let [bytes, lines] = [sheet.text.len(), sheet.lines()].map(|count| count.to_string());
+        let mut row = vec![sheet.name.to_string(), bytes, lines, made];
+        let rust = time(|| read_sheet(&sheet.text, &mut nodes, &mut edges));
+        row.extend(cells(&[time_sheet(&sheet.text), Some(rust)]));
+        rows.push(row);
+    }
+    let names = ["Sheet", "Bytes", "Lines", "Nodes", "Proved", "Rust", "Proved / Rust"];
+    print_table(SHEETS, &names, &rows);
+}
+
 /// Milliseconds from the start of a program to its end, the lowest of several.
 fn time_program(program: &Path, text: &[u8]) -> f64 {
     let mut lowest = f64::INFINITY;
@@ -414,6 +459,8 @@ fn main() {
     print_tables(&wanted.among(COMPARISON, maps()));
     let slow = texts().into_iter().filter(|text| wanted.has(HOSTILE, &text.name));
     print_hostile(&slow.collect::<Vec<_>>());
+    let sheets = sheets().into_iter().filter(|sheet| wanted.has(SHEETS, sheet.name));
+    print_sheets(&sheets.collect::<Vec<_>>());
     print_programs(&wanted.among(PROGRAM, maps()));
     print_stack(&wanted.among(STACK, deep_maps()));
 }

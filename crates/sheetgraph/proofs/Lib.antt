@@ -1,2 +1,3 @@
 pub mod Room
 pub mod Printing
+pub mod MapTables

@@ -20,6 +20,7 @@ use Rattle.model.specs.Graph.{Graph, graphOf, NodeRow, node, bitOffset}
 use Rattle.model.specs.Walk.{StandsOn, Walk}
 use Rattle.model.specs.Paths.{Way, stay, over}
 use Rattle.model.specs.Bitmapping.{Record}
+use Rattle.model.specs.Runs.{Run, Joins, whole}
 use Rattle.model.proofs.Chains.{way-append}
 use Rattle.model.proofs.Walks.{walk-start, walk-end}
 use Rattle.model.proofs.Records.{has-at}
@@ -32,7 +33,7 @@ use Rattle.reach.proofs.Totals.{total}
 use Rattle.reach.proofs.FirstRow.{firstRow-from, firstRow-passes, firstRow-none, firstRow-keep}
 use Rattle.entering.specs.Entering.{enters, entering, Covered}
 use Rattle.entering.proofs.Walks.{walk-entering, walk-way, entering-in, entering-out}
-use Rattle.steps.proofs.Rows.{edge-in}
+use Rattle.extents.proofs.Rows.{edge-in}
 use Rattle.entering.proofs.Ways.{way-onward}
 use Rattle.entering.proofs.Counts.{count-entering, count-way}
 use Rattle.sorting.specs.declared.Row.{Row}
@@ -42,12 +43,13 @@ use Rattle.normalisation.specs.Merging.{ofDisplacement}
 use Rattle.listing.specs.Listing.{Appended}
 use Rattle.listing.proofs.Appending.{append-none, append-append}
 use Rattle.forward.specs.Forward.{headAt, nextAt}
-use Rattle.references.specs.References.{Reference, own, Brings, InOwner, SmallRecord, through, isNone, recordsAt, cutRows, Cuttable}
-use Rattle.references.proofs.Bringing.{own-lying, lying-small, through-brings, through-lying}
+use Rattle.references.specs.References.{Reference, Brings, InOwner, SmallRecord, stepped, takenOf, isNone, recordsAt, cutRows, Cuttable}
+use Rattle.references.proofs.Bringing.{own-lying, lying-stands, stepped-brings, stepped-lying, taken-brings, taken-lying, taken-full}
 use Rattle.references.proofs.Cutting.{cut-rows-brings, cut-rows-full, cut-rows-few}
 use Rattle.arrivals.specs.State.{markWidth, arenaRow, markNumber, isMet, referenceAt, isListed, listRow, countOf, rootIn, Agree}
 use Rattle.arrivals.specs.Sweep.{HasSome, doneOf, Listed, RightMark, Sweeping, Gatherable, Gathered}
 use Rattle.arrivals.specs.Moves.{Crossable, crossing}
+use Rattle.arrivals.proofs.Moves.{nonneg-abs, none-some, some-same}
 use Rattle.arrivals.proofs.Agreeing.{agree-root, agree-free, agree-less, appended-agrees, sweeping-agrees, row-few}
 use Rattle.arrivals.proofs.Settled.{not-both, done-closed, covered-way, settled}
 
@@ -72,10 +74,6 @@ total-front h (y ∷ k) l = omega (arith, total-front h k l)
 way-none : {g : Graph} {v w : ℤ} {p : List Edge} → Way g v p w → length p ≤ 0 → v ≡ w
 way-none stay h = refl
 way-none (over e m q w) h = absurd (omega (arith, h))
-
--- a number that is not negative is the one that its size is
-pub nonneg-abs : {z : ℤ} → pos 0 ≤ℤ z → pos (natAbs z) ≡ z
-nonneg-abs {z} h = pos-natAbs z (yes-nonNeg h)
 
 -- so many records are read from a state
 records-length : (s : List ℤ) (p c : ℕ) → length (recordsAt s p c) ≡ c
@@ -123,7 +121,8 @@ module _ {ns es : List ℤ} {plan : List ℕ} {f : Reference} {left : ℕ} {s : 
         last-walks : Walk (graphOf ns es) (rootIn s) (z .last) (f .owner) (z .last -ℤ z .displacement)
         last-walks = list-exact (z .last) (z .last -ℤ z .displacement) .0 (z, m, has-at z (z .last) (owner-list .full z m) (omega (arith, ints)))
 
-        list-inside : (own (graphOf ns es) (rootIn s) .low ≤ℤ z .first) × (z .last ≤ℤ own (graphOf ns es) (rootIn s) .high)
+        list-inside : (whole (node (graphOf ns es) (rootIn s)) .low ≤ℤ z .first) × (z .last ≤ℤ whole (node (graphOf ns es) (rootIn s)) .high)
+        unfolding whole
         list-inside = (walk-start first-walks .above, walk-start last-walks .below)
 
         list-within : SmallRecord z
@@ -143,13 +142,13 @@ module _ {ns es : List ℤ} {plan : List ℕ} {f : Reference} {left : ℕ} {s : 
       list-few : countOf s o ≤ pathCount (graphOf ns es) (rootIn s) (f .owner)
       list-few = subst (λ (v : ℤ). countOf s o ≤ pathCount (graphOf ns es) (rootIn s) v) q (owner-list .few)
 
-      -- with the reference to all bits of the root as it is read
-      pub list-cuttable : {all : Reference} → all ≡ own (graphOf ns es) (rootIn s) → Cuttable f (all .low) (all .high) s (listRow s o) (countOf s o) n
+      -- with all bits of the root as they are read
+      pub list-cuttable : {all : Run} → all ≡ whole (node (graphOf ns es) (rootIn s)) → Cuttable f (all .low) (all .high) s (listRow s o) (countOf s o) n
       list-cuttable e =
-          let root = own-lying (k .sweeping .tables) (k .sweeping .root .row) in
+          let root = own-lying (k .sweeping .tables) (k .sweeping .root .row) .small in
           rw e
           record {
-            small = lying-small (k .sweeping .tables) (k .inOwner);
+            small = k .inOwner .small;
             root = (
               record { low = root .low; high = omega (arith, ints, root .full, root .high) },
               record { low = omega (arith, ints, root .full, root .low); high = root .high },
@@ -197,11 +196,11 @@ module _ {ns es : List ℤ} {plan : List ℕ} {f : Reference} {left : ℕ} {s : 
 
 -- over one of these edges, root bit x comes to bit address b of the reference
 pub record Over (g : Graph) (r : ℤ) (f : Reference) (edges : List Edge) (x b : ℤ) : Type 0 where
-  pub above : f .low ≤ℤ b
-  pub below : b ≤ℤ f .high
+  pub at : ℤ
+  pub joins : Joins (f .run) at b
   pub edge : Edge
   pub among : edge ∈ edges
-  pub walk : Walk g r x (edge .from) ((b +ℤ f .delta) +ℤ bitOffset g edge)
+  pub walk : Walk g r x (edge .from) (at +ℤ bitOffset g edge)
 
 -- the state between two turns at edge e: of the edges that enter the owner those before row `from` are done, and the rows behind the first n have exactly
 -- what comes over them
@@ -275,29 +274,21 @@ module _ {ns es : List ℤ} {plan : List ℕ} {f : Reference} {left : ℕ} {s : 
             ∙ w .rest
 
         arrives : (x b : ℤ) → Over (graphOf ns es) (rootIn s) f (w .before) x b ↔ Brings (graphOf ns es) (rootIn s) f x b
-        arrives x b =
-            let c = walk-entering {g = graphOf ns es} other x (b +ℤ f .delta) in (
-              λ y.
-                  let i = entering-out (graphOf ns es) (f .owner) (subst (λ (l : List Edge). y .edge ∈ l) all (y .among)) in
-                  record { above = y .above; below = y .below; walk = c .1 (stands (y .above) (y .below), (y .edge, i .0, i .1, y .walk)) },
-              λ y.
-                  let i = c .0 (y .walk) .1 in
-                  record {
-                    above = y .above;
-                    below = y .below;
-                    edge = i .0;
-                    among = subst (λ (l : List Edge). i .0 ∈ l) (sym all) (entering-in (graphOf ns es) (i .1) (i .2));
-                    walk = i .3;
-                  },
-            )
-          where
-            stands : f .low ≤ℤ b → b ≤ℤ f .high → StandsOn (node (graphOf ns es) (f .owner)) (b +ℤ f .delta)
-            stands p q =
-                let l = k .inOwner in
-                record {
-                  above = omega (arith, ints, l .above, p, sum (f .low) (f .delta), sum b (f .delta));
-                  below = omega (arith, ints, l .below, q, sum (f .high) (f .delta), sum b (f .delta));
-                }
+        arrives x b = (
+          λ y.
+              let i = entering-out (graphOf ns es) (f .owner) (subst (λ (l : List Edge). y .edge ∈ l) all (y .among)) in
+              let c = walk-entering {g = graphOf ns es} other x (y .at) in
+              record { at = y .at; walk = c .1 (lying-stands (k .inOwner) (y .at) b (y .joins), (y .edge, i .0, i .1, y .walk)); joins = y .joins },
+          λ y.
+              let i = walk-entering {g = graphOf ns es} other x (y .at) .0 (y .walk) .1 in
+              record {
+                at = y .at;
+                joins = y .joins;
+                edge = i .0;
+                among = subst (λ (l : List Edge). i .0 ∈ l) (sym all) (entering-in (graphOf ns es) (i .1) (i .2));
+                walk = i .3;
+              },
+        )
 
     -- ---- a turn
 
@@ -379,27 +370,33 @@ module _ {ns es : List ℤ} {plan : List ℕ} {f : Reference} {left : ℕ} {s : 
       source-covered : Covered es (doneOf es plan (k .passed)) (pos source)
       source-covered = subst (λ (v : ℤ). Covered es (doneOf es plan (k .passed)) v) (sym source-is) (done-closed through-sweeping edge turn-done)
 
-      -- what comes through the edge, of what arrives at that node
+      -- what comes over the edge, of what arrives at that node, and what the reference takes of it
+      abbrev entered : Reference
+      entered = stepped (graphOf ns es) edge (referenceAt t source)
+
       abbrev part : Reference
-      part = through (bitOffset (graphOf ns es) edge) f (referenceAt t source)
+      part = takenOf f entered
 
       -- it is what the reference has over the edge
       over-edge : (x b : ℤ) → Over (graphOf ns es) (rootIn s) f (edge ∷ []) x b ↔ ((isMet t source ≡ true) × Brings (graphOf ns es) (rootIn s) part x b)
       over-edge x b =
-          let c = (b +ℤ f .delta) +ℤ bitOffset (graphOf ns es) edge in
-          let a = settled through-sweeping source source-below source-covered x c in
-          let u = through-brings (graphOf ns es) (rootIn s) (bitOffset (graphOf ns es) edge) f (referenceAt t source) x b in (
+          let g = graphOf ns es in
+          let u = taken-brings g (rootIn s) f entered x b in (
             λ y.
-                let z = a .0 (from-here c (subst (λ (d : Edge). Walk (graphOf ns es) (rootIn s) x (d .from) ((b +ℤ f .delta) +ℤ bitOffset (graphOf ns es) d)) (List·Memᴰ·eq-of-singleton (y .among)) (y .walk))) in
-                (z .0, u .1 (y .above, y .below, brings-here c (z .1))),
+                let c = y .at +ℤ bitOffset g edge in
+                let z = settled through-sweeping source source-below source-covered x c .0 (from-here c (subst (λ (d : Edge). Walk g (rootIn s) x (d .from) (y .at +ℤ bitOffset g d)) (List·Memᴰ·eq-of-singleton (y .among)) (y .walk))) in
+                let stands = subst (λ (v : ℤ). StandsOn (node g v) (y .at)) (sym edge-enters) (lying-stands (k .inOwner) (y .at) b (y .joins)) in
+                (z .0, u .1 (y .at, stepped-brings g (rootIn s) edge (referenceAt t source) x (y .at) .1 (stands, brings-here c (z .1)), y .joins)),
             λ y.
-                let z = u .0 (y .1) in
+                let (at, h, j) = u .0 (y .1) in
+                let c = at +ℤ bitOffset g edge in
+                let z = stepped-brings g (rootIn s) edge (referenceAt t source) x at .0 h in
                 record {
-                  above = z .0;
-                  below = z .1;
+                  at = at;
+                  joins = j;
                   edge = edge;
                   among = List·Memᴰ·head refl;
-                  walk = from-there c (a .1 (y .0, brings-there c (z .2)));
+                  walk = from-there c (settled through-sweeping source source-below source-covered x c .1 (y .0, brings-there c (z .1)));
                 },
           )
         where
@@ -420,10 +417,10 @@ module _ {ns es : List ℤ} {plan : List ℕ} {f : Reference} {left : ℕ} {s : 
           ↔ (Over (graphOf ns es) (rootIn s) f (w .before) x b ⊎ Over (graphOf ns es) (rootIn s) f (edge ∷ []) x b)
       over-more x b = (
         λ y.
-            ⊎-elim (λ m. inl (record { above = y .above; below = y .below; edge = y .edge; among = m; walk = y .walk }))
-            (λ m. inr (record { above = y .above; below = y .below; edge = y .edge; among = m; walk = y .walk })) (List·Memᴰ·append-cases (w .before) (y .among)),
-        ⊎-elim (λ y. record { above = y .above; below = y .below; edge = y .edge; among = Memᴰ·append-left (edge ∷ []) (y .among); walk = y .walk })
-            (λ y. record { above = y .above; below = y .below; edge = y .edge; among = Memᴰ·append-right (w .before) (y .among); walk = y .walk }),
+            ⊎-elim (λ m. inl (record { at = y .at; joins = y .joins; edge = y .edge; among = m; walk = y .walk }))
+            (λ m. inr (record { at = y .at; joins = y .joins; edge = y .edge; among = m; walk = y .walk })) (List·Memᴰ·append-cases (w .before) (y .among)),
+        ⊎-elim (λ y. record { at = y .at; joins = y .joins; edge = y .edge; among = Memᴰ·append-left (edge ∷ []) (y .among); walk = y .walk })
+            (λ y. record { at = y .at; joins = y .joins; edge = y .edge; among = Memᴰ·append-right (w .before) (y .among); walk = y .walk }),
       )
 
       -- where nothing comes over the edge, the turn at the next edge can begin
@@ -464,7 +461,7 @@ module _ {ns es : List ℤ} {plan : List ℕ} {f : Reference} {left : ℕ} {s : 
             record {
               passed = k .passed;
               sweeping = through-sweeping;
-              inOwner = through-lying (bitOffset (graphOf ns es) edge) (lying-small (k .sweeping .tables) (k .inOwner)) source-lying full;
+              inOwner = taken-lying f (k .inOwner .small) (stepped-lying (k .sweeping .tables .graph) inside source-lying (taken-full (f .run) (entered .run) full)) full;
               met = source-mark .owner met;
               covered = covered-way through-sweeping (source-way .1) (done-closed through-sweeping edge turn-done);
               deep = λ p y. deeper p (subst (λ (r : ℤ). Way (graphOf ns es) r p (part .owner)) through-root y);
@@ -521,53 +518,36 @@ module _ {ns es : List ℤ} {plan : List ℕ} {f : Reference} {left : ℕ} {s : 
                 )
 
       -- what the code asks of the edge
-      pub turn-crossable : Crossable ns es e f t
+      pub turn-crossable : Crossable ns es e t
       turn-crossable =
           record {
             tables = k .sweeping .tables;
             there = there;
-            small = lying-small (k .sweeping .tables) (k .inOwner);
             marks = omega (arith, through-sweeping .room);
             source = λ u q y.
                 let z : u ≡ source = ap natAbs q in
-                lying-small (k .sweeping .tables) (subst (λ (v : ℕ). InOwner (graphOf ns es) (referenceAt t v)) (sym z) (source-mark .inOwner (subst (λ (v : ℕ). isMet t v ≡ true) z y)));
+                subst (λ (v : ℕ). InOwner (graphOf ns es) (referenceAt t v)) (sym z) (source-mark .inOwner (subst (λ (v : ℕ). isMet t v ≡ true) z y)) .small;
           }
 
-NoneOf : Option Reference → Type 0
-NoneOf none = Unit {0}
-NoneOf (some x) = ⊥
-
-none-some : {x : Reference} → none ≡ some x → ⊥
-unfolding NoneOf
-none-some q = subst NoneOf q tt
-
-orElse : Reference → Option Reference → Reference
-orElse x none = x
-orElse x (some y) = y
-
-some-same : {x y : Reference} → some x ≡ some y → x ≡ y
-unfolding orElse
-some-same {x} q = ap (orElse x) q
-
--- what an edge brings is what comes through it, where something has arrived at the node that it leaves
+-- what an edge brings is what the reference takes of what comes over it, where something has arrived at the node that it leaves
 pub crossing-part : (g : Graph) (e : Edge) (f p : Reference) (s : List ℤ) → some p ≡ crossing g e f s
-    → (isMet s (natAbs (e .from)) ≡ true) × (T (not (isNone (through (bitOffset g e) f (referenceAt s (natAbs (e .from))))))) × (p ≡ through (bitOffset g e) f (referenceAt s (natAbs (e .from))))
+    → (isMet s (natAbs (e .from)) ≡ true) × (T (not (isNone (takenOf f (stepped g e (referenceAt s (natAbs (e .from)))))))) × (p ≡ takenOf f (stepped g e (referenceAt s (natAbs (e .from)))))
 crossing-part g e f p s q =
-    go (isMet s (natAbs (e .from))) (isNone (through (bitOffset g e) f (referenceAt s (natAbs (e .from))))) q
+    go (isMet s (natAbs (e .from))) (isNone (takenOf f (stepped g e (referenceAt s (natAbs (e .from)))))) q
   where
-    go : (a b : Bool) → some p ≡ cond a (cond b none (some (through (bitOffset g e) f (referenceAt s (natAbs (e .from)))))) none
-        → (a ≡ true) × T (not b) × (p ≡ through (bitOffset g e) f (referenceAt s (natAbs (e .from))))
+    go : (a b : Bool) → some p ≡ cond a (cond b none (some (takenOf f (stepped g e (referenceAt s (natAbs (e .from))))))) none
+        → (a ≡ true) × T (not b) × (p ≡ takenOf f (stepped g e (referenceAt s (natAbs (e .from)))))
     go true true q = absurd (none-some (sym q))
     go true false q = (refl, tt, some-same q)
     go false b q = absurd (none-some (sym q))
 
 -- and nothing, where it brings none
 pub crossing-nothing : (g : Graph) (e : Edge) (f : Reference) (s : List ℤ) → none ≡ crossing g e f s → isMet s (natAbs (e .from)) ≡ true
-    → T (isNone (through (bitOffset g e) f (referenceAt s (natAbs (e .from)))))
+    → T (isNone (takenOf f (stepped g e (referenceAt s (natAbs (e .from))))))
 crossing-nothing g e f s q m =
-    go (isMet s (natAbs (e .from))) (isNone (through (bitOffset g e) f (referenceAt s (natAbs (e .from))))) q m
+    go (isMet s (natAbs (e .from))) (isNone (takenOf f (stepped g e (referenceAt s (natAbs (e .from)))))) q m
   where
-    go : (a b : Bool) → none ≡ cond a (cond b none (some (through (bitOffset g e) f (referenceAt s (natAbs (e .from)))))) none → a ≡ true → T b
+    go : (a b : Bool) → none ≡ cond a (cond b none (some (takenOf f (stepped g e (referenceAt s (natAbs (e .from))))))) none → a ≡ true → T b
     go true true q m = tt
     go true false q m = absurd (none-some q)
     go false b q m = absurd (not-both m refl)

@@ -6,21 +6,23 @@ use mathlib.Core.Logic.{_↔_, Iff·trans}
 use Prim.Native.Nat.{ℕ, _≤_, _<_, _^_}
 use native.Mathlib.Omega.{arith}
 use lib.IntN.{ℤ, pos, _+ℤ_, _-ℤ_, +ℤ-negℤ-cancel}
-use lib.Signed.{_≤ℤ_, _<ℤ_}
+use lib.Signed.{_≤ℤ_}
 use lib.ListN.{length, take, length-map, length-take}
 use lib.Seq.{take-all}
-use Rattle.integers.proofs.Linear.{ints, sum, diff, neg}
+use Rattle.integers.proofs.Linear.{ints, diff, neg}
 use Rattle.model.specs.Limits.{maxChain, lastAddress}
 use Rattle.model.specs.Rows.{Edge, nodeRows}
-use Rattle.model.specs.Graph.{graphOf, NodeRow, node, firstBit, lastBit}
+use Rattle.model.specs.Graph.{graphOf, node, firstBit}
 use Rattle.model.specs.Walk.{Walk, Reached}
-use Rattle.model.specs.Quantities.{Movable, Addable}
+use Rattle.model.specs.Runs.{shift}
 use Rattle.model.proofs.Paths.{way-short}
 use Rattle.model.proofs.Walks.{reached-arrival}
 use Rattle.tables.specs.Tables.{edgeAt}
-use Rattle.tables.proofs.Limits.{first-address, last-address}
-use Rattle.steps.specs.Steps.{GoodRow}
-use Rattle.steps.proofs.Rows.{node-good}
+use Rattle.tables.proofs.Limits.{first-address}
+use Rattle.runs.specs.Clipping.{SmallRun, SmallOffset}
+use Rattle.runs.proofs.Runs.{shift-last}
+use Rattle.extents.specs.Extents.{GoodRow}
+use Rattle.extents.proofs.Rows.{node-good}
 use Rattle.reach.specs.Counting.{pathCount}
 use Rattle.entering.proofs.Counts.{count-way}
 use Rattle.listing.proofs.Appending.{append-none}
@@ -82,52 +84,39 @@ module _ {ns es : List ℤ} {plan : List ℕ} {leaf : ℕ} {s : List ℤ} {n : �
     inOwner : InOwner (graphOf ns es) (referenceAt s leaf)
     inOwner = mark .inOwner met
 
-    -- the first bit of the leaf, and the bits of the owner
+    -- the first bit of the leaf
     pub first-small : (pos 0 ≤ℤ firstBit (node (graphOf ns es) (pos leaf))) × (firstBit (node (graphOf ns es) (pos leaf)) ≤ℤ lastAddress)
     first-small = first-address (o .state .state .tables .graph .good (pos leaf) (o .block .row))
 
-    owner-small : {v : ℤ} → NodeRow (graphOf ns es) v
-        → (pos 0 ≤ℤ firstBit (node (graphOf ns es) v)) × (lastBit (node (graphOf ns es) v) ≤ℤ lastAddress)
-    owner-small {v} row =
-        let good = o .state .state .tables .graph .good v row in
-        (first-address good .0, last-address good .1)
-
     -- the reference, as it is read, can be shifted by a small number
-    pub part-movable : {f : Reference} {o : ℤ} → f ≡ referenceAt s leaf → pos 0 ≤ℤ o → o ≤ℤ lastAddress
-        → Movable (f .low) o × Movable (f .high) o × Addable (f .delta) o
-    part-movable {f} {o} read low high =
-        let here : InOwner (graphOf ns es) f = subst (InOwner (graphOf ns es)) (sym read) inOwner in
-        let least = neg (pos (2 ^ 62)) in
-        let moved : (a : ℤ) → pos 0 ≤ℤ a → a <ℤ pos (2 ^ 62) → Movable a o =
-        λ a up down. record { low = up; high = down; offsetLow = omega (arith, ints, low, least); offsetHigh = omega (arith, ints, high) } in
-        let size = sum (f .delta) o in
-        let below = sum (f .low) (f .delta) in
-        let above = sum (f .high) (f .delta) in
-        let small = owner-small (here .row) in (
-          moved (f .low) (here .low) (omega (arith, ints, here .full, here .high)),
-          moved (f .high) (omega (arith, ints, here .full, here .low)) (here .high),
-          record {
-            low = omega (arith, ints, here .above, here .full, here .high, small .0, low, least);
-            high = omega (arith, ints, here .below, here .full, here .low, small .1, high);
-          },
-        )
+    pub part-movable : {f : Reference} {o : ℤ} → f ≡ referenceAt s leaf → pos 0 ≤ℤ o → o ≤ℤ lastAddress → SmallRun (f .run) × SmallOffset o
+    part-movable {f} {o} read low high = (
+      subst (λ (e : Reference). SmallRun (e .run)) (sym read) (inOwner .small),
+      record { low = omega (arith, ints, low, neg (pos (2 ^ 62))); high = omega (arith, ints, high) },
+    )
 
     -- shifted so it lies where it did
     part-lying : InOwner (graphOf ns es) (leafPart ns es leaf s)
+    unfolding shift
     part-lying =
-        let f = referenceAt s leaf in
+        let r = referenceAt s leaf .run in
         let first = firstBit (node (graphOf ns es) (pos leaf)) in
         let inside = mark .inside met in
-        let size = sum (f .delta) first in
-        let low = diff (f .low) first in
-        let high = diff (f .high) first in
+        let small = inOwner .small in
+        let low = diff (r .low) first in
+        let high = diff (r .high) first in
+        let last = shift-last first r in
         record {
           row = inOwner .row;
-          full = omega (arith, ints, inOwner .full);
-          low = omega (arith, ints, inside .0);
-          high = omega (arith, ints, inOwner .high, first-small .0);
-          above = omega (arith, ints, inOwner .above, sum (f .low) (f .delta), sum (f .low -ℤ first) (f .delta +ℤ first));
-          below = omega (arith, ints, inOwner .below, sum (f .high) (f .delta), sum (f .high -ℤ first) (f .delta +ℤ first));
+          small = record {
+            root = small .root;
+            low = omega (arith, ints, inside .0);
+            full = omega (arith, ints, small .full);
+            high = omega (arith, ints, small .high, first-small .0);
+            last = omega (arith, ints, last, small .last);
+          };
+          above = inOwner .above;
+          below = omega (arith, ints, last, inOwner .below);
         }
 
     -- no fewer paths lead to the leaf than to the owner

@@ -25,9 +25,9 @@ owner-number s v = rw add-zero
 
 -- six numbers stored one after another are a mark
 pub mark-stored :
-    (s : List ℤ) (v : ℕ) (m : Mark) {owner delta low high row count : ℤ}
-    → owner ≡ m .owner → delta ≡ m .delta → low ≡ m .low → high ≡ m .high → row ≡ m .row → count ≡ m .count
-    → set (set (set (set (set (set s (markWidth * v) owner) (markWidth * v + 1) delta) (markWidth * v + 2) low) (markWidth * v + 3) high) (markWidth * v + 4) row) (markWidth * v + 5) count
+    (s : List ℤ) (v : ℕ) (m : Mark) {owner root low high row count : ℤ}
+    → owner ≡ m .owner → root ≡ m .root → low ≡ m .low → high ≡ m .high → row ≡ m .row → count ≡ m .count
+    → set (set (set (set (set (set s (markWidth * v) owner) (markWidth * v + 1) root) (markWidth * v + 2) low) (markWidth * v + 3) high) (markWidth * v + 4) row) (markWidth * v + 5) count
     ≡ setMark s v m
 mark-stored s v m o d l h p c = cc (add-zero (markWidth * v))
 
@@ -43,7 +43,7 @@ mark-length s v m = simp length-set
 pub mark-elsewhere : (s : List ℤ) (v j : ℕ) (m : Mark) → ((k : ℕ) → k < markWidth → j ≢ markWidth * v + k) → getD (setMark s v m) j (pos 0) ≡ getD s j (pos 0)
 mark-elsewhere s v j m n =
     let owner : j ≢ markWidth * v + 0 = n 0 (omega arith) in
-    let delta : j ≢ markWidth * v + 1 = n 1 (omega arith) in
+    let root : j ≢ markWidth * v + 1 = n 1 (omega arith) in
     let low : j ≢ markWidth * v + 2 = n 2 (omega arith) in
     let high : j ≢ markWidth * v + 3 = n 3 (omega arith) in
     let row : j ≢ markWidth * v + 4 = n 4 (omega arith) in
@@ -71,7 +71,7 @@ module _ (s : List ℤ) (v w : ℕ) (m : Mark) (other : w ≢ v) where
   pub mark-other : markAt (setMark s v m) w ≡ markAt s w
   mark-other =
       let owner = number-other 0 (omega arith) in
-      let delta = number-other 1 (omega arith) in
+      let root = number-other 1 (omega arith) in
       let low = number-other 2 (omega arith) in
       let high = number-other 3 (omega arith) in
       let row = number-other 4 (omega arith) in
@@ -82,7 +82,7 @@ module _ (s : List ℤ) (v w : ℕ) (m : Mark) (other : w ≢ v) where
   met-other = ap (λ (x : Mark). leZ (pos 0) (x .owner)) mark-other
 
   pub reference-other : referenceAt (setMark s v m) w ≡ referenceAt s w
-  reference-other = ap (λ (x : Mark). record { owner = x .owner; delta = x .delta; low = x .low; high = x .high }) mark-other
+  reference-other = ap (λ (x : Mark). record { owner = x .owner; run = record { root = x .root; low = x .low; high = x .high } }) mark-other
 
   pub listed-other : isListed (setMark s v m) w ≡ isListed s w
   listed-other = ap (λ (x : Mark). leZ (pos 0) (x .row)) mark-other
@@ -122,7 +122,7 @@ module _ (s : List ℤ) (v : ℕ) (m : Mark) (room : markWidth * v + markWidth �
 -- the reference of a stored mark
 pub reference-same : (s : List ℤ) (v : ℕ) (f : Reference) (row count : ℤ) → markWidth * v + markWidth ≤ length s → referenceAt (setMark s v (marked f row count)) v ≡ f
 reference-same s v f row count h =
-    ap (λ (x : Mark). record { owner = x .owner; delta = x .delta; low = x .low; high = x .high }) (mark-same s v (marked f row count) h)
+    ap (λ (x : Mark). record { owner = x .owner; run = record { root = x .root; low = x .low; high = x .high } }) (mark-same s v (marked f row count) h)
 
 -- ---- marks without an owner
 

@@ -30,18 +30,19 @@ use Rattle.sorting.proofs.Tables.{rowsOf-written}
 use Rattle.normalisation.specs.Merging.{byDisplacement, ofDisplacement, displacedOf}
 use Rattle.tables.specs.Tables.{edgeAt}
 use Rattle.tables.proofs.Rows.{edges-length}
-use Rattle.steps.proofs.Rows.{edge-in}
+use Rattle.extents.proofs.Rows.{edge-in}
 use Rattle.reach.specs.Counting.{pathCount}
 use Rattle.reach.proofs.Counting.{count-leaf}
 use Rattle.entering.proofs.Counts.{count-edge}
 use Rattle.entering.proofs.Walks.{walk-root}
 use Rattle.entering.proofs.Ways.{way-onward, way-back}
 use Rattle.forward.specs.Forward.{plannedCount, plannedOf}
-use Rattle.references.specs.References.{Reference, own, Brings, through, isNone, unlessNone, InOwner, SmallReference, sameReference, recordsAt}
-use Rattle.references.proofs.Bringing.{through-brings, none-brings, through-lying, through-inside, own-lying, lying-small, same-reference-is}
+use Rattle.model.specs.Runs.{whole}
+use Rattle.references.specs.References.{Reference, own, Brings, stepped, isNone, unlessNone, InOwner, sameReference, recordsAt}
+use Rattle.references.proofs.Bringing.{stepped-brings, none-brings, stepped-lying, stepped-inside, own-lying, same-reference-is}
 use Rattle.arrivals.specs.State.{markWidth, Mark, markNumber, markAt, setMark, marked, freeAt, rootAt, arenaRow, stateRoom, isMet, referenceAt, listRow, countOf, freeRow, rootIn, notListed}
 use Rattle.arrivals.specs.Sweep.{doneOf, Came, HasSome, Listed, RightMark, Sweeping, Sweepable}
-use Rattle.arrivals.specs.Moves.{Crossable, crossing, meeting, Ownable, Blank, begun}
+use Rattle.arrivals.specs.Moves.{Crossable, arriving, meeting, Ownable, Blank, begun}
 use Rattle.arrivals.proofs.Marks.{mark-same, mark-other, mark-behind, mark-length, mark-free, mark-root, met-other, reference-other, listed-other, listRow-other, number-other, met-same, reference-same, listed-same}
 use Rattle.arrivals.proofs.Agreeing.{row-few, rows-few}
 use Rattle.arrivals.proofs.Relisting.{listed-moved}
@@ -49,10 +50,10 @@ use Rattle.arrivals.proofs.Settled.{not-both, front-in, next-covered, d
 
 -- ---- what comes over an edge
 
--- the reference that is brought over an edge, where something has arrived at the node that it leaves
-crossing-met : (g : Graph) (e : Edge) (f : Reference) (s : List ℤ) (from : ℕ) → pos from ≡ e .from → isMet s from ≡ true
-    → crossing g e f s ≡ unlessNone (through (bitOffset g e) f (referenceAt s from))
-crossing-met g e f s from p m = let q : natAbs (e .from) ≡ from = ap natAbs (sym p) in rw (q, m)
+-- what comes over an edge, where something has arrived at the node that it leaves
+arriving-met : (g : Graph) (e : Edge) (s : List ℤ) (from : ℕ) → pos from ≡ e .from → isMet s from ≡ true
+    → arriving g e s ≡ unlessNone (stepped g e (referenceAt s from))
+arriving-met g e s from p m = let q : natAbs (e .from) ≡ from = ap natAbs (sym p) in rw (q, m)
 
 -- none where it has no bit address
 unless-none : (f : Reference) → unlessNone f ≡ none → T (isNone f)
@@ -70,10 +71,6 @@ unless-some f h e = go (isNone f) e
     go true q = let z : _≡_ {A = ℕ} 0 1 = cc in absurd (omega arith)
     go false q = let z : h ≡ f = cc in (z, tt)
 
--- of what arrives, by u, at the node that an edge leaves: what comes over the edge
-abbrev carried : Graph → Edge → Reference → Reference
-carried g e u = through (bitOffset g e) (own g (e .to)) u
-
 -- root bit x comes over edge e, with bit address b of the node that it enters
 record ComesOver (g : Graph) (r : ℤ) (e : Edge) (x b : ℤ) : Type 0 where
   stands : StandsOn (node g (e .to)) b
@@ -83,7 +80,12 @@ record ComesOver (g : Graph) (r : ℤ) (e : Edge) (x b : ℤ) : Type 0 where
 
 -- the bit addresses of f are some of v's
 abbrev Inside : Graph → ℤ → Reference → Type 0
-Inside g v f = (firstBit (node g v) ≤ℤ f .low) × (f .high ≤ℤ lastBit (node g v))
+Inside g v f = (firstBit (node g v) ≤ℤ f .run .low) × (f .run .high ≤ℤ lastBit (node g v))
+
+-- so are all bit addresses of v
+own-inside : (g : Graph) (v : ℤ) → Inside g v (own g v)
+unfolding whole
+own-inside g v = omega (arith, ints)
 
 -- a mark says the same after further edges, where nothing comes over them to its node
 marked-further : {g : Graph} {r : ℤ} {done more : List Edge} {s : List ℤ} {v : ℕ} → ((x b : ℤ) → Came g r more (pos v) x b ↔ Came g r done (pos v) x b)
@@ -112,7 +114,7 @@ module _ (s : List ℤ) (to : ℕ) (m : Mark) (low : to < maxNodes) (room : leng
   records-stay p c h =
       let past : (k : ℕ) → k < markWidth → markWidth * to + k < rowWidth * p = λ k j. omega arith in
       let owner = past 0 (omega arith) in
-      let delta = past 1 (omega arith) in
+      let root = past 1 (omega arith) in
       let first = past 2 (omega arith) in
       let last = past 3 (omega arith) in
       let row = past 4 (omega arith) in
@@ -314,48 +316,35 @@ module _ {ns es : List ℤ} {plan : List ℕ} {i : ℕ} {s : List ℤ} (w : Swee
         not-both (from-settled x (b +ℤ bitOffset (graphOf ns es) (nextEdge es plan i)) .0 (c .walk) .0) e)
 
     module _ (met : isMet s from ≡ true) where
-      -- else what comes over it is what the mark there brings, carried over it
+      -- else what comes over it is what the mark there brings, stepped over it
       comes-brings : (x b : ℤ) → ComesOver (graphOf ns es) (rootIn s) (nextEdge es plan i) x b
-          ↔ Brings (graphOf ns es) (rootIn s) (carried (graphOf ns es) (nextEdge es plan i) (referenceAt s from)) x b
+          ↔ Brings (graphOf ns es) (rootIn s) (stepped (graphOf ns es) (nextEdge es plan i) (referenceAt s from)) x b
       comes-brings x b =
           let g = graphOf ns es in
-          let o = bitOffset g (nextEdge es plan i) in
-          let all = own g (nextEdge es plan i .to) in
-          let same : b ≡ b +ℤ pos 0 = omega (arith, ints, sum b (pos 0)) in
-          let over = through-brings g (rootIn s) o all (referenceAt s from) x b in
-          let there = from-settled x (b +ℤ o) in (
-            λ c. over .1 (
-              c .stands .above,
-              c .stands .below,
-              subst (λ (z : ℤ). Brings g (rootIn s) (referenceAt s from) x (z +ℤ o)) same (there .0 (c .walk) .1),
-            ),
-            λ k.
-                let u = over .0 k in
-                record {
-                  stands = record { above = u .0; below = u .1 };
-                  walk = there .1 (met, subst (λ (z : ℤ). Brings g (rootIn s) (referenceAt s from) x (z +ℤ o)) (sym same) (u .2));
-                },
+          let over = stepped-brings g (rootIn s) (nextEdge es plan i) (referenceAt s from) x b in
+          let there = from-settled x (b +ℤ bitOffset g (nextEdge es plan i)) in (
+            λ c. over .1 (c .stands, there .0 (c .walk) .1),
+            λ k. let u = over .0 k in record { stands = u .0; walk = there .1 (met, u .1) },
           )
 
       -- where that has no bit address, nothing
-      pub sweeping-nothing : crossing (graphOf ns es) (nextEdge es plan i) (own (graphOf ns es) (nextEdge es plan i .to)) s ≡ none → Sweeping ns es plan (i + 1) s
+      pub sweeping-nothing : arriving (graphOf ns es) (nextEdge es plan i) s ≡ none → Sweeping ns es plan (i + 1) s
       sweeping-nothing e =
           let g = graphOf ns es in
-          let all = own g (nextEdge es plan i .to) in
-          let f = carried g (nextEdge es plan i) (referenceAt s from) in
-          let empty : T (isNone f) = unless-none f (sym (crossing-met g (nextEdge es plan i) all s from leaves met) ∙ e) in
+          let f = stepped g (nextEdge es plan i) (referenceAt s from) in
+          let empty : T (isNone f) = unless-none f (sym (arriving-met g (nextEdge es plan i) s from leaves met) ∙ e) in
           sweeping-nowhere (λ x b c. none-brings g (rootIn s) f x b empty (comes-brings x b .0 c))
 
       module _ (to : ℕ) (f : Reference) (rows : ℤ) (enters : pos to ≡ nextEdge es plan i .to)
-          (brought : crossing (graphOf ns es) (nextEdge es plan i) (own (graphOf ns es) (nextEdge es plan i .to)) s ≡ some f)
+          (brought : arriving (graphOf ns es) (nextEdge es plan i) s ≡ some f)
         where
           -- what is brought over it
-          brought-is : (f ≡ carried (graphOf ns es) (nextEdge es plan i) (referenceAt s from))
-              × T (not (isNone (carried (graphOf ns es) (nextEdge es plan i) (referenceAt s from))))
+          brought-is : (f ≡ stepped (graphOf ns es) (nextEdge es plan i) (referenceAt s from))
+              × T (not (isNone (stepped (graphOf ns es) (nextEdge es plan i) (referenceAt s from))))
           brought-is =
               let g = graphOf ns es in
-              unless-some (carried g (nextEdge es plan i) (referenceAt s from)) f
-              (sym (crossing-met g (nextEdge es plan i) (own g (nextEdge es plan i .to)) s from leaves met) ∙ brought)
+              unless-some (stepped g (nextEdge es plan i) (referenceAt s from)) f
+              (sym (arriving-met g (nextEdge es plan i) s from leaves met) ∙ brought)
 
           -- its owner is that of the node that it leaves
           brought-owner : f .owner ≡ referenceAt s from .owner
@@ -365,14 +354,13 @@ module _ {ns es : List ℤ} {plan : List ℕ} {i : ℕ} {s : List ℤ} (w : Swee
           pub brought-lying : InOwner (graphOf ns es) f
           brought-lying =
               let g = graphOf ns es in
-              let small = lying-small (w .tables) (own-lying (w .tables) (w .tables .graph .ends (nextEdge es plan i) next-in .1)) in
-              subst (InOwner g) (sym (brought-is .0)) (through-lying (bitOffset g (nextEdge es plan i)) small (source .inOwner met) (brought-is .1))
+              subst (InOwner g) (sym (brought-is .0)) (stepped-lying (w .tables .graph) next-in (source .inOwner met) (brought-is .1))
 
           -- and its bit addresses are some of the node entered
           brought-inside : Inside (graphOf ns es) (pos to) f
           brought-inside =
               let g = graphOf ns es in
-              let inside = through-inside (bitOffset g (nextEdge es plan i)) (own g (nextEdge es plan i .to)) (referenceAt s from) in
+              let inside = stepped-inside g (nextEdge es plan i) (referenceAt s from) in
               subst (λ (z : ℤ). Inside g z f) (sym enters) (subst (Inside g (nextEdge es plan i .to)) (sym (brought-is .0)) inside)
 
           -- it leads on to the node entered
@@ -436,7 +424,7 @@ module _ {ns es : List ℤ} {plan : List ℕ} {i : ℕ} {s : List ℤ} (w : Swee
               let all = own g (pos to) in
               let row = next-to enters in
               let m = bare all rows in
-              marked-stored s to all rows (row-few (w .tables) row) (w .room) (own-lying (w .tables) row) (omega (arith, ints))
+              marked-stored s to all rows (row-few (w .tables) row) (w .room) (own-lying (w .tables) row) (own-inside g (pos to))
               (λ k q. let z : k ≡ to = cc in rw z (met-stored s to m (row-few (w .tables) row) (w .room) (row .low))) ([], stay) (λ q. refl) (λ n. absurd (n refl))
 
           -- what has come over the edge is met with at the node that it enters
@@ -485,27 +473,19 @@ module _ {ns es : List ℤ} {plan : List ℕ} {i : ℕ} {s : List ℤ} (w : Swee
     pub to-read : {to : ℕ} → pos to ≡ edgeAt es e .to → pos to ≡ nextEdge es plan i .to
     to-read {to} q = subst (λ (k : ℕ). pos to ≡ edgeAt es k .to) row q
 
-    module _ {to : ℕ} {f : Reference} (enters : pos to ≡ nextEdge es plan i .to) (all : f ≡ own (graphOf ns es) (pos to)) where
-      -- what has arrived may be taken over it
-      pub next-crossable : Crossable ns es e f s
-      next-crossable =
-          let g = graphOf ns es in
-          record {
-            tables = w .tables;
-            there = next-readable .0;
-            small = subst SmallReference (sym all) (lying-small (w .tables) (own-lying (w .tables) (next-to w there enters)));
-            marks = omega (arith, w .room);
-            source = λ u q m. lying-small (w .tables) (w .marks u (row-there w there (next-from w there (from-read q))) .inOwner m);
-          }
+    -- what has arrived may be taken over it
+    pub next-crossable : Crossable ns es e s
+    next-crossable =
+        record {
+          tables = w .tables;
+          there = next-readable .0;
+          marks = omega (arith, w .room);
+          source = λ u q m. w .marks u (row-there w there (next-from w there (from-read q))) .inOwner m .small;
+        }
 
-      -- what the code says comes over it
-      pub crossing-read : {o : Option Reference} → o ≡ crossing (graphOf ns es) (edgeAt es e) f s
-          → crossing (graphOf ns es) (nextEdge es plan i) (own (graphOf ns es) (nextEdge es plan i .to)) s ≡ o
-      crossing-read q =
-          let g = graphOf ns es in
-          let same : f ≡ own g (nextEdge es plan i .to) = all ∙ ap (own g) enters in
-          sym (q ∙ ap (λ (k : Reference). crossing g (edgeAt es e) k s) same
-          ∙ ap (λ (k : ℕ). crossing g (edgeAt es k) (own g (nextEdge es plan i .to)) s) row)
+    -- what the code says comes over it
+    pub arriving-read : {o : Option Reference} → o ≡ arriving (graphOf ns es) (edgeAt es e) s → arriving (graphOf ns es) (nextEdge es plan i) s ≡ o
+    arriving-read q = sym (q ∙ ap (λ (k : ℕ). arriving (graphOf ns es) (edgeAt es k) s) row)
 
   -- it stands in the plan
   next-passed : nextEdge es plan i ∈ plannedOf es plan
@@ -531,7 +511,7 @@ module _ {ns es : List ℤ} {plan : List ℕ} {i : ℕ} {s : List ℤ} (w : Swee
 
 -- the row of the root's list
 abbrev rootRow : Reference → Row
-rootRow all = record { first = pos 0; second = all .low; third = all .high }
+rootRow all = record { first = pos 0; second = all .run .low; third = all .run .high }
 
 -- the state with the root's mark, and then with that row
 abbrev rootMarked : Reference → ℕ → List ℤ → List ℤ
@@ -590,7 +570,7 @@ module _ (all : Reference) (root : ℕ) (s : List ℤ) (low : root < maxNodes) (
       let number : (k : ℕ) → k < markWidth → markNumber (begun all root s) v k ≡ markNumber (rootMarked all root s) v k = λ k l.
       begun-number (markWidth * v + k) (omega arith) in
       let owner = number 0 (omega arith) in
-      let delta = number 1 (omega arith) in
+      let root = number 1 (omega arith) in
       let first = number 2 (omega arith) in
       let last = number 3 (omega arith) in
       let row = number 4 (omega arith) in
@@ -610,6 +590,7 @@ module _ (all : Reference) (root : ℕ) (s : List ℤ) (low : root < maxNodes) (
 
 -- a record of all bits of a root, with displacement 0, has what arrives at the root
 root-exact : {g : Graph} {r : ℤ} → Root g r → (x b : ℤ) → HasSome (ofDisplacement (rootRow (own g r)) ∷ []) x b ↔ Walk g r x r b
+unfolding whole
 root-exact {g} {r} root x b =
     let walks = walk-root {g = g} {r = r} (root .unentered) x b in
     let apart = diff x b in (
@@ -643,7 +624,7 @@ module _ {ns es : List ℤ} {plan : List ℕ} {root : ℕ} {old spare : List ℤ
         begun-mark all root s root-low room root root-low ∙ mark-same s root (marked all (pos arenaRow) (pos 1)) (omega (arith, root-low))
 
     root-reference : referenceAt (begun (own (graphOf ns es) (pos root)) root s) root ≡ own (graphOf ns es) (pos root)
-    root-reference = ap (λ (q : Mark). record { owner = q .owner; delta = q .delta; low = q .low; high = q .high }) root-mark
+    root-reference = ap (λ (q : Mark). record { owner = q .owner; run = record { root = q .root; low = q .low; high = q .high } }) root-mark
 
     root-met : isMet (begun (own (graphOf ns es) (pos root)) root s) root ≡ true
     root-met = ap (λ (q : Mark). leZ (pos 0) (q .owner)) root-mark ∙ is-true (leZ (pos 0) (pos root)) (a .start .row .low .le)
@@ -667,7 +648,7 @@ module _ {ns es : List ℤ} {plan : List ℕ} {root : ℕ} {old spare : List ℤ
           exact = λ x b. subst (λ (l : List Record). HasSome l x b ↔ Walk g (pos root) x (pos root) b) (sym records) (root-exact (a .start) x b);
           full = λ q m.
               let e : q ≡ ofDisplacement (rootRow all) = List·Memᴰ·eq-of-singleton (subst (λ (l : List Record). q ∈ l) records m) in
-              rw e (own-lying (a .tables) (a .start .row) .full);
+              rw e (own-lying (a .tables) (a .start .row) .small .full);
           few = omega (arith, count, count-leaf g (pos root));
           ascending = subst (λ (l : List Record). Ascending (map byDisplacement l)) (sym records) (more (λ y m. absurd (List·Memᴰ·not-nil m)) none);
         }
@@ -682,7 +663,7 @@ module _ {ns es : List ℤ} {plan : List ℕ} {root : ℕ} {old spare : List ℤ
         record {
           unmet = λ z. absurd (not-both root-met z);
           inOwner = λ z. subst (InOwner g) (sym same) (own-lying (a .tables) (a .start .row));
-          inside = λ z. subst (Inside g (pos root)) (sym same) (omega (arith, ints));
+          inside = λ z. subst (Inside g (pos root)) (sym same) (own-inside g (pos root));
           owner = λ z k q. let e : pos k ≡ pos root = q ∙ owner in let h : k ≡ root = cc in rw h root-met;
           way = λ z. subst (λ (o : ℤ). (p : List Edge) × Way g o p (pos root)) (sym owner) ([], stay);
           itself = λ z q. same;

@@ -84,7 +84,7 @@ module _ {ns es s t : List ℤ} (c : Relisted ns es s t) where
         unmet = λ q. m .unmet (sym (relisted-met v h) ∙ q);
         inOwner = λ q. subst (λ (f : Reference). InOwner g f) same (m .inOwner (met q));
         inside = λ q.
-            subst (λ (f : Reference). (firstBit (node g (pos v)) ≤ℤ f .low) × (f .high ≤ℤ lastBit (node g (pos v)))) same (m .inside (met q));
+            subst (λ (f : Reference). (firstBit (node g (pos v)) ≤ℤ f .run .low) × (f .run .high ≤ℤ lastBit (node g (pos v)))) same (m .inside (met q));
         owner = λ q k p.
             let at : pos k ≡ referenceAt s v .owner = p ∙ owners in
             relisted-met k (row-number ns es (subst (NodeRow g) (sym at) (m .inOwner (met q) .row))) ∙ m .owner (met q) k at;

@@ -19,7 +19,7 @@ use Rattle.model.specs.Graph.{graphOf, NodeRow}
 use Rattle.model.specs.Walk.{Walk}
 use Rattle.model.specs.Bitmapping.{Record}
 use Rattle.model.proofs.Paths.{way-short}
-use Rattle.steps.proofs.Rows.{node-good}
+use Rattle.extents.proofs.Rows.{node-good}
 use Rattle.reach.specs.Counting.{pathCount}
 use Rattle.sorting.specs.Rows.{rowWidth, Ascending}
 use Rattle.normalisation.specs.Merging.{byDisplacement, displacedOf}
@@ -86,7 +86,7 @@ module _ (s : List ℤ) (v : ℕ) (m : Mark) (row : v < maxNodes) (room : length
           let number : (k : ℕ) → k < markWidth → getD (set (setMark s v m) freeAt (pos used)) (markWidth * w + k) (pos 0) ≡ getD (setMark s v m) (markWidth * w + k) (pos 0) =
           λ k l. getD-set-other (setMark s v m) freeAt (markWidth * w + k) (pos used) (pos 0) (λ e. omega arith) in
           let owner = number 0 (omega arith) in
-          let delta = number 1 (omega arith) in
+          let root = number 1 (omega arith) in
           let low = number 2 (omega arith) in
           let high = number 3 (omega arith) in
           let row = number 4 (omega arith) in
@@ -95,7 +95,7 @@ module _ (s : List ℤ) (v : ℕ) (m : Mark) (row : v < maxNodes) (room : length
 
 -- a node that is its own owner and has no list is given a mark with the same reference: the state keeps all but the list
 module _ {ns es : List ℤ} {plan : List ℕ} {i v used : ℕ} {s t : List ℤ} {m : Mark} (w : Sweeping ns es plan i s) (c : Remarked v m used s t)
-    (reference : referenceAt s v ≡ record { owner = m .owner; delta = m .delta; low = m .low; high = m .high }) (unlisted : isListed s v ≡ false)
+    (reference : referenceAt s v ≡ record { owner = m .owner; run = record { root = m .root; low = m .low; high = m .high } }) (unlisted : isListed s v ≡ false)
     (more : freeRow s ≤ used) (room : used ≤ arenaRow + arenaRows)
     (list : leZ (pos 0) (m .row) ≡ true → Listed (graphOf ns es) (rootIn s) t v)
   where
@@ -111,7 +111,7 @@ module _ {ns es : List ℤ} {plan : List ℕ} {i v used : ℕ} {s t : List ℤ} 
     pub remarked-relisted : Relisted ns es s t
     remarked-relisted =
         let after : freeRow t ≡ used = ap natAbs (c .number) in
-        let of : Mark → Reference = λ m. record { owner = m .owner; delta = m .delta; low = m .low; high = m .high } in
+        let of : Mark → Reference = λ m. record { owner = m .owner; run = record { root = m .root; low = m .low; high = m .high } } in
         record {
           long = c .long;
           root = c .root;

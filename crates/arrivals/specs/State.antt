@@ -35,7 +35,7 @@ stateRoom = rowWidth * (arenaRow + arenaRows + maxPaths)
 -- below 0 where no list is stored; the number is then a guess at how many records it would have
 pub record Mark : Type 0 where
   pub owner : ℤ
-  pub delta : ℤ
+  pub root : ℤ
   pub low : ℤ
   pub high : ℤ
   pub row : ℤ
@@ -58,7 +58,7 @@ abbrev pub markAt : List ℤ → ℕ → Mark
 markAt s v =
     record {
       owner = markNumber s v 0;
-      delta = markNumber s v 1;
+      root = markNumber s v 1;
       low = markNumber s v 2;
       high = markNumber s v 3;
       row = markNumber s v 4;
@@ -68,7 +68,7 @@ markAt s v =
 -- the state with m as the mark of node v
 abbrev pub setMark : List ℤ → ℕ → Mark → List ℤ
 setMark s v m =
-    set (set (set (set (set (set s (markWidth * v + 0) (m .owner)) (markWidth * v + 1) (m .delta)) (markWidth * v + 2) (m .low))
+    set (set (set (set (set (set s (markWidth * v + 0) (m .owner)) (markWidth * v + 1) (m .root)) (markWidth * v + 2) (m .low))
     (markWidth * v + 3) (m .high)) (markWidth * v + 4) (m .row)) (markWidth * v + 5) (m .count)
 
 -- something has arrived at v
@@ -77,11 +77,11 @@ isMet s v = leZ (pos 0) (markNumber s v 0)
 
 -- the reference of node v
 abbrev pub referenceAt : List ℤ → ℕ → Reference
-referenceAt s v = record { owner = markNumber s v 0; delta = markNumber s v 1; low = markNumber s v 2; high = markNumber s v 3 }
+referenceAt s v = record { owner = markNumber s v 0; run = record { root = markNumber s v 1; low = markNumber s v 2; high = markNumber s v 3 } }
 
 -- a mark with this reference, row and count
 abbrev pub marked : Reference → ℤ → ℤ → Mark
-marked f row count = record { owner = f .owner; delta = f .delta; low = f .low; high = f .high; row = row; count = count }
+marked f row count = record { owner = f .owner; root = f .run .root; low = f .run .low; high = f .run .high; row = row; count = count }
 
 -- a list is stored for node v
 abbrev pub isListed : List ℤ → ℕ → Bool

@@ -59,7 +59,7 @@ pub record Listed (g : Graph) (r : ℤ) (s : List ℤ) (v : ℕ) : Type 0 where
 pub record RightMark (g : Graph) (r : ℤ) (done : List Edge) (s : List ℤ) (v : ℕ) : Type 0 where
   pub unmet : isMet s v ≡ false → (x b : ℤ) → Came g r done (pos v) x b → ⊥
   pub inOwner : isMet s v ≡ true → InOwner g (referenceAt s v)
-  pub inside : isMet s v ≡ true → (firstBit (node g (pos v)) ≤ℤ referenceAt s v .low) × (referenceAt s v .high ≤ℤ lastBit (node g (pos v)))
+  pub inside : isMet s v ≡ true → (firstBit (node g (pos v)) ≤ℤ referenceAt s v .run .low) × (referenceAt s v .run .high ≤ℤ lastBit (node g (pos v)))
   pub owner : isMet s v ≡ true → (k : ℕ) → pos k ≡ referenceAt s v .owner → isMet s k ≡ true
   pub way : isMet s v ≡ true → (p : List Edge) × Way g (referenceAt s v .owner) p (pos v)
   pub itself : isMet s v ≡ true → referenceAt s v .owner ≡ pos v → referenceAt s v ≡ own g (pos v)

@@ -11,11 +11,12 @@ ghost use lib.ListN.{length, getD};
 ghost use Rattle.model.specs.Limits.{maxNodes, maxPaths};
 ghost use Rattle.model.specs.Graph.{graphOf};
 ghost use Rattle.tables.specs.Tables.{edgeAt};
-ghost use Rattle.steps.specs.Steps.{GoodRow};
+ghost use Rattle.runs.specs.Clipping.{runOf, SmallRun};
+ghost use Rattle.extents.specs.Extents.{GoodRow};
 ghost use Rattle.references.specs.References.{referenceOf, own, broughtOf};
 ghost use Rattle.arrivals.specs.State.{markWidth, arenaRow, arenaRows, freeAt, stateRoom, setMark, marked, markNumber, isMet, referenceAt, isListed, freeRow, rootIn};
 ghost use Rattle.arrivals.specs.Sweep.{Sweeping, Gatherable, Gathered, Normalisable, Normalised, Makeable, Made, Sweepable, Swept, Appendable, LeafAppended};
-ghost use Rattle.arrivals.specs.Moves.{Crossable, crossing, meeting, Storable, storing, Ownable, ListMade, Passable, Blank, begun};
+ghost use Rattle.arrivals.specs.Moves.{Crossable, arriving, crossing, meeting, Storable, storing, Ownable, ListMade, Passable, Blank, begun};
 use forward::first_entering;
 use forward::next_entering;
 use forward::planned_count;
@@ -34,7 +35,9 @@ use references::gather_list;
 use references::own_reference;
 use references::same_reference;
 use references::shifted;
-use references::through;
+use references::step_over;
+use references::take;
+use runs::Run;
 use sorting::ROW_WIDTH;
 use sorting::Row;
 use tables::edge_from;
@@ -88,14 +91,16 @@ fn reference_at(state: &[i64], v: usize) -> Reference
     ensures { λ r. ⌜ referenceOf r ≡ referenceAt (now (state .entry)) v ⌝ }
 {
     let owner = state[MARK_WIDTH * v];
-    let delta = state[MARK_WIDTH * v + 1];
+    let root = state[MARK_WIDTH * v + 1];
     let low = state[MARK_WIDTH * v + 2];
     let high = state[MARK_WIDTH * v + 3];
     Reference {
         owner: owner as usize,
-        delta: Bits::of(delta),
-        low: Bits::of(low),
-        high: Bits::of(high),
+        run: Run {
+            root: Bits::of(root),
+            low: Bits::of(low),
+            high: Bits::of(high),
+        },
     }
 }
 
@@ -193,31 +198,43 @@ fn put_mark(state: &mut [i64], v: usize, f: Reference, row: i64, count: i64)
     requires { ⌜ (markWidth * v + markWidth ≤ length (now state)) × (f .owner < maxNodes) ⌝ }
     ensures { λ _. ⌜ now (state .exit) ≡ setMark (now (state .entry)) v (marked (referenceOf f) row count) ⌝ }
 {
-    let delta = f.delta;
-    let low = f.low;
-    let high = f.high;
-    let shift = delta.0;
+    let run = f.run;
+    let root = run.root;
+    let low = run.low;
+    let high = run.high;
+    let origin = root.0;
     let first = low.0;
     let last = high.0;
     state[MARK_WIDTH * v] = f.owner as i64;
-    state[MARK_WIDTH * v + 1] = shift;
+    state[MARK_WIDTH * v + 1] = origin;
     state[MARK_WIDTH * v + 2] = first;
     state[MARK_WIDTH * v + 3] = last;
     state[MARK_WIDTH * v + 4] = row;
     state[MARK_WIDTH * v + 5] = count;
 }
 
-// What comes over edge e of what f takes of the node that it enters, where something has arrived at the node that it leaves.
-fn brought_over(nodes: &[i64], edges: &[i64], e: usize, f: Reference, state: &[i64]) -> Brought
-    requires { ⌜ Crossable (now nodes) (now edges) e (referenceOf f) (now state) ⌝ }
-    ensures { λ r. ⌜ broughtOf r ≡ crossing (graphOf (now (nodes .entry)) (now (edges .entry))) (edgeAt (now (edges .entry)) e) (referenceOf f) (now (state .entry)) ⌝ }
+// What comes over edge e, where something has arrived at the node that it leaves: the step over the edge.
+fn arriving_over(nodes: &[i64], edges: &[i64], e: usize, state: &[i64]) -> Brought
+    requires { ⌜ Crossable (now nodes) (now edges) e (now state) ⌝ }
+    ensures { λ r. ⌜ broughtOf r ≡ arriving (graphOf (now (nodes .entry)) (now (edges .entry))) (edgeAt (now (edges .entry)) e) (now (state .entry)) ⌝ }
 {
     let from = edge_from(edges, e);
     if !is_met(state, from) {
         return Brought::Nothing;
     }
-    let u = reference_at(state, from);
-    through(f, u, steps::offset_of(nodes, edges, e))
+    step_over(nodes, edges, e, reference_at(state, from))
+}
+
+// What f takes of what comes over edge e, which enters the owner of f.
+fn brought_over(nodes: &[i64], edges: &[i64], e: usize, f: Reference, state: &[i64]) -> Brought
+    requires { ⌜ Crossable (now nodes) (now edges) e (now state) × SmallRun (runOf (f .run)) ⌝ }
+    ensures { λ r. ⌜ broughtOf r ≡ crossing (graphOf (now (nodes .entry)) (now (edges .entry))) (edgeAt (now (edges .entry)) e) (referenceOf f) (now (state .entry)) ⌝ }
+{
+    let arrived = arriving_over(nodes, edges, e, state);
+    if let Brought::Left(entered) = arrived {
+        return take(f, entered);
+    }
+    Brought::Nothing
 }
 
 // Gathers the rows of what a reference brings, behind the first n rows, over at most `left` edges: from the list of its owner where one is stored, else through
@@ -238,8 +255,8 @@ fn gather(
     let owner = f.owner;
     if is_listed(state, owner) {
         let list = stored_at(state, owner);
-        let all = own_reference(nodes, number_at(state, ROOT_AT));
-        return gather_list(state, list.row, list.count, f, all.low, all.high, n);
+        let bits = extents::whole(nodes, number_at(state, ROOT_AT));
+        return gather_list(state, list.row, list.count, f, bits.low, bits.high, n);
     }
     if left == 0 {
         return n;
@@ -364,7 +381,7 @@ fn pass_edge(
     }
     store_list(nodes, edges, plan, from, state, spare);
     let to = edge_to(edges, e);
-    let brought = brought_over(nodes, edges, e, own_reference(nodes, to), state);
+    let brought = arriving_over(nodes, edges, e, state);
     if let Brought::Left(part) = brought {
         meet(nodes, to, part, state);
     }
@@ -388,8 +405,9 @@ fn start_root(nodes: &[i64], root: usize, state: &mut [i64])
     ensures { λ _. ⌜ ((es : List ℤ) → now (state .exit) ≡ begun (own (graphOf (now (nodes .entry)) es) (pos root)) root (now (state .entry))) ⌝ }
 {
     let all = own_reference(nodes, root);
-    let low = all.low;
-    let high = all.high;
+    let bits = all.run;
+    let low = bits.low;
+    let high = bits.high;
     put_mark(state, root, all, ARENA_ROW as i64, 1);
     let used = append_row(
         state,
@@ -444,7 +462,8 @@ pub fn append_rows(
     if !is_met(state, leaf) {
         return n;
     }
-    let all = own_reference(nodes, leaf);
-    let part = shifted(reference_at(state, leaf), all.low);
+    let bits = extents::whole(nodes, leaf);
+    let first = bits.low;
+    let part = shifted(reference_at(state, leaf), first);
     gather(nodes, edges, plan, part, MAX_CHAIN, state, n)
 }

@@ -20,7 +20,7 @@ use Rattle.model.proofs.Taken.{taken-address}
 use Rattle.model.proofs.Walks.{walk-start, walk-end}
 use Rattle.model.proofs.Groups.{raised-some, raised-full, bank-lower, group-more, group-paths-more}
 use Rattle.tables.proofs.Limits.{first-address}
-use Rattle.steps.specs.Steps.{SmallAddress}
+use Rattle.extents.specs.Extents.{SmallAddress}
 use Rattle.reach.specs.Counting.{pathCount}
 use Rattle.sorting.specs.Rows.{rowWidth, rowsOf, rowsFrom}
 use Rattle.sorting.proofs.Tables.{rowsOf-add, rowsFrom-none, rowsFrom-length}

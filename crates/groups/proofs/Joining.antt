@@ -15,7 +15,7 @@ use Rattle.model.proofs.Normalisation.{normal-unique, normal-length}
 use Rattle.model.proofs.Records.{has-at}
 use Rattle.model.proofs.Taken.{taken-address, taken-fit}
 use Rattle.model.proofs.Walks.{walk-start}
-use Rattle.steps.specs.Steps.{SmallAddress}
+use Rattle.extents.specs.Extents.{SmallAddress}
 use Rattle.reach.specs.Counting.{pathCount}
 use Rattle.sorting.specs.Rows.{rowWidth, rowsOf, rowsFrom, sorted}
 use Rattle.sorting.proofs.Tables.{rowsFrom-length}

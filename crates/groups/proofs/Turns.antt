@@ -18,7 +18,7 @@ use Rattle.model.specs.Compare.{sameSpec, group, bankOf}
 use Rattle.model.proofs.Groups.{group-paths-one}
 use Rattle.tables.specs.Tables.{pairAt}
 use Rattle.tables.proofs.Rows.{pair-member}
-use Rattle.steps.specs.Steps.{SmallAddress}
+use Rattle.extents.specs.Extents.{SmallAddress}
 use Rattle.reach.specs.Counting.{pathCount}
 use Rattle.entering.specs.Entering.{Covered}
 use Rattle.forward.specs.Forward.{plannedOf}

@@ -17,7 +17,7 @@ use Rattle.model.specs.Runs.{listOf}
 use Rattle.model.specs.Groups.{Bank, GroupReached, raisedBy, groupList, groupPaths}
 use Rattle.model.specs.Compare.{group, bankOf}
 use Rattle.tables.specs.Tables.{pairAt}
-use Rattle.steps.specs.Steps.{SmallAddress}
+use Rattle.extents.specs.Extents.{SmallAddress}
 use Rattle.grouping.specs.Links.{Linked, Passing}
 use Rattle.reach.specs.Counting.{pathCount}
 use Rattle.sorting.specs.declared.Row.{Row}

@@ -7,7 +7,7 @@ ghost use lib.IntN.{ℤ};
 ghost use Rattle.model.specs.Quantities.{Subtractable};
 ghost use Rattle.model.specs.Groups.{Bank};
 ghost use Rattle.sorting.specs.Rows.{rowsFrom};
-ghost use Rattle.steps.specs.Steps.{SmallAddress};
+ghost use Rattle.extents.specs.Extents.{SmallAddress};
 ghost use Rattle.listing.specs.Listing.{Appended};
 ghost use Rattle.arrivals.specs.Sweep.{Swept, Appendable};
 ghost use Rattle.groups.specs.Banks.{raisedRow, Raisable, bankWith, Gathering, Joinable, GroupAnswered, Askable, Answered, banksAt, GroupAskable};

@@ -14,7 +14,7 @@ use Rattle.model.specs.Graph.{graphOf, NodeRow}
 use Rattle.model.specs.Runs.{leaving}
 use Rattle.tables.specs.Tables.{edgeAt}
 use Rattle.tables.proofs.Rows.{nodes-length, edges-length, edges-at}
-use Rattle.steps.proofs.Rows.{to-row}
+use Rattle.extents.proofs.Rows.{to-row}
 use Rattle.model.specs.Limits.{nodeWidth, edgeWidth}
 use Rattle.sorting.specs.Rows.{rowWidth}
 use Rattle.sorting.specs.declared.Row.{Row}

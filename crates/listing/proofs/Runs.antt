@@ -21,11 +21,8 @@ use Rattle.model.proofs.Walks.{runsFrom, runs-stay, runs-step}
 use Rattle.sorting.specs.declared.Row.{Row}
 use Rattle.reach.specs.Counting.{pathCount}
 use Rattle.reach.proofs.Reaching.{within-none}
-use Rattle.steps.specs.declared.Run.{Run as Held}
-use Rattle.steps.specs.declared.Clipped.{Clipped}
-use Rattle.steps.specs.declared.Clipped.the-variants.{Left, Nothing}
-use Rattle.steps.specs.Steps.{runOf, living, livingOf}
-use Rattle.steps.proofs.Runs.{living-none, living-some}
+use Rattle.runs.specs.Clipping.{living}
+use Rattle.runs.proofs.Runs.{living-none, living-some}
 use Rattle.listing.specs.Listing.{runRow, runRows}
 
 -- what an edge gives: nothing where no bit of the run enters, else the rows from the node entered
@@ -89,13 +86,6 @@ module _ (g : Graph) (v l : ℤ) (r : Run) (t : T (not (empty r))) where
   rows-onward (suc k) n e =
       let d : suc k - 1 ≡ k = omega arith in
       rw d (rows-step k ∙ ap (λ b. cond b (runRow (node g l) r ∷ []) (flatMap (runsOver k g l r) (leaving g v))) (eqZ-other n))
-
--- what the code says is left, in either case
-pub crossed-left : (r : Run) {x : Clipped} {h : Held} → x ≡ Left h → livingOf x ≡ living r → some (runOf h) ≡ living r
-crossed-left r e p = ap livingOf (sym e) ∙ p
-
-pub crossed-nothing : (r : Run) {x : Clipped} → x ≡ Nothing → livingOf x ≡ living r → none ≡ living r
-crossed-nothing r e p = ap livingOf (sym e) ∙ p
 
 -- an edge that some bit of the run crosses gives the rows from the node entered, with what is left of the run
 pub over-left : (k : ℕ) (g : Graph) (l : ℤ) (r : Run) (e : Edge) {s : Run} {to : ℤ} → some s ≡ living (across g e r) → to ≡ e .to

@@ -21,8 +21,9 @@ use Rattle.model.proofs.Paths.{paths-sound}
 use Rattle.model.proofs.Walks.{runs-out}
 use Rattle.normalisation.specs.Merging.{SmallLast, AllSmallLast}
 use Rattle.tables.proofs.Limits.{first-address}
-use Rattle.steps.specs.Steps.{SmallRun, SmallAddress}
-use Rattle.steps.proofs.Bounds.{across-small, whole-small}
+use Rattle.runs.specs.Clipping.{SmallRun}
+use Rattle.extents.specs.Extents.{SmallAddress}
+use Rattle.extents.proofs.Bounds.{across-small, whole-small}
 use Rattle.listing.specs.Listing.{runRow}
 
 -- ---- the row of a run

@@ -9,7 +9,8 @@ ghost use Rattle.model.specs.Graph.{graphOf, NodeRow, node};
 ghost use Rattle.model.specs.Runs.{listOf};
 ghost use Rattle.model.specs.Calls.{numbersOf, leafBits};
 ghost use Rattle.model.specs.Quantities.{Subtractable};
-ghost use Rattle.steps.specs.Steps.{runOf, SmallRun, SmallAddress, GoodRow};
+ghost use Rattle.runs.specs.Clipping.{runOf, SmallRun};
+ghost use Rattle.extents.specs.Extents.{SmallAddress, GoodRow};
 ghost use Rattle.sorting.specs.Rows.{rowWidth};
 ghost use Rattle.listing.specs.Listing.{LinkedTo, Ready, Appended, runRow, runRows, bitRecord, arrivalRow, arrivalRows};
 use model::Bits;
@@ -18,9 +19,9 @@ use model::MAX_CHAIN;
 use model::MAX_EDGES;
 use model::MAX_NODES;
 use model::MAX_NUMBERS;
+use runs::Clipped;
+use runs::Run;
 use sorting::Row;
-use steps::Clipped;
-use steps::Run;
 
 // The row of a run at the leaf: displacement, first and last bit of its record.
 fn run_row(nodes: &[i64], leaf: usize, run: Run) -> Row
@@ -30,7 +31,7 @@ fn run_row(nodes: &[i64], leaf: usize, run: Run) -> Row
     let root = run.root;
     let low = run.low;
     let high = run.high;
-    let bit = steps::leaf_bit(nodes, leaf, low);
+    let bit = extents::leaf_bit(nodes, leaf, low);
     let displacement = root.less(bit);
     let last = root.plus(high.less(low));
     Row {
@@ -45,7 +46,7 @@ fn arrival_row(nodes: &[i64], leaf: usize, a: Bits) -> Row
     requires { ⌜ GoodRow (now nodes) leaf × SmallAddress (a .0) ⌝ }
     ensures { λ r. ⌜ ((es : List ℤ) → r ≡ arrivalRow (node (graphOf (now (nodes .entry)) es) (pos leaf)) (a .0)) ⌝ }
 {
-    let bit = steps::leaf_bit(nodes, leaf, a);
+    let bit = extents::leaf_bit(nodes, leaf, a);
     Row {
         first: bit.0,
         second: 0,
@@ -118,7 +119,7 @@ fn list_from(
     let mut m = n;
     let mut e = head[v];
     while e < edges.len() / EDGE_WIDTH {
-        let crossed = steps::cross(nodes, edges, e, run);
+        let crossed = steps::step(nodes, edges, e, run);
         if let Clipped::Left(entered) = crossed {
             let to = tables::edge_to(edges, e);
             m = list_from(
@@ -161,7 +162,7 @@ fn walk_from(
         Appended (arrivalRows left (graphOf (now (nodes .entry)) (now (edges .entry))) (pos v) (pos leaf) (a .0))
         (now (out .entry)) (now (out .exit)) n r ⌝ }
 {
-    if !steps::stands(nodes, v, a) {
+    if !extents::stands(nodes, v, a) {
         return n;
     }
     if v == leaf {
@@ -174,7 +175,7 @@ fn walk_from(
     let mut e = head[v];
     while e < edges.len() / EDGE_WIDTH {
         let to = tables::edge_to(edges, e);
-        let moved = steps::moved(nodes, edges, e, a);
+        let moved = extents::moved(nodes, edges, e, a);
         m = walk_from(nodes, edges, head, next, leaf, to, moved, left - 1, out, m);
         e = edge_behind(next, e);
     }
@@ -199,7 +200,7 @@ pub fn list_pair(
     let mut next = [0usize; MAX_EDGES];
     let mut spare = [0i64; MAX_NUMBERS];
     reach::link_edges(nodes, edges, counts, &mut head, &mut next);
-    let run = steps::whole(nodes, root);
+    let run = extents::whole(nodes, root);
     let left = MAX_CHAIN;
     let n = list_from(nodes, edges, &head, &next, leaf, root, run, left, work, 0);
     normalisation::normalise(work, n, &mut spare)

@@ -14,17 +14,7 @@ use Rattle.model.specs.Rows.{Node, Edge}
 use Rattle.model.specs.Graph.{Graph, node, firstBit, lastBit, bitOffset}
 use Rattle.model.specs.Walk.{StandsOn}
 use Rattle.model.specs.Bitmapping.{Has}
-use Rattle.model.specs.Runs.{Run, empty, whole, shift, clip, across, along, recordOf}
-
--- the run has bit address a
-pub record InRun (r : Run) (a : ℤ) : Type 0 where
-  pub above : r .low ≤ℤ a
-  pub below : a ≤ℤ r .high
-
--- the run joins root bit x to bit address b: b is as far above the low end as x is above the root bit that walked there
-pub record Joins (r : Run) (x b : ℤ) : Type 0 where
-  pub inside : InRun r b
-  pub level : x -ℤ r .root ≡ b -ℤ r .low
+use Rattle.model.specs.Runs.{Run, InRun, Joins, empty, whole, shift, clip, across, along, recordOf}
 
 -- ---- shift
 
@@ -51,23 +41,20 @@ shift-joins o r x b =
 
 -- ---- clip
 
--- the clipped run has exactly those bits that a walk may stand on the node with
-pub clip-bits : (n : Node) (r : Run) (b : ℤ) → InRun (clip n r) b ↔ (InRun r b × StandsOn n b)
+-- the clipped run has exactly those bits that lie from `first` to `last`
+pub clip-bits : (first last : ℤ) (r : Run) (b : ℤ) → InRun (clip first last r) b ↔ (InRun r b × (first ≤ℤ b) × (b ≤ℤ last))
 unfolding clip
-clip-bits n r b = (
-  λ h. let lo = max-le (firstBit n) (r .low) b .0 (h .above) in let hi = min-le (lastBit n) (r .high) b .0 (h .below) in
-      (record { above = lo .1; below = hi .1 }, record { above = lo .0; below = hi .0 }),
-  λ h. record {
-    above = max-le (firstBit n) (r .low) b .1 (h .1 .above, h .0 .above);
-    below = min-le (lastBit n) (r .high) b .1 (h .1 .below, h .0 .below);
-  },
+clip-bits first last r b = (
+  λ h. let lo = max-le first (r .low) b .0 (h .above) in let hi = min-le last (r .high) b .0 (h .below) in
+      (record { above = lo .1; below = hi .1 }, lo .0, hi .0),
+  λ h. record { above = max-le first (r .low) b .1 (h .1, h .0 .above); below = min-le last (r .high) b .1 (h .2, h .0 .below) },
 )
 
 -- and joins the same root bits to them
-pub clip-joins : (n : Node) (r : Run) (x b : ℤ) → Joins (clip n r) x b ↔ (Joins r x b × StandsOn n b)
+pub clip-joins : (first last : ℤ) (r : Run) (x b : ℤ) → Joins (clip first last r) x b ↔ (Joins r x b × (first ≤ℤ b) × (b ≤ℤ last))
 unfolding clip
-clip-joins n r x b =
-    let low = maxZ (firstBit n) (r .low) in
+clip-joins first last r x b =
+    let low = maxZ first (r .low) in
     let root = r .root +ℤ (low -ℤ r .low) in
     let cut = diff low (r .low) in
     let start = sum (r .root) (low -ℤ r .low) in
@@ -75,9 +62,25 @@ clip-joins n r x b =
     let x-after = diff x root in
     let b-before = diff b (r .low) in
     let b-after = diff b low in (
-      λ j. let h = clip-bits n r b .0 (j .inside) in
-          (record { inside = h .0; level = omega (arith, ints) }, h .1),
-      λ j. record { inside = clip-bits n r b .1 (j .0 .inside, j .1); level = omega (arith, ints) },
+      λ j. let h = clip-bits first last r b .0 (j .inside) in
+          (record { inside = h .0; level = omega (arith, ints) }, h .1, h .2),
+      λ j. record { inside = clip-bits first last r b .1 (j .0 .inside, j .1, j .2); level = omega (arith, ints) },
+    )
+
+-- clipping first at bounds that are moved by the offset, and then shifting, leaves the same bits, each with its root bit: that shift comes first is kept by the
+-- form of the step alone
+pub clip-first-joins : (first last o : ℤ) (r : Run) (x b : ℤ)
+    → Joins (shift o (clip (first +ℤ o) (last +ℤ o) r)) x b ↔ Joins (clip first last (shift o r)) x b
+clip-first-joins first last o r x b =
+    let moved = shift-joins o (clip (first +ℤ o) (last +ℤ o) r) x b in
+    let cut = clip-joins (first +ℤ o) (last +ℤ o) r x (b +ℤ o) in
+    let after = clip-joins first last (shift o r) x b in
+    let there = shift-joins o r x b in
+    let low = sum first o in
+    let high = sum last o in
+    let at = sum b o in (
+      λ j. let k = cut .0 (moved .0 j) in after .1 (there .1 (k .0), omega (arith, ints, k .1), omega (arith, ints, k .2)),
+      λ j. let k = after .0 j in moved .1 (cut .1 (there .0 (k .0), omega (arith, ints, k .1), omega (arith, ints, k .2))),
     )
 
 -- ---- empty runs, and the run of a root
@@ -97,6 +100,20 @@ pub empty-in : (r : Run) → r .high <ℤ r .low → T (empty r)
 unfolding empty
 empty-in r h = of-test (lt? (r .high) (r .low)) (λ k. omega (arith, ints))
 
+-- an empty run stays empty, shifted
+pub shift-empty : (o : ℤ) (r : Run) → T (empty r) → T (empty (shift o r))
+unfolding shift empty
+shift-empty o r t =
+    let k : r .high <ℤ r .low = ltZ-yes t in
+    empty-in (shift o r) (omega (arith, ints, diff (r .low) o, diff (r .high) o))
+
+-- and clipped
+pub clip-empty : (first last : ℤ) (r : Run) → T (empty r) → T (empty (clip first last r))
+unfolding clip empty
+clip-empty first last r t =
+    let k : r .high <ℤ r .low = ltZ-yes t in
+    empty-in (clip first last r) (omega (arith, ints, max-is first (r .low) .1, min-is last (r .high) .1))
+
 -- the run of a root joins each of its bits to itself
 pub whole-joins : (n : Node) (x b : ℤ) → Joins (whole n) x b ↔ ((x ≡ b) × StandsOn n b)
 unfolding whole
@@ -115,9 +132,10 @@ pub across-bits : (g : Graph) (e : Edge) (r : Run) (b : ℤ)
 unfolding across
 across-bits g e r b =
     let n = node g (e .to) in
-    let o = bitOffset g e in (
-      λ i. let h = clip-bits n (shift o r) b .0 i in (shift-bits o r b .0 (h .0), h .1),
-      λ h. clip-bits n (shift o r) b .1 (shift-bits o r b .1 (h .0), h .1),
+    let o = bitOffset g e in
+    let bits = clip-bits (firstBit n) (lastBit n) (shift o r) b in (
+      λ i. let h = bits .0 i in (shift-bits o r b .0 (h .0), record { above = h .1; below = h .2 }),
+      λ h. bits .1 (shift-bits o r b .1 (h .0), h .1 .above, h .1 .below),
     )
 
 -- the run over an edge joins those root bits that the run joined to an address which the walk may take over the edge
@@ -126,19 +144,19 @@ pub across-joins : (g : Graph) (e : Edge) (r : Run) (x b : ℤ)
 unfolding across
 across-joins g e r x b =
     let n = node g (e .to) in
-    let o = bitOffset g e in (
-      λ j. let h = clip-joins n (shift o r) x b .0 j in (shift-joins o r x b .0 (h .0), h .1),
-      λ h. clip-joins n (shift o r) x b .1 (shift-joins o r x b .1 (h .0), h .1),
+    let o = bitOffset g e in
+    let joins = clip-joins (firstBit n) (lastBit n) (shift o r) x b in (
+      λ j. let h = joins .0 j in (shift-joins o r x b .0 (h .0), record { above = h .1; below = h .2 }),
+      λ h. joins .1 (shift-joins o r x b .1 (h .0), h .1 .above, h .1 .below),
     )
 
 -- an empty run stays empty over an edge
 pub across-empty : (g : Graph) (e : Edge) (r : Run) → T (empty r) → T (empty (across g e r))
-unfolding across shift clip empty
+unfolding across
 across-empty g e r t =
     let n = node g (e .to) in
     let o = bitOffset g e in
-    let k : r .high <ℤ r .low = ltZ-yes t in
-    empty-in (across g e r) (omega (arith, ints, diff (r .low) o, diff (r .high) o, max-is (firstBit n) (r .low -ℤ o) .1, min-is (lastBit n) (r .high -ℤ o) .1))
+    clip-empty (firstBit n) (lastBit n) (shift o r) (shift-empty o r t)
 
 -- and so along a path
 pub along-empty : (g : Graph) (p : List Edge) (r : Run) → T (empty r) → T (empty (along g p r))

@@ -20,9 +20,9 @@ use Rattle.model.specs.Graph.{Graph, node, firstBit, bitOffset}
 use Rattle.model.specs.Walk.{StandsOn, Walk, stand, step, Reached}
 use Rattle.model.specs.Paths.{Way, stay, over, LongChain}
 use Rattle.model.specs.Bitmapping.{Record, Has}
-use Rattle.model.specs.Runs.{Run, empty, whole, across, along, leaving, pathsWithin, paths, runs, recordOf}
+use Rattle.model.specs.Runs.{Run, InRun, Joins, empty, whole, across, along, leaving, pathsWithin, paths, runs, recordOf}
 use Rattle.lists.proofs.Kept.{keep-length, keep-flatMap}
-use Rattle.model.proofs.Steps.{InRun, Joins, empty-none, empty-not, whole-joins, across-bits, across-joins, along-empty, record-joins}
+use Rattle.model.proofs.Steps.{empty-none, empty-not, whole-joins, across-bits, across-joins, along-empty, record-joins}
 use Rattle.model.proofs.Paths.{Fit, onward, paths-sound, paths-complete, way-short}
 
 -- ---- the walk along a path

@@ -1,9 +1,10 @@
 -- The bitmapping list, computed: shift and clip, the run of a path, the runs of all paths, and normalisation. Assumes nothing.
+use mathlib.Core.Path.{_≡_}
 use mathlib.Core.Bool.{Bool, not, cond, _&&_, _||_}
 use mathlib.Core.List.{List, [], _∷_, map, flatMap}
 use Prim.Native.Nat.{ℕ, zero, suc}
 use lib.IntN.{ℤ, pos, _+ℤ_, _-ℤ_}
-use lib.Signed.{leZ, ltZ}
+use lib.Signed.{leZ, ltZ, _≤ℤ_}
 use Rattle.integers.specs.Integers.{eqZ, minZ, maxZ}
 use Rattle.lists.specs.Lists.{keep}
 use Rattle.model.specs.Limits.{maxChain}
@@ -11,13 +12,23 @@ use Rattle.model.specs.Rows.{Node, Edge}
 use Rattle.model.specs.Graph.{Graph, node, firstBit, lastBit, bitOffset}
 use Rattle.model.specs.Bitmapping.{Record}
 
--- ---- runs (000, 2.15 to 2.19)
+-- ---- runs (000, 2.19)
 
 -- the bit addresses low .. high at some node; `root` is the root bit that has walked to low, root + 1 to low + 1, and so on
 pub record Run : Type 0 where
   pub root : ℤ
   pub low : ℤ
   pub high : ℤ
+
+-- the run has bit address b
+pub record InRun (r : Run) (b : ℤ) : Type 0 where
+  pub above : r .low ≤ℤ b
+  pub below : b ≤ℤ r .high
+
+-- the run joins root bit x to bit address b: b is as far above the low end as x is above the root bit that walked there
+pub record Joins (r : Run) (x b : ℤ) : Type 0 where
+  pub inside : InRun r b
+  pub level : x -ℤ r .root ≡ b -ℤ r .low
 
 -- the run has no bit
 unfoldable pub empty : Run → Bool
@@ -27,18 +38,20 @@ empty r = ltZ (r .high) (r .low)
 unfoldable pub whole : Node → Run
 whole n = record { root = firstBit n; low = firstBit n; high = lastBit n }
 
--- shift: every bit less the bit offset
+-- ---- the step over an edge (000, 2.5.1)
+
+-- shift: every bit less the bit offset (000, 2.3 to 2.5; there from leaf to root, with the offset added)
 unfoldable pub shift : ℤ → Run → Run
 shift o r = record { root = r .root; low = r .low -ℤ o; high = r .high -ℤ o }
 
--- clip: those bits that a walk may stand on the node with
-unfoldable pub clip : Node → Run → Run
-clip n r =
-    record { root = r .root +ℤ (maxZ (firstBit n) (r .low) -ℤ r .low); low = maxZ (firstBit n) (r .low); high = minZ (lastBit n) (r .high) }
+-- clip: those bits that lie from `first` to `last`, from the higher of the low ends to the lower of the high ends (000, 2.17 and 2.18). Bits are cut at the low end
+-- where `first` lies above it (2.15) and at the high end where `last` lies below it (2.16); the root bit rises with the low end
+unfoldable pub clip : ℤ → ℤ → Run → Run
+clip first last r = record { root = r .root +ℤ (maxZ first (r .low) -ℤ r .low); low = maxZ first (r .low); high = minZ last (r .high) }
 
--- over an edge: shift, then clip at the node entered
+-- over an edge: shift by the bit offset, then clip at the node entered, by its first and last bit
 unfoldable pub across : Graph → Edge → Run → Run
-across g e r = clip (node g (e .to)) (shift (bitOffset g e) r)
+across g e r = clip (firstBit (node g (e .to))) (lastBit (node g (e .to))) (shift (bitOffset g e) r)
 
 -- the run of a path: over its edges, one after the other
 unfoldable pub along : Graph → List Edge → Run → Run

@@ -1,76 +1,117 @@
--- Records cut by a reference: what they have of a list, as sets, and how many they are.
+-- Records as runs, and what a reference takes of them: what the records of a list have then, as sets, and how many they are.
 use mathlib.Core.Path.{_≡_, refl, sym, ap, subst, _∙_}
-use mathlib.Core.Bool.{Bool, true, false, cond}
+use mathlib.Core.Bool.{Bool, true, false, not, cond}
 use mathlib.Core.List.{List, [], _∷_, map, flatMap, List·Memᴰ·head, List·Memᴰ·not-nil, List·Memᴰ·eq-of-singleton}
 use mathlib.Core.Logic.{_↔_, ⊎-elim}
 use Prim.Native.Nat.{_≤_}
 use native.Mathlib.Omega.{arith}
-use lib.IntN.{ℤ, _+ℤ_}
-use lib.Signed.{ltZ, _≤ℤ_}
+use lib.Dec.{T, T-not}
+use lib.IntN.{ℤ, _+ℤ_, _-ℤ_}
+use lib.Signed.{_≤ℤ_}
 use lib.ListN.{length, length-append}
 use Rattle.integers.proofs.Linear.{ints, sum, diff}
-use Rattle.integers.proofs.Tests.{lt?, min-le, max-le}
+use Rattle.integers.proofs.Tests.{test?, is-true, is-false}
 use Rattle.lists.specs.Lists.{_∈_}
 use Rattle.lists.proofs.Membership.{cond-out, cond-false, map-in, map-out, flatMap-in, flatMap-out}
 use Rattle.model.specs.Graph.{Graph}
 use Rattle.model.specs.Walk.{Walk}
 use Rattle.model.specs.Bitmapping.{Record, Has}
+use Rattle.model.specs.Runs.{Run, Joins, empty}
 use Rattle.model.proofs.Normalisation.{Held}
+use Rattle.model.proofs.Steps.{empty-none, empty-not}
 use Rattle.sorting.specs.declared.Row.{Row}
 use Rattle.normalisation.specs.Merging.{byDisplacement, ofDisplacement}
-use Rattle.references.specs.References.{Reference, Brings, cutRecord, cutRow, cutRows}
+use Rattle.runs.specs.Clipping.{SmallRun}
+use Rattle.references.specs.References.{Reference, Brings, recordRun, runRecord, cutRun, cutRow, cutRows, SmallRecord}
+use Rattle.references.proofs.Bringing.{taken-joins}
+
+-- ---- records and runs
+
+-- a record has root bit x with y exactly where its run joins x to y
+pub record-run-joins : (s : Record) (x y : ℤ) → Has s x y ↔ Joins (recordRun s) x y
+record-run-joins s x y =
+    let low = diff (s .first) (s .displacement) in
+    let high = diff (s .last) (s .displacement) in
+    let apart = diff x y in
+    let over = diff x (s .first) in
+    let under = diff y (s .first -ℤ s .displacement) in
+    (λ h. omega (arith, ints), λ j. omega (arith, ints))
+
+-- and so has the record of a run
+pub run-record-joins : (r : Run) (x y : ℤ) → Has (runRecord r) x y ↔ Joins r x y
+run-record-joins r x y =
+    let displacement = diff (r .root) (r .low) in
+    let apart = diff x y in
+    let over = diff x (r .root) in
+    let under = diff y (r .low) in
+    let size = diff (r .high) (r .low) in
+    let last = sum (r .root) (r .high -ℤ r .low) in
+    (λ h. omega (arith, ints), λ j. omega (arith, ints))
+
+-- the record of a run that has bits is not empty
+run-record-full : (r : Run) → r .low ≤ℤ r .high → runRecord r .first ≤ℤ runRecord r .last
+run-record-full r h = omega (arith, ints, h, diff (r .high) (r .low), sum (r .root) (r .high -ℤ r .low))
+
+-- the run of a small record is small
+pub record-run-small : {s : Record} → SmallRecord s → SmallRun (recordRun s)
+record-run-small {s} within =
+    let low = diff (s .first) (s .displacement) in
+    let high = diff (s .last) (s .displacement) in
+    let size = diff (s .last -ℤ s .displacement) (s .first -ℤ s .displacement) in
+    let last = sum (s .first) ((s .last -ℤ s .displacement) -ℤ (s .first -ℤ s .displacement)) in
+    record {
+      root = within .low;
+      low = within .above;
+      full = omega (arith, ints, within .full);
+      high = within .below;
+      last = omega (arith, ints, within .high);
+    }
 
 -- ---- one record
 
--- the record cut by a reference has root bit x with y exactly where the reference has y and the record has x with y + delta
-pub cut-has : (f : Reference) (s : Record) (x y : ℤ) → Has (cutRecord f s) x y ↔ ((f .low ≤ℤ y) × (y ≤ℤ f .high) × Has s x (y +ℤ f .delta))
-cut-has f s x y =
-    let d = f .delta in
-    let apart = s .displacement in
-    let first = (f .low +ℤ d) +ℤ apart in
-    let last = (f .high +ℤ d) +ℤ apart in
-    let from = sum (f .low) d in
-    let to = sum (f .high) d in
-    let from-root = sum (f .low +ℤ d) apart in
-    let to-root = sum (f .high +ℤ d) apart in
-    let at = sum y d in
-    let here = diff x y in
-    let there = diff x (y +ℤ d) in
-    let together = sum apart d in (
-      λ h.
-          let up = max-le (s .first) first x .0 (h .above) in
-          let down = min-le (s .last) last x .0 (h .below) in
-          let level = h .apart in
-          (omega (arith, ints, up), omega (arith, ints, down), record { above = up .0; below = down .0; apart = omega (arith, ints) }),
-      λ h.
-          let level = h .2 .apart in
-          record {
-            above = max-le (s .first) first x .1 (h .2 .above, omega (arith, ints, h .0));
-            below = min-le (s .last) last x .1 (h .2 .below, omega (arith, ints, h .1));
-            apart = omega (arith, ints);
-          },
+-- the record cut by a reference
+abbrev cutRecord : Reference → Record → Record
+cutRecord f s = runRecord (cutRun f s)
+
+-- it has root bit x with b exactly where the record has x with a bit address of the owner that the reference joins to b
+pub cut-has : (f : Reference) (s : Record) (x b : ℤ) → Has (cutRecord f s) x b ↔ ((y : ℤ) × Has s x y × Joins (f .run) y b)
+cut-has f s x b =
+    let cut = run-record-joins (cutRun f s) x b in
+    let taken = taken-joins (f .run) (recordRun s) x b in (
+      λ h. let (y, j, k) = taken .0 (cut .0 h) in (y, record-run-joins s x y .1 j, k),
+      λ (y, h, k). cut .1 (taken .1 (y, record-run-joins s x y .0 h, k)),
     )
 
+-- where nothing is left of the record, there is no row
+pub cut-none : (f : Reference) (s : Record) → T (empty (cutRun f s)) → cutRow f s ≡ []
+unfolding cutRow
+cut-none f s t = rw (is-true (empty (cutRun f s)) t) refl
+
+-- where something is, its row is the only one
+pub cut-left : (f : Reference) (s : Record) → T (not (empty (cutRun f s))) → cutRow f s ≡ byDisplacement (cutRecord f s) ∷ []
+unfolding cutRow
+cut-left f s t = rw (is-false (empty (cutRun f s)) (T-not (empty (cutRun f s)) t)) refl
+
 -- a row of it is that of the record cut, which then has a bit
-pub cut-row-out : (f : Reference) (s : Record) {w : Row} → w ∈ cutRow f s → (ofDisplacement w ≡ cutRecord f s) × (cutRecord f s .first ≤ℤ cutRecord f s .last)
+cut-row-out : (f : Reference) (s : Record) {w : Row} → w ∈ cutRow f s → (ofDisplacement w ≡ cutRecord f s) × (cutRecord f s .first ≤ℤ cutRecord f s .last)
 unfolding cutRow
 cut-row-out f s {w} m =
-    let q = cutRecord f s in
-    let found : (q .first ≤ℤ q .last) × (w ∈ (byDisplacement q ∷ [])) =
-    ⊎-elim (λ h. absurd (List·Memᴰ·not-nil (h .1))) (λ h. h) (cond-out (ltZ (q .last) (q .first)) (lt? (q .last) (q .first)) m) in
-    (ap ofDisplacement (List·Memᴰ·eq-of-singleton (found .1)), found .0)
+    let r = cutRun f s in
+    let found : T (not (empty r)) × (w ∈ (byDisplacement (runRecord r) ∷ [])) =
+    ⊎-elim (λ h. absurd (List·Memᴰ·not-nil (h .1))) (λ h. h) (cond-out (empty r) (test? (empty r)) m) in
+    (ap ofDisplacement (List·Memᴰ·eq-of-singleton (found .1)), run-record-full r (empty-not r (found .0)))
 
 -- where the record cut has a bit, its row is there
-pub cut-row-in : (f : Reference) (s : Record) → cutRecord f s .first ≤ℤ cutRecord f s .last → byDisplacement (cutRecord f s) ∈ cutRow f s
+cut-row-in : (f : Reference) (s : Record) (x b : ℤ) → Has (cutRecord f s) x b → byDisplacement (cutRecord f s) ∈ cutRow f s
 unfolding cutRow
-cut-row-in f s h =
-    let q = cutRecord f s in
-    cond-false [] (ltZ (q .last) (q .first)) (lt? (q .last) (q .first)) (λ k. omega (arith, ints, h, k)) (List·Memᴰ·head refl)
+cut-row-in f s x b h =
+    let r = cutRun f s in
+    cond-false [] (empty r) (test? (empty r)) (λ t. empty-none r b t (run-record-joins r x b .0 h .inside)) (List·Memᴰ·head refl)
 
 -- and it is one row at most
 pub cut-row-few : (f : Reference) (s : Record) → length (cutRow f s) ≤ 1
 unfolding cutRow
-cut-row-few f s = go (ltZ (cutRecord f s .last) (cutRecord f s .first))
+cut-row-few f s = go (empty (cutRun f s))
   where
     go : (t : Bool) → length (cond t [] (byDisplacement (cutRecord f s) ∷ [])) ≤ 1
     go true = omega arith
@@ -89,23 +130,9 @@ cut-rows-out f l m =
     (u .0, u .1, w .2 ∙ v .0, v .1)
 
 -- a record of the list that has a bit, cut, is among the rows
-cut-rows-in : (f : Reference) {l : List Record} {s : Record} → s ∈ l → cutRecord f s .first ≤ℤ cutRecord f s .last
-    → cutRecord f s ∈ map ofDisplacement (cutRows f l)
+cut-rows-in : (f : Reference) {l : List Record} {s : Record} (x b : ℤ) → s ∈ l → Has (cutRecord f s) x b → cutRecord f s ∈ map ofDisplacement (cutRows f l)
 unfolding cutRows
-cut-rows-in f {l} {s} m h = map-in ofDisplacement (flatMap-in (cutRow f) m (cut-row-in f s h))
-
--- the rows have root bit x with y exactly where the reference has y and a record of the list has x with y + delta
-pub cut-rows-has : (f : Reference) (l : List Record) (x y : ℤ)
-    → Held (map ofDisplacement (cutRows f l)) x y ↔ ((f .low ≤ℤ y) × (y ≤ℤ f .high) × Held l x (y +ℤ f .delta))
-cut-rows-has f l x y = (
-  λ (q, m, h).
-      let (s, n, e, full) = cut-rows-out f l m in
-      let k = cut-has f s x y .0 (subst (λ (z : Record). Has z x y) e h) in
-      (k .0, k .1, (s, n, k .2)),
-  λ (above, below, (s, n, h)).
-      let k = cut-has f s x y .1 (above, below, h) in
-      (cutRecord f s, cut-rows-in f n (omega (arith, ints, k .above, k .below)), k),
-)
+cut-rows-in f {l} {s} x b m h = map-in ofDisplacement (flatMap-in (cutRow f) m (cut-row-in f s x b h))
 
 -- no record among the rows is empty
 pub cut-rows-full : (f : Reference) (l : List Record) (q : Record) → q ∈ map ofDisplacement (cutRows f l) → q .first ≤ℤ q .last
@@ -122,9 +149,13 @@ cut-rows-few f (s ∷ l) = omega (arith, length-append (cutRow f s) (cutRows f l
 -- by a list that has exactly what arrives at the owner, the rows have exactly what the reference brings
 pub cut-rows-brings : (g : Graph) (r : ℤ) (f : Reference) (l : List Record) → ((x b : ℤ) → Held l x b ↔ Walk g r x (f .owner) b) → (x b : ℤ)
     → Held (map ofDisplacement (cutRows f l)) x b ↔ Brings g r f x b
-cut-rows-brings g r f l arrives x b =
-    let rows = cut-rows-has f l x b in
-    let owner = arrives x (b +ℤ f .delta) in (
-      λ h. let k = rows .0 h in record { above = k .0; below = k .1; walk = owner .0 (k .2) },
-      λ h. rows .1 (h .above, h .below, owner .1 (h .walk)),
-    )
+cut-rows-brings g r f l arrives x b = (
+  λ (q, m, h).
+      let (s, n, e, full) = cut-rows-out f l m in
+      let (y, k, j) = cut-has f s x b .0 (subst (λ (z : Record). Has z x b) e h) in
+      record { at = y; walk = arrives x y .0 (s, n, k); joins = j },
+  λ h.
+      let (s, n, k) = arrives x (h .at) .1 (h .walk) in
+      let cut = cut-has f s x b .1 (h .at, k, h .joins) in
+      (cutRecord f s, cut-rows-in f x b n cut, cut),
+)

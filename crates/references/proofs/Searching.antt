@@ -1,5 +1,6 @@
 -- A list by displacement, sorted: the search for the first row whose displacement is not below a number, and the rows that a reference has nothing of.
 use mathlib.Core.Path.{_≡_, sym, ap, subst, _∙_}
+use mathlib.Core.Bool.{not}
 use mathlib.Core.List.{List, [], _∷_, _++_, map}
 use Prim.Native.Nat.{ℕ, _+_, _-_, _≤_, _<_, _*_}
 use native.Mathlib.Nat.{zero-add}
@@ -9,9 +10,11 @@ use lib.IntN.{ℤ, pos, _+ℤ_, _-ℤ_}
 use lib.Signed.{_≤ℤ_, _<ℤ_}
 use lib.ListN.{drop}
 use Rattle.integers.proofs.Linear.{ints, sum, diff}
-use Rattle.integers.proofs.Tests.{min-is, max-is}
+use Rattle.integers.proofs.Tests.{test?, of-test}
 use Rattle.lists.specs.Lists.{_∈_}
-use Rattle.model.specs.Bitmapping.{Record}
+use Rattle.model.specs.Bitmapping.{Record, Has}
+use Rattle.model.specs.Runs.{Run, Joins, empty}
+use Rattle.model.proofs.Steps.{empty-not}
 use Rattle.sorting.specs.declared.Row.{Row}
 use Rattle.sorting.specs.Rows.{rowWidth, rowAt, rowsOf, rowsFrom, leRow, Ascending, more}
 use Rattle.sorting.proofs.Order.{leRow-says, leRow-refl}
@@ -20,8 +23,8 @@ use Rattle.sorting.proofs.Tables.{rowsOf-add, rowsFrom-more}
 use Rattle.normalisation.specs.Merging.{byDisplacement}
 use Rattle.normalisation.proofs.Sorted.{rows-back}
 use Rattle.listing.specs.Listing.{Appended}
-use Rattle.references.specs.References.{Reference, recordsAt, cutRow, cutRows, leastOf, pastOf, Parted, Cuttable}
-use Rattle.references.proofs.Numbers.{cut-none}
+use Rattle.references.specs.References.{Reference, recordsAt, cutRun, cutRow, cutRows, leastOf, pastOf, Parted, Cuttable}
+use Rattle.references.proofs.Cutting.{run-record-joins, cut-has, cut-none}
 use Rattle.references.proofs.Gathering.{recordAt, row-behind, row-in, recordAt-in, Gathering, gathering-start, gathering-end, gathering-skip}
 
 -- ---- rows in order
@@ -90,21 +93,67 @@ parted-start t row count d =
 -- ---- displacements that do not reach
 
 module _ (f : Reference) (q : Record) {first last : ℤ} (inside : (first ≤ℤ q .first) × (q .last ≤ℤ last)) where
+  -- where the record has no root bit with a bit address of the owner that the reference joins to another, the reference has nothing of it
+  cut-unless : ((x b y : ℤ) → Has q x y → Joins (f .run) y b → ⊥) → cutRow f q ≡ []
+  cut-unless none =
+      cut-none f q
+      (of-test (test? (empty r)) (λ t.
+      let (y, h, j) = cut-has f q (r .root) (r .low) .0 (run-record-joins r (r .root) (r .low) .1 (start t)) in
+      none (r .root) (r .low) y h j))
+    where
+      r : Run
+      r = cutRun f q
+
+      start : T (not (empty r)) → Joins r (r .root) (r .low)
+      start t =
+          record {
+            inside = record { above = omega (arith, ints); below = empty-not r t };
+            level = omega (arith, ints, diff (r .root) (r .root), diff (r .low) (r .low));
+          }
+
   -- of a record whose displacement is below the least the reference has nothing
   pub cut-before : q .displacement <ℤ leastOf f first → cutRow f q ≡ []
   cut-before h =
-      let high = f .high +ℤ f .delta in
-      let up = max-is (q .first) ((f .low +ℤ f .delta) +ℤ q .displacement) in
-      let down = min-is (q .last) (high +ℤ q .displacement) in
-      cut-none f q (omega (arith, ints, h, inside .0, up .0, down .1, sum high (q .displacement), diff first high))
+      cut-unless (λ x b y k j.
+      let p = f .run in
+      let end = p .root +ℤ (p .high -ℤ p .low) in
+      let level = j .level in
+      let apart = k .apart in
+      omega (
+        arith,
+        ints,
+        h,
+        inside .0,
+        k .above,
+        j .inside .below,
+        diff x y,
+        diff y (p .root),
+        diff b (p .low),
+        diff (p .high) (p .low),
+        sum (p .root) (p .high -ℤ p .low),
+        diff first end,
+      ))
 
   -- nor of one whose displacement is past all of them
   pub cut-past : pastOf f last ≤ℤ q .displacement → cutRow f q ≡ []
   cut-past h =
-      let low = f .low +ℤ f .delta in
-      let up = max-is (q .first) (low +ℤ q .displacement) in
-      let down = min-is (q .last) ((f .high +ℤ f .delta) +ℤ q .displacement) in
-      cut-none f q (omega (arith, ints, h, inside .1, up .1, down .0, sum low (q .displacement), diff low (pos 1), diff last (low -ℤ pos 1)))
+      cut-unless (λ x b y k j.
+      let p = f .run in
+      let level = j .level in
+      let apart = k .apart in
+      omega (
+        arith,
+        ints,
+        h,
+        inside .1,
+        k .below,
+        j .inside .above,
+        diff x y,
+        diff y (p .root),
+        diff b (p .low),
+        diff (p .root) (pos 1),
+        diff last (p .root -ℤ pos 1),
+      ))
 
 -- ---- a list gathered
 

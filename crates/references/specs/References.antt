@@ -4,105 +4,114 @@ use mathlib.Core.List.{List, [], _∷_, map, flatMap}
 use mathlib.Core.Option.{Option, none, some}
 use Prim.Native.Nat.{ℕ, _+_, _*_, _≤_, _<_}
 use lib.IntN.{ℤ, pos, _+ℤ_, _-ℤ_}
-use lib.Signed.{ltZ, _≤ℤ_, _<ℤ_}
+use lib.Signed.{_≤ℤ_, _<ℤ_}
 use lib.ListN.{length, drop}
-use Rattle.integers.specs.Integers.{eqZ, minZ, maxZ}
+use Rattle.integers.specs.Integers.{eqZ}
 use Rattle.lists.specs.Lists.{_∈_}
 use Rattle.model.specs.Limits.{addressRoom}
+use Rattle.model.specs.Rows.{Edge}
 use Rattle.model.specs.Graph.{Graph, NodeRow, node, firstBit, lastBit}
 use Rattle.model.specs.Walk.{Walk}
 use Rattle.model.specs.Bitmapping.{Record}
+use Rattle.model.specs.Runs.{Run, InRun, Joins, empty, whole, shift, clip, across}
 use Rattle.sorting.specs.declared.Row.{Row}
 use Rattle.sorting.specs.Rows.{rowWidth, rowAt, Ascending}
 use Rattle.normalisation.specs.Merging.{byDisplacement, displacedOf}
-use Rattle.steps.specs.Steps.{SmallAddress}
+use Rattle.runs.specs.declared.Clipped.{Clipped}
+use Rattle.runs.specs.Clipping.{runOf, ExactlyOrNone, SmallRun}
+use Rattle.extents.specs.Extents.{SmallAddress}
 use Rattle.references.specs.declared.Reference.{Reference as Held}
 use Rattle.references.specs.declared.Brought.{Brought}
 use Rattle.references.specs.declared.Brought.the-variants.{Left, Nothing}
 
--- of what arrives at the owner: the bit addresses low + delta .. high + delta, each less delta
+-- of what arrives at the owner, bits that the run has: its root bits are bit addresses of the owner
 pub record Reference : Type 0 where
   pub owner : ℤ
-  pub delta : ℤ
-  pub low : ℤ
-  pub high : ℤ
+  pub run : Run
 
 -- a reference as the code holds it
 abbrev pub referenceOf : Held → Reference
-referenceOf f = record { owner = pos (f .owner); delta = f .delta .0; low = f .low .0; high = f .high .0 }
+referenceOf f = record { owner = pos (f .owner); run = runOf (f .run) }
 
 -- all that arrives at v
 abbrev pub own : Graph → ℤ → Reference
-own g v = record { owner = v; delta = pos 0; low = firstBit (node g v); high = lastBit (node g v) }
+own g v = record { owner = v; run = whole (node g v) }
 
--- by the reference, root bit x arrives with bit address b
+-- by the reference, root bit x arrives with bit address b: it walks to a bit address of the owner, which the run joins to b
 pub record Brings (g : Graph) (r : ℤ) (f : Reference) (x b : ℤ) : Type 0 where
-  pub above : f .low ≤ℤ b
-  pub below : b ≤ℤ f .high
-  pub walk : Walk g r x (f .owner) (b +ℤ f .delta)
+  pub at : ℤ
+  pub walk : Walk g r x (f .owner) at
+  pub joins : Joins (f .run) at b
 
--- ---- the step over an edge
+-- ---- moved and cut: shift, then clip
 
--- shift: every bit address less the bit offset
+-- the step over edge e, of a reference to what arrives at the node that it leaves
+abbrev pub stepped : Graph → Edge → Reference → Reference
+stepped g e u = record { owner = u .owner; run = across g e (u .run) }
+
+-- what a part of a node's bits takes of a run that arrives there: shifted by as much as the part's bits lie below those of the node, then clipped at the part's ends
+unfoldable pub taken : Run → Run → Run
+taken part r = clip (part .low) (part .high) (shift (part .root -ℤ part .low) r)
+
+-- bit by bit: the bits that the part joins to bits of the run, each with the root bit that the run joins to those; or nothing
+abbrev pub TakenBy : Run → Run → Clipped → Type 0
+TakenBy part r = ExactlyOrNone (λ b. (y : ℤ) × InRun r y × Joins part y b) (λ x b. (y : ℤ) × Joins r x y × Joins part y b)
+
+-- what reference f takes of what u brings to the owner of f
+abbrev pub takenOf : Reference → Reference → Reference
+takenOf f u = record { owner = u .owner; run = taken (f .run) (u .run) }
+
+-- every bit address less o
 abbrev pub shifted : ℤ → Reference → Reference
-shifted o f = record { owner = f .owner; delta = f .delta +ℤ o; low = f .low -ℤ o; high = f .high -ℤ o }
-
--- clip: the bit addresses from low to high alone
-abbrev pub clipped : ℤ → ℤ → Reference → Reference
-clipped low high f = record { owner = f .owner; delta = f .delta; low = maxZ low (f .low); high = minZ high (f .high) }
-
--- of what f takes of the node that an edge with bit offset o enters: what comes over the edge, where u is what arrives at the node that it leaves
-abbrev pub through : ℤ → Reference → Reference → Reference
-through o f u = shifted (f .delta) (clipped (f .low +ℤ f .delta) (f .high +ℤ f .delta) (shifted o u))
+shifted o f = record { owner = f .owner; run = shift o (f .run) }
 
 -- the reference has no bit address
 abbrev pub isNone : Reference → Bool
-isNone f = ltZ (f .high) (f .low)
+isNone f = empty (f .run)
 
 -- a reference, or none where it has no bit address
 abbrev pub unlessNone : Reference → Option Reference
 unlessNone f = cond (isNone f) none (some f)
 
--- what the code says comes over an edge
+-- what is left of a run of bits of the owner v, as a reference
+abbrev pub ownedBy : ℤ → Option Run → Option Reference
+ownedBy v none = none
+ownedBy v (some r) = some (record { owner = v; run = r })
+
+-- what the code says is brought
 abbrev pub broughtOf : Brought → Option Reference
 broughtOf (Left f) = some (referenceOf f)
 broughtOf Nothing = none
 
--- the owner is a node row; the reference has a bit address, all are below 2^62, and they stand for bit addresses of the owner
+-- the owner is a node row, the run has bits, all below 2^62, and they stand for bit addresses of the owner
 pub record InOwner (g : Graph) (f : Reference) : Type 0 where
   pub row : NodeRow g (f .owner)
-  pub full : f .low ≤ℤ f .high
-  pub low : pos 0 ≤ℤ f .low
-  pub high : f .high <ℤ pos addressRoom
-  pub above : firstBit (node g (f .owner)) ≤ℤ (f .low +ℤ f .delta)
-  pub below : (f .high +ℤ f .delta) ≤ℤ lastBit (node g (f .owner))
-
--- the reference has a bit address; all, and those that they stand for at the owner, lie in 0 .. 2^62 − 1
-pub record SmallReference (f : Reference) : Type 0 where
-  pub full : f .low ≤ℤ f .high
-  pub low : pos 0 ≤ℤ f .low
-  pub high : f .high <ℤ pos addressRoom
-  pub ownerLow : pos 0 ≤ℤ (f .low +ℤ f .delta)
-  pub ownerHigh : (f .high +ℤ f .delta) <ℤ pos addressRoom
+  pub small : SmallRun (f .run)
+  pub above : firstBit (node g (f .owner)) ≤ℤ f .run .root
+  pub below : (f .run .root +ℤ (f .run .high -ℤ f .run .low)) ≤ℤ lastBit (node g (f .owner))
 
 -- two references are the same
 abbrev pub sameReference : Reference → Reference → Bool
-sameReference a b = eqZ (a .owner) (b .owner) && (eqZ (a .delta) (b .delta) && (eqZ (a .low) (b .low) && eqZ (a .high) (b .high)))
+sameReference a b =
+    eqZ (a .owner) (b .owner) && (eqZ (a .run .root) (b .run .root) && (eqZ (a .run .low) (b .run .low) && eqZ (a .run .high) (b .run .high)))
 
 -- ---- records by a reference
 
--- of a record of the owner: the root bits that have one of the reference's bit addresses there, displaced by them
-abbrev pub cutRecord : Reference → Record → Record
-cutRecord f s =
-    record {
-      first = maxZ (s .first) ((f .low +ℤ f .delta) +ℤ s .displacement);
-      last = minZ (s .last) ((f .high +ℤ f .delta) +ℤ s .displacement);
-      displacement = s .displacement +ℤ f .delta;
-    }
+-- a record of a node as a run: its root bits, and the bit addresses of the node that they reach
+abbrev pub recordRun : Record → Run
+recordRun s = record { root = s .first; low = s .first -ℤ s .displacement; high = s .last -ℤ s .displacement }
+
+-- a run as a record of the node
+abbrev pub runRecord : Run → Record
+runRecord r = record { first = r .root; last = r .root +ℤ (r .high -ℤ r .low); displacement = r .root -ℤ r .low }
+
+-- what the reference takes of a record of the owner
+abbrev pub cutRun : Reference → Record → Run
+cutRun f s = taken (f .run) (recordRun s)
 
 -- its row, or nothing where it has no bit
 unfoldable pub cutRow : Reference → Record → List Row
-cutRow f s = cond (ltZ (cutRecord f s .last) (cutRecord f s .first)) [] (byDisplacement (cutRecord f s) ∷ [])
+cutRow f s = cond (empty (cutRun f s)) [] (byDisplacement (runRecord (cutRun f s)) ∷ [])
 
 -- the rows of all records of the owner's list
 unfoldable pub cutRows : Reference → List Record → List Row
@@ -129,16 +138,16 @@ pub record Parted (t : List ℤ) (row count : ℕ) (d : ℤ) (low high : ℕ) : 
 
 -- root bits from `first` on walk to no bit address of the reference at the owner by a displacement below this one
 abbrev pub leastOf : Reference → ℤ → ℤ
-leastOf f first = first -ℤ (f .high +ℤ f .delta)
+leastOf f first = first -ℤ (f .run .root +ℤ (f .run .high -ℤ f .run .low))
 
 -- nor root bits up to `last` by this one or a higher
 abbrev pub pastOf : Reference → ℤ → ℤ
-pastOf f last = last -ℤ ((f .low +ℤ f .delta) -ℤ pos 1)
+pastOf f last = last -ℤ (f .run .root -ℤ pos 1)
 
 -- what gathering by a list starts from: rows from `row` on that stand before row n, sorted by displacement, each with root bits from first to last and bit
 -- addresses below 2^62, and room for as many rows behind n
 pub record Cuttable (f : Reference) (first last : ℤ) (t : List ℤ) (row count n : ℕ) : Type 0 where
-  pub small : SmallReference f
+  pub small : SmallRun (f .run)
   pub root : SmallAddress first × SmallAddress last
   pub before : row + count ≤ n
   pub room : rowWidth * (n + count) ≤ length t

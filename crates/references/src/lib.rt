@@ -1,30 +1,35 @@
-// References to what arrives at a node: shifted and clipped as the step over an edge does, and the rows that they have of a list.
+// References to what arrives at a node: moved and cut as the step over an edge does, by shift and then by clip, and the rows that they have of a list.
 ghost use mathlib.Core.Path.{_≡_};
 ghost use mathlib.Core.List.{List, map};
 ghost use Prim.Native.Nat.{_+_, _*_, _≤_, _<_};
 ghost use lib.IntN.{ℤ, pos};
 ghost use lib.ListN.{length};
+ghost use Rattle.model.specs.Limits.{edgeWidth};
 ghost use Rattle.model.specs.Graph.{graphOf};
-ghost use Rattle.model.specs.Quantities.{Movable, Addable};
+ghost use Rattle.model.specs.Taken.{TakenTables};
 ghost use Rattle.normalisation.specs.Merging.{byDisplacement, ofDisplacement};
 ghost use Rattle.sorting.specs.Rows.{rowWidth, rowAt, Ascending};
-ghost use Rattle.steps.specs.Steps.{GoodRow, SmallOffset, SmallAddress};
+ghost use Rattle.tables.specs.Tables.{edgeAt};
+ghost use Rattle.runs.specs.Clipping.{runOf, living, livingOf, SmallRun, SmallOffset};
+ghost use Rattle.extents.specs.Extents.{GoodRow, SmallAddress};
 ghost use Rattle.listing.specs.Listing.{Appended};
-ghost use Rattle.references.specs.References.{referenceOf, own, shifted, through, unlessNone, broughtOf, SmallReference, sameReference, cutRow, cutRows, SmallRecord, recordsAt, Parted, leastOf, pastOf, Cuttable};
+ghost use Rattle.references.specs.References.{referenceOf, own, shifted, stepped, taken, TakenBy, takenOf, unlessNone, ownedBy, broughtOf, sameReference, recordRun, runRecord, cutRow, cutRows, SmallRecord, recordsAt, Parted, leastOf, pastOf, Cuttable};
 use listing::append_row;
 use model::Bits;
+use runs::Clipped;
+use runs::Run;
+use runs::clip;
+use runs::shift;
 use sorting::Row;
 use sorting::row_at;
 
-// Of what arrives at the owner: the bit addresses low + delta .. high + delta, each less delta.
+// Of what arrives at the owner, bits that the run has: its root bits are bit addresses of the owner.
 pub struct Reference {
     pub owner: usize,
-    pub delta: Bits,
-    pub low: Bits,
-    pub high: Bits,
+    pub run: Run,
 }
 
-// What comes over an edge.
+// What comes over an edge, or what a reference takes of it.
 pub enum Brought {
     Left(Reference),
     Nothing,
@@ -36,63 +41,76 @@ struct Displacements {
     past: Bits,
 }
 
-// Shift: every bit address less the offset.
-pub fn shifted(f: Reference, offset: Bits) -> Reference
-    requires { ⌜
-        Movable (f .low .0) (offset .0) × Movable (f .high .0) (offset .0) × Addable (f .delta .0) (offset .0) ⌝ }
-    ensures { λ r. ⌜ referenceOf r ≡ shifted (offset .0) (referenceOf f) ⌝ }
+// A reference to what is left of a run of bits of the owner.
+fn of_owner(owner: usize, left: Clipped) -> Brought
+    ensures { λ r. ⌜ broughtOf r ≡ ownedBy (pos owner) (livingOf left) ⌝ }
 {
-    let delta = f.delta;
-    let low = f.low;
-    let high = f.high;
-    Reference {
-        owner: f.owner,
-        delta: delta.plus(offset),
-        low: low.less(offset),
-        high: high.less(offset),
+    if let Clipped::Left(run) = left {
+        return Brought::Left(Reference {
+            owner: owner,
+            run: run,
+        });
     }
+    Brought::Nothing
 }
 
-// Of what f takes of the node that an edge with this bit offset enters: what comes over the edge, where u is what arrives at the node that it leaves. Whether
-// anything does is found before the deltas are added: their sum might not fit.
-pub fn through(f: Reference, u: Reference, offset: Bits) -> Brought
-    requires { ⌜ SmallReference (referenceOf f) × SmallReference (referenceOf u) × SmallOffset (offset .0) ⌝ }
-    ensures { λ r. ⌜ broughtOf r ≡ unlessNone (through (offset .0) (referenceOf f) (referenceOf u)) ⌝ }
+// The step over edge e, of a reference to what arrives at the node that it leaves.
+pub fn step_over(nodes: &[i64], edges: &[i64], e: usize, u: Reference) -> Brought
+    requires { ⌜ TakenTables (now nodes) (now edges) × (edgeWidth * e + edgeWidth ≤ length (now edges)) × SmallRun (runOf (u .run)) ⌝ }
+    ensures { λ r. ⌜ broughtOf r ≡ unlessNone (stepped (graphOf (now (nodes .entry)) (now (edges .entry))) (edgeAt (now (edges .entry)) e) (referenceOf u)) ⌝ }
 {
-    let delta = f.delta;
-    let from = f.low;
-    let to = f.high;
-    let source = u.delta;
-    let first = u.low;
-    let last = u.high;
-    let low = from.plus(delta).higher(first.less(offset));
-    let high = to.plus(delta).lower(last.less(offset));
-    if high.0 < low.0 {
-        return Brought::Nothing;
+    of_owner(u.owner, steps::step(nodes, edges, e, u.run))
+}
+
+// What a part of a node's bits takes of a run that arrives there: shifted by as much as the part's bits lie below those of the node, then clipped at the part's ends.
+fn taken(part: Run, run: Run) -> Clipped
+    requires { ⌜ SmallRun (runOf part) × SmallRun (runOf run) ⌝ }
+    ensures { λ r. ⌜ livingOf r ≡ living (taken (runOf part) (runOf run)) ⌝ }
+    ensures { λ r. ⌜ TakenBy (runOf part) (runOf run) r ⌝ }
+{
+    let root = part.root;
+    let low = part.low;
+    let high = part.high;
+    let offset = root.less(low);
+    let shifted = shift(run, offset);
+    clip(shifted, low, high)
+}
+
+// What reference f takes of what u brings to the owner of f.
+pub fn take(f: Reference, u: Reference) -> Brought
+    requires { ⌜ SmallRun (runOf (f .run)) × SmallRun (runOf (u .run)) ⌝ }
+    ensures { λ r. ⌜ broughtOf r ≡ unlessNone (takenOf (referenceOf f) (referenceOf u)) ⌝ }
+{
+    of_owner(u.owner, taken(f.run, u.run))
+}
+
+// Every bit address less the offset.
+pub fn shifted(f: Reference, offset: Bits) -> Reference
+    requires { ⌜ SmallRun (runOf (f .run)) × SmallOffset (offset .0) ⌝ }
+    ensures { λ r. ⌜ referenceOf r ≡ shifted (offset .0) (referenceOf f) ⌝ }
+{
+    Reference {
+        owner: f.owner,
+        run: shift(f.run, offset),
     }
-    let entered = Reference {
-        owner: u.owner,
-        delta: source.plus(offset),
-        low: low,
-        high: high,
-    };
-    Brought::Left(shifted(entered, delta))
 }
 
 // Whether two references are the same.
 pub fn same_reference(a: Reference, b: Reference) -> bool
     ensures { λ r. ⌜ r ≡ sameReference (referenceOf a) (referenceOf b) ⌝ }
 {
-    let d = a.delta;
-    let e = b.delta;
-    let l = a.low;
-    let m = b.low;
-    let h = a.high;
-    let k = b.high;
+    let p = a.run;
+    let q = b.run;
+    let r = p.root;
+    let s = q.root;
+    let l = p.low;
+    let m = q.low;
+    let h = p.high;
+    let k = q.high;
     if a.owner != b.owner {
         return false;
     }
-    if d.0 != e.0 {
+    if r.0 != s.0 {
         return false;
     }
     if l.0 != m.0 {
@@ -106,48 +124,56 @@ pub fn own_reference(nodes: &[i64], v: usize) -> Reference
     requires { ⌜ GoodRow (now nodes) v ⌝ }
     ensures { λ r. ⌜ ((es : List ℤ) → referenceOf r ≡ own (graphOf (now (nodes .entry)) es) (pos v)) ⌝ }
 {
-    let bits = steps::whole(nodes, v);
-    let low = bits.low;
-    let high = bits.high;
     Reference {
         owner: v,
-        delta: Bits::of(0),
-        low: low,
-        high: high,
+        run: extents::whole(nodes, v),
     }
 }
 
-// Appends what a reference has of the record in row p, as a row behind the first n. Returns how many rows stand there then. Whether it has any is found by
-// bit addresses of the owner, before the displacement is added: the sum might not fit.
+// The run of a record that stands in a row: its root bits, and the bit addresses of the node that they reach.
+fn record_run(row: Row) -> Run
+    requires { ⌜ SmallRecord (ofDisplacement row) ⌝ }
+    ensures { λ r. ⌜ runOf r ≡ recordRun (ofDisplacement row) ⌝ }
+{
+    let displacement = Bits::of(row.first);
+    let first = Bits::of(row.second);
+    let last = Bits::of(row.third);
+    Run {
+        root: first,
+        low: first.less(displacement),
+        high: last.less(displacement),
+    }
+}
+
+// The row of the record of a run.
+fn run_record(run: Run) -> Row
+    requires { ⌜ SmallRun (runOf run) ⌝ }
+    ensures { λ r. ⌜ r ≡ byDisplacement (runRecord (runOf run)) ⌝ }
+{
+    let root = run.root;
+    let low = run.low;
+    let high = run.high;
+    let displacement = root.less(low);
+    let last = root.plus(high.less(low));
+    Row {
+        first: displacement.0,
+        second: root.0,
+        third: last.0,
+    }
+}
+
+// Appends what a reference has of the record in row p, as a row behind the first n. Returns how many rows stand there then.
 fn append_cut(state: &mut [i64], p: usize, f: Reference, n: usize) -> usize
     requires { ⌜
-        (p < n) × (rowWidth * n + rowWidth ≤ length (now state)) × SmallReference (referenceOf f) × SmallRecord (ofDisplacement (rowAt (now state) p)) ⌝ }
+        (p < n) × (rowWidth * n + rowWidth ≤ length (now state)) × SmallRun (runOf (f .run)) × SmallRecord (ofDisplacement (rowAt (now state) p)) ⌝ }
     ensures { λ r. ⌜ Appended (cutRow (referenceOf f) (ofDisplacement (rowAt (now (state .entry)) p))) (now (state .entry)) (now (state .exit)) n r ⌝ }
 {
     let row = row_at(state, p);
-    let apart = Bits::of(row.first);
-    let first = Bits::of(row.second);
-    let last = Bits::of(row.third);
-    let delta = f.delta;
-    let from = f.low;
-    let to = f.high;
-    let low = first.less(apart).higher(from.plus(delta));
-    let high = last.less(apart).lower(to.plus(delta));
-    if high.0 < low.0 {
-        return n;
+    let left = taken(f.run, record_run(row));
+    if let Clipped::Left(run) = left {
+        return append_row(state, n, run_record(run));
     }
-    let displacement = apart.plus(delta);
-    let begin = low.plus(apart);
-    let end = high.plus(apart);
-    append_row(
-        state,
-        n,
-        Row {
-            first: displacement.0,
-            second: begin.0,
-            third: end.0,
-        },
-    )
+    n
 }
 
 // Of `count` rows from row `row` on, by displacement and sorted: how many have displacements below d.
@@ -171,16 +197,17 @@ fn rows_below(state: &[i64], row: usize, count: usize, d: Bits) -> usize
 
 // The displacements by which root bits first .. last can walk to a bit address that a reference takes of its owner.
 fn reaching(f: Reference, first: Bits, last: Bits) -> Displacements
-    requires { ⌜ SmallReference (referenceOf f) × SmallAddress (first .0) × SmallAddress (last .0) ⌝ }
+    requires { ⌜ SmallRun (runOf (f .run)) × SmallAddress (first .0) × SmallAddress (last .0) ⌝ }
     ensures { λ r. ⌜ (r .least .0 ≡ leastOf (referenceOf f) (first .0)) × (r .past .0 ≡ pastOf (referenceOf f) (last .0)) ⌝ }
 {
-    let delta = f.delta;
-    let from = f.low;
-    let to = f.high;
-    let low = from.plus(delta);
+    let run = f.run;
+    let root = run.root;
+    let low = run.low;
+    let high = run.high;
+    let end = root.plus(high.less(low));
     Displacements {
-        least: first.less(to.plus(delta)),
-        past: last.less(low.previous()),
+        least: first.less(end),
+        past: last.less(root.previous()),
     }
 }
 

@@ -8,15 +8,17 @@ use native.Mathlib.Omega.{arith}
 use borrow.Author.Needs.{needs}
 use borrow.Fn.Kinds.{In}
 use borrow.Fn.PlainCycle.{Measures, is, falls, and}
-use lib.IntN.{pos, natAbs}
+use lib.IntN.{ℤ, pos, natAbs}
 use lib.ListN.{length}
 use Rattle.model.specs.Rows.{edgeRows}
-use Rattle.model.specs.Graph.{graphOf, NodeRow, bitOffset}
+use Rattle.model.specs.Graph.{graphOf, NodeRow, node}
+use Rattle.model.specs.Runs.{whole}
+use Rattle.runs.specs.Clipping.{runOf}
 use Rattle.tables.proofs.Rows.{edges-length}
 use Rattle.tables.specs.Tables.{edgeAt}
-use Rattle.steps.proofs.Rows.{node-good}
+use Rattle.extents.proofs.Rows.{node-good}
 use Rattle.model.specs.Limits.{edgeWidth}
-use Rattle.references.specs.References.{Reference, referenceOf, own, broughtOf, through, isNone}
+use Rattle.references.specs.References.{Reference, referenceOf, broughtOf, stepped, takenOf, isNone}
 use Rattle.references.specs.declared.Reference.{Reference as Held}
 use Rattle.references.specs.declared.Brought.the-variants.{Left}
 use Rattle.references.proofs.Bringing.{none-brings}
@@ -33,7 +35,7 @@ use Rattle.arrivals.proofs.number_at.Reads as number-at-reads
 use Rattle.forward.proofs.first_entering.Reads as first-entering-reads
 use Rattle.forward.proofs.next_entering.Reads as next-entering-reads
 use Rattle.references.proofs.gather_list.Reads as gather-list-reads
-use Rattle.references.proofs.own_reference.Reads as own-reference-reads
+use Rattle.extents.proofs.whole.Reads as whole-reads
 use Rattle.arrivals.proofs.+gather.{statement}
 use Rattle.arrivals.proofs.+gather.Tie.{close}
 
@@ -55,8 +57,8 @@ claims t = (
   stored-at-reads.Learnt,
   number-at-reads.Asked,
   number-at-reads.Learnt,
-  own-reference-reads.Asked,
-  own-reference-reads.Learnt,
+  whole-reads.Asked,
+  whole-reads.Learnt,
   gather-list-reads.Asked,
   gather-list-reads.Learnt,
   first-entering-reads.Asked,
@@ -102,19 +104,19 @@ module _ (t : ℕ) where
       let w = c .before .before .before .before .before .before .before .pre .1 .sweeping in
       (omega (arith, w .room), w .root .row .low)
 
-  own-reference-requires : lts.Need-own-reference-requires (claims t) (at t) reads.Post Inv-loop μ-loop
-  own-reference-requires c κs =
+  whole-requires : lts.Need-whole-requires (claims t) (at t) reads.Post Inv-loop μ-loop
+  whole-requires c κs =
       let s = c .before .before .before .before .before .before .before .before in
       let w = s .pre .1 .sweeping in
       node-good (w .tables) (subst (NodeRow (graphOf (s .args .nodes .now) (s .args .edges .now))) (sym (c .number-at .ensures)) (w .root .row))
 
-  -- the reference to all bits of the root
-  root-bits : (c : lts.After-own-reference (claims t) (at t) reads.Post Inv-loop μ-loop)
+  -- all bits of the root
+  root-bits : (c : lts.After-whole (claims t) (at t) reads.Post Inv-loop μ-loop)
       → let s = c .before .before .before .before .before .before .before .before .before in
-      referenceOf (c .own-reference .result) ≡ own (graphOf (s .args .nodes .now) (s .args .edges .now)) (rootIn (s .args .state .now))
+      runOf (c .whole .result) ≡ whole (node (graphOf (s .args .nodes .now) (s .args .edges .now)) (rootIn (s .args .state .now)))
   root-bits c =
       let s = c .before .before .before .before .before .before .before .before .before in
-      c .own-reference .ensures (s .args .edges .now) ∙ ap (own (graphOf (s .args .nodes .now) (s .args .edges .now))) (c .before .number-at .ensures)
+      c .whole .ensures (s .args .edges .now) ∙ ap (λ (v : ℤ). whole (node (graphOf (s .args .nodes .now) (s .args .edges .now)) v)) (c .before .number-at .ensures)
 
   -- where the list stands
   stored : (c : lts.After-stored-at (claims t) (at t) reads.Post Inv-loop μ-loop)
@@ -180,7 +182,7 @@ module _ (t : ℕ) where
       let i = c .before in
       let l = i .before in
       let s = l .before .before .before .before .before .before .before in
-      turn-crossable (s .pre .1) (other l) (l .loop .inv) (within i)
+      (turn-crossable (s .pre .1) (other l) (l .loop .inv) (within i), s .pre .1 .inOwner .small)
 
   enum-known-brought : lts.Need-enum-known-brought (claims t) (at t) reads.Post Inv-loop μ-loop
   enum-known-brought c = search needs
@@ -191,7 +193,7 @@ module _ (t : ℕ) where
       let s = l .before .before .before .before .before .before .before in
       let g = graphOf (s .args .nodes .now) (s .args .edges .now) in
       let e = edgeAt (s .args .edges .now) (l .loop .e) in
-      let part = through (bitOffset g e) (referenceOf (s .args .f)) (referenceAt (l .loop .state) (natAbs (e .from))) in
+      let part = takenOf (referenceOf (s .args .f)) (stepped g e (referenceAt (l .loop .state) (natAbs (e .from)))) in
       (isMet (l .loop .state) (natAbs (e .from)) ≡ true) × T (not (isNone part)) × (referenceOf h ≡ part)
   brought x {h} q =
       let l = x .before .before .before in
@@ -249,7 +251,7 @@ module _ (t : ℕ) where
             rw (w .6, w .7) (turn-part k (other l) (l .loop .inv) (within i) (p .0) (p .1) (rw (← p .2) (w .4 .ensures)))
         | inr w ↦
             rw (w .2, w .3) (turn-nothing k (other l) (l .loop .inv) (within i)
-            (λ y b m z. none-brings g (rootIn (s .args .state .now)) (through (bitOffset g e) f (referenceAt (l .loop .state) (natAbs (e .from)))) y b
+            (λ y b m z. none-brings g (rootIn (s .args .state .now)) (takenOf f (stepped g e (referenceAt (l .loop .state) (natAbs (e .from))))) y b
             (crossing-nothing g e f (l .loop .state) (sym (ap broughtOf (w .1 .given .1)) ∙ x .brought-over .ensures) m) z))
       ])
 
@@ -272,7 +274,7 @@ pub +gather-spec : {M : Type 1} → statement M
     (is-listed-requires t)
     (stored-at-requires t)
     (number-at-requires t)
-    (own-reference-requires t)
+    (whole-requires t)
     (gather-list-requires t)
     (same-length t)
     (returns t)

@@ -1,5 +1,4 @@
--- The rows are those of the leaf's reference, shifted by the leaf's first bit; where nothing has arrived there is none. That the number by which it is shifted
--- is small is shown of the delta as well: where that is taken, the equation of the reference is refused first.
+-- The rows are those of the leaf's reference, shifted by the leaf's first bit; where nothing has arrived there is none.
 use mathlib.Core.Path.{_≡_, sym, ap, _∙_}
 use mathlib.Core.Bool.{true}
 use Prim.Native.Nat.{_+_, _*_, _≤_}
@@ -10,6 +9,7 @@ use lib.IntN.{ℤ, pos}
 use lib.ListN.{length}
 use Rattle.integers.proofs.Linear.{ints}
 use Rattle.model.specs.Graph.{graphOf, node, firstBit}
+use Rattle.model.specs.Runs.{Run, whole}
 use Rattle.references.specs.References.{Reference, referenceOf, shifted}
 use Rattle.arrivals.specs.State.{markWidth, isMet}
 use Rattle.arrivals.proofs.Agreeing.{row-few}
@@ -27,54 +27,54 @@ is-met-requires c κs = mark-there (c .before .before)
 returns : tie.Need-returns
 returns c root w = let m = c .before in leaf-unmet (m .before .before .before .pre) w (sym (m .is-met .ensures) ∙ not-true _ (c .if1 .taken))
 
-own-reference-requires : tie.Need-own-reference-requires
-own-reference-requires c κs = leaf-good (c .before .before .before .before .pre)
+whole-requires : tie.Need-whole-requires
+whole-requires c κs = leaf-good (c .before .before .before .before .pre)
 
 -- something has arrived at the leaf
 met : (c : tie.Else1) → let s = c .before .before .before .before .args in isMet (s .state .now) (s .leaf) ≡ true
 met c = sym (c .before .is-met .ensures) ∙ not-false _ (c .if1 .left)
 
 reference-at-requires : tie.Need-reference-at-requires
-reference-at-requires c κs = let e = c .before .before in (mark-there (e .before .before .before .before), met e)
+reference-at-requires c κs = let e = c .before .before .before in (mark-there (e .before .before .before .before), met e)
 
 -- its first bit
-first : (c : tie.After-own-reference)
+first : (c : tie.After-whole)
     → let s = c .before .before .before .before .before .args in
-    c .own-reference .result .low .0 ≡ firstBit (node (graphOf (s .nodes .now) (s .edges .now)) (pos (s .leaf)))
-first c = let s = c .before .before .before .before .before .args in ap (λ (f : Reference). f .low) (c .own-reference .ensures (s .edges .now))
-
-shifted-requires : tie.Need-shifted-requires
-shifted-requires c κs =
-    let w = c .before .before in
-    let e = w .before in
-    let s = e .before .before .before .before in
-    let small = first-small (s .pre) (met e) in
-    let none = ap (λ (f : Reference). f .delta) (w .own-reference .ensures (s .args .edges .now)) in
-    part-movable (s .pre) (met e) (c .reference-at .ensures) (omega (arith, ints, first w, small, none)) (omega (arith, ints, first w, small, none))
+    c .whole .result .low .0 ≡ firstBit (node (graphOf (s .nodes .now) (s .edges .now)) (pos (s .leaf)))
+unfolding whole
+first c = let s = c .before .before .before .before .before .args in ap (λ (r : Run). r .low) (c .whole .ensures (s .edges .now))
 
 -- the reference, shifted
 part : (c : tie.After-shifted)
-    → let s = c .before .before .before .before .before .before .before .before .args in
+    → let s = c .before .before .before .before .before .before .before .before .before .args in
     referenceOf (c .shifted .result) ≡ leafPart (s .nodes .now) (s .edges .now) (s .leaf) (s .state .now)
 part c =
     let f = c .before in
-    let w = f .before .before in
+    let w = f .before .before .before in
     let s = w .before .before .before .before .before .args in
     c .shifted .ensures
     ∙ ap (λ (o : ℤ). shifted o (referenceOf (f .reference-at .result))) (first w)
     ∙ ap (shifted (firstBit (node (graphOf (s .nodes .now) (s .edges .now)) (pos (s .leaf))))) (f .reference-at .ensures)
 
+shifted-requires : tie.Need-shifted-requires
+shifted-requires c κs =
+    let w = c .before .before .before in
+    let e = w .before in
+    let s = e .before .before .before .before in
+    let small = first-small (s .pre) (met e) in
+    part-movable (s .pre) (met e) (c .reference-at .ensures) (omega (arith, ints, first w, small)) (omega (arith, ints, first w, small))
+
 gather-requires : tie.Need-gather-requires
 gather-requires c κs =
     let f = c .before in
-    let e = f .before .before .before .before in
+    let e = f .before .before .before .before .before in
     part-gatherable (e .before .before .before .before .pre) (met e) (part f)
 
 returns-2 : tie.Need-returns-2
 returns-2 c root w =
     let m = c .before in
     let f = m .before .before in
-    let e = f .before .before .before .before in
+    let e = f .before .before .before .before .before in
     part-appended (e .before .before .before .before .pre) (met e) (part f) w (m .gather .ensures)
 
 pub append-rows-spec : {M : Type 1} → statement M
@@ -84,7 +84,7 @@ append-rows-spec =
     is-met-requires
     (λ c. search needs)
     returns
-    own-reference-requires
+    whole-requires
     reference-at-requires
     shifted-requires
     gather-requires

@@ -11,8 +11,8 @@ use Rattle.arrivals.proofs.Marks.{mark-stored}
 use Rattle.arrivals.proofs.put_mark.Statement.{statement}
 use Rattle.arrivals.proofs.put_mark.Tie as tie
 
-slice-set-from-shift : tie.Need-slice-set-from-shift
-slice-set-from-shift c = simp length-set (omega arith)
+slice-set-from-origin : tie.Need-slice-set-from-origin
+slice-set-from-origin c = simp length-set (omega arith)
 
 slice-set-from-first : tie.Need-slice-set-from-first
 slice-set-from-first c = simp length-set (omega arith)
@@ -31,16 +31,16 @@ same-length c = simp length-set
 
 returns : tie.Need-returns
 returns c =
-    let s = c .before .before .before .before .before .before .before in
-    let shift : SFits w64 (s .args .f .delta .0) = search needs in
-    let first : SFits w64 (s .args .f .low .0) = search needs in
-    let last : SFits w64 (s .args .f .high .0) = search needs in
+    let s = c .before .before .before .before .before .before .before .before in
+    let origin : SFits w64 (s .args .f .run .root .0) = search needs in
+    let first : SFits w64 (s .args .f .run .low .0) = search needs in
+    let last : SFits w64 (s .args .f .run .high .0) = search needs in
     mark-stored
     (s .args .state .now)
     (s .args .v)
     (marked (referenceOf (s .args .f)) (s .args .row) (s .args .count))
     (toZ-pos w64 (omega arith))
-    (toZ-ofZ shift)
+    (toZ-ofZ origin)
     (toZ-ofZ first)
     (toZ-ofZ last)
     (toZ-ofZ (s .fits .row))
@@ -57,7 +57,7 @@ put-mark-spec =
     (λ c. search needs)
     (λ c. search needs)
     (λ c. search needs)
-    slice-set-from-shift
+    slice-set-from-origin
     (λ c. search needs)
     (λ c. search needs)
     (λ c. search needs)

@@ -27,8 +27,8 @@ returns c =
     let v = s .args .v in
     let owner : pos (natAbs (toZ w64 (ofZ w64 (getD st (markWidth * v) (pos 0))))) ≡ markNumber st v 0 =
     index-same (sfits-of {w = w64} (c .before .before .before .before .before .before .owner .given)) (owner-low st v (s .pre .1)) ∙ owner-number st v in
-    let delta : c .before .before .of .result .0 ≡ markNumber st v 1 =
-    c .before .before .of .ensures ∙ toZ-ofZ (sfits-of {w = w64} (c .before .before .before .before .before .delta .given)) in
+    let root : c .before .before .of .result .0 ≡ markNumber st v 1 =
+    c .before .before .of .ensures ∙ toZ-ofZ (sfits-of {w = w64} (c .before .before .before .before .before .root .given)) in
     let low : c .before .of2 .result .0 ≡ markNumber st v 2 =
     c .before .of2 .ensures ∙ toZ-ofZ (sfits-of {w = w64} (c .before .before .before .before .low .given)) in
     let high : c .of3 .result .0 ≡ markNumber st v 3 = c .of3 .ensures ∙ toZ-ofZ (sfits-of {w = w64} (c .before .before .before .high .given)) in

@@ -16,7 +16,7 @@ use Rattle.arrivals.proofs.start_root.Tie as tie
 
 put-mark-requires : tie.Need-put-mark-requires
 put-mark-requires c κs =
-    let o = c .before .before .before in
+    let o = c .before .before .before .before in
     let s = o .before in
     omega (arith, own-owner (graphOf (s .args .nodes .now) []) (o .own-reference .ensures []), s .pre .1, s .pre .2)
 
@@ -30,10 +30,10 @@ returns : tie.Need-returns
 returns c = λ es.
     let a = c .before in
     let p = a .before .before .before .before .before in
-    let o = p .before .before .before .before in
+    let o = p .before .before .before .before .before in
     let s = o .before in
-    let low : SFits w64 (o .own-reference .result .low .0) = search needs in
-    let high : SFits w64 (o .own-reference .result .high .0) = search needs in
+    let low : SFits w64 (o .own-reference .result .run .low .0) = search needs in
+    let high : SFits w64 (o .own-reference .result .run .high .0) = search needs in
     root-stored
     (own (graphOf (s .args .nodes .now) es) (pos (s .args .root)))
     (s .args .root)
@@ -41,8 +41,8 @@ returns c = λ es.
     (p .put-mark .ensures)
     (o .own-reference .ensures es)
     (toZ-pos w64 (omega arith))
-    (toZ-ofZ low ∙ ap (λ (x : Reference). x .low) (o .own-reference .ensures es))
-    (toZ-ofZ high ∙ ap (λ (x : Reference). x .high) (o .own-reference .ensures es))
+    (toZ-ofZ low ∙ ap (λ (x : Reference). x .run .low) (o .own-reference .ensures es))
+    (toZ-ofZ high ∙ ap (λ (x : Reference). x .run .high) (o .own-reference .ensures es))
     (a .append-row .ensures)
     (toZ-pos w64 (omega arith) ∙ ap pos (a .append-row .ensures .count))
     (toZ-pos w64 (omega arith))

@@ -6,7 +6,7 @@ use lib.IntN.{pos}
 use lib.ListN.{length}
 use Rattle.model.specs.Rows.{nodeRows}
 use Rattle.tables.proofs.Rows.{nodes-length}
-use Rattle.steps.proofs.Rows.{node-good}
+use Rattle.extents.proofs.Rows.{node-good}
 use Rattle.forward.specs.Forward.{plannedCount}
 use Rattle.arrivals.specs.State.{rootIn}
 use Rattle.arrivals.specs.Sweep.{Sweeping}

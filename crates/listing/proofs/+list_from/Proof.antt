@@ -13,17 +13,18 @@ use lib.ListN.{length}
 use Rattle.integers.proofs.Linear.{ints}
 use Rattle.model.specs.Graph.{graphOf, node}
 use Rattle.model.specs.Runs.{across, leaving}
-use Rattle.steps.specs.Steps.{runOf}
+use Rattle.runs.specs.Clipping.{runOf}
+use Rattle.runs.proofs.Runs.{left-living, nothing-living}
 use Rattle.model.proofs.Taken.{taken-fit}
-use Rattle.steps.proofs.Rows.{node-good, edge-in, to-row}
-use Rattle.steps.proofs.Bounds.{left-small}
+use Rattle.extents.proofs.Rows.{node-good, edge-in, to-row}
+use Rattle.extents.proofs.Bounds.{left-small}
 use Rattle.tables.specs.Tables.{edgeAt}
 use Rattle.model.specs.Limits.{edgeWidth}
 use Rattle.sorting.specs.Rows.{rowWidth}
 use Rattle.listing.specs.Listing.{runRow, runRows}
 use Rattle.listing.proofs.Appending.{append-none, append-length}
 use Rattle.listing.proofs.Passing.{Passing, head-there, entered-row, nexts-length, passing-start, passing-end, turn-room, turn-next, turn-onward}
-use Rattle.listing.proofs.Runs.{runsOver, rows-leaf, rows-end, rows-onward, over-dead, crossed-left, crossed-nothing, over-left, over-nothing}
+use Rattle.listing.proofs.Runs.{runsOver, rows-leaf, rows-end, rows-onward, over-dead, over-left, over-nothing}
 use Rattle.listing.proofs.Small.{small-some}
 use Rattle.listing.proofs.list_from.Reads as reads
 use Rattle.listing.proofs.list_from.Kinds as kinds
@@ -31,7 +32,7 @@ use Rattle.listing.proofs.+list_from.Lts-list_from as lts
 use Rattle.listing.proofs.append_row.Reads as append-row-reads
 use Rattle.listing.proofs.edge_behind.Reads as edge-behind-reads
 use Rattle.listing.proofs.run_row.Reads as run-row-reads
-use Rattle.steps.proofs.cross.Reads as cross-reads
+use Rattle.steps.proofs.step.Reads as step-reads
 use Rattle.tables.proofs.edge_to.Reads as edge-to-reads
 use Rattle.listing.proofs.+list_from.{statement}
 use Rattle.listing.proofs.+list_from.Tie.{close}
@@ -52,8 +53,8 @@ claims t = (
   run-row-reads.Learnt,
   append-row-reads.Asked,
   append-row-reads.Learnt,
-  cross-reads.Asked,
-  cross-reads.Learnt,
+  step-reads.Asked,
+  step-reads.Learnt,
   edge-to-reads.Asked,
   edge-to-reads.Learnt,
   below t,
@@ -135,8 +136,8 @@ module _ (t : ℕ) where
       passing-start (runsOver (s .args .left - 1) g (pos (s .args .leaf)) (runOf (s .args .run))) (s .args .out .now) (s .args .n) (p .0) (p .1)
       (λ e m z. over-dead (taken-fit (p .0 .tables .graph) (p .0 .block)) (s .args .left - 1) (runOf (s .args .run)) e z)
 
-  cross-requires : lts.Need-cross-requires (claims t) (at t) reads.Post Inv-loop μ-loop
-  cross-requires c κs =
+  step-requires : lts.Need-step-requires (claims t) (at t) reads.Post Inv-loop μ-loop
+  step-requires c κs =
       let s = c .before .before .before .before .before .before .before in
       (s .pre .1 .0 .tables, omega arith, s .pre .1 .2)
 
@@ -157,11 +158,11 @@ module _ (t : ℕ) where
       let next = turn-next (l .loop .inv) (x .before .loop-test .taken) (room l) in
       rw (c .edge-behind .ensures) (elim (j .match .came) [
         | inl w ↦
-            let left = crossed-left (across g e (runOf (s .args .run))) (w .1 .given .1) (x .cross .ensures) in
+            let left = left-living (across g e (runOf (s .args .run))) (w .1 .given .1) (x .step .ensures .0) in
             let rows = over-left (s .args .left - 1) g (pos (s .args .leaf)) (runOf (s .args .run)) e left (w .3 .ensures) in
             next (rw (← rows, w .7, w .8) (w .5 .ensures))
         | inr w ↦
-            let nothing = crossed-nothing (across g e (runOf (s .args .run))) (w .1 .given .1) (x .cross .ensures) in
+            let nothing = nothing-living (across g e (runOf (s .args .run))) (w .1 .given .1) (x .step .ensures .0) in
             let rows = over-nothing (s .args .left - 1) g (pos (s .args .leaf)) (runOf (s .args .run)) e nothing in
             next (rw (← rows, w .2, w .3) (append-none (l .loop .out) (l .loop .m)))
       ])
@@ -175,7 +176,7 @@ module _ (t : ℕ) where
       let p = s .pre .1 in
       let g = graphOf (s .args .nodes .now) (s .args .edges .now) in
       let e = edgeAt (s .args .edges .now) (l .loop .e) in
-      let left = crossed-left (across g e (runOf (s .args .run))) (k .crossed .given .1) (k .before .before .cross .ensures) in
+      let left = left-living (across g e (runOf (s .args .run))) (k .crossed .given .1) (k .before .before .step .ensures .0) in
       let rows = over-left (s .args .left - 1) g (pos (s .args .leaf)) (runOf (s .args .run)) e left (c .before .edge-to .ensures) in (
         omega arith,
         (
@@ -212,7 +213,7 @@ pub +list-from-spec : {M : Type 1} → statement M
     (mul-e t)
     (shared-slice-read-e t)
     (loop-holds t)
-    (cross-requires t)
+    (step-requires t)
     (λ c. search needs)
     (edge-to-requires t)
     (λ c. omega arith)

@@ -17,9 +17,9 @@ use Rattle.model.specs.Graph.{graphOf, node, bitOffset}
 use Rattle.model.specs.Runs.{leaving}
 use Rattle.model.specs.Calls.{standsOn}
 use Rattle.model.proofs.Taken.{taken-fit}
-use Rattle.steps.specs.Steps.{SmallAddress}
-use Rattle.steps.proofs.Rows.{node-good, to-row}
-use Rattle.steps.proofs.Bounds.{stands-small}
+use Rattle.extents.specs.Extents.{SmallAddress}
+use Rattle.extents.proofs.Rows.{node-good, to-row}
+use Rattle.extents.proofs.Bounds.{stands-small}
 use Rattle.tables.specs.Tables.{edgeAt}
 use Rattle.model.specs.Limits.{edgeWidth}
 use Rattle.sorting.specs.Rows.{rowWidth}
@@ -33,8 +33,8 @@ use Rattle.listing.proofs.+walk_from.Lts-walk_from as lts
 use Rattle.listing.proofs.append_row.Reads as append-row-reads
 use Rattle.listing.proofs.arrival_row.Reads as arrival-row-reads
 use Rattle.listing.proofs.edge_behind.Reads as edge-behind-reads
-use Rattle.steps.proofs.moved.Reads as moved-reads
-use Rattle.steps.proofs.stands.Reads as stands-reads
+use Rattle.extents.proofs.moved.Reads as moved-reads
+use Rattle.extents.proofs.stands.Reads as stands-reads
 use Rattle.tables.proofs.edge_to.Reads as edge-to-reads
 use Rattle.listing.proofs.+walk_from.{statement}
 use Rattle.listing.proofs.+walk_from.Tie.{close}

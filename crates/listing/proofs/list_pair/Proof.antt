@@ -7,8 +7,8 @@ use Rattle.model.specs.Limits.{maxChain}
 use Rattle.model.specs.Graph.{graphOf, node}
 use Rattle.model.specs.Runs.{whole}
 use Rattle.model.specs.Calls.{numbersOf}
-use Rattle.steps.proofs.Rows.{node-good}
-use Rattle.steps.proofs.Bounds.{whole-small}
+use Rattle.extents.proofs.Rows.{node-good}
+use Rattle.extents.proofs.Bounds.{whole-small}
 use Rattle.listing.specs.Listing.{Appended, runRows}
 use Rattle.listing.proofs.Pairs.{pair-linkable, pair-linked, runs-room, runs-normalisable, runs-normal}
 use Rattle.listing.proofs.list_pair.Statement.{statement}

@@ -6,8 +6,8 @@ use mir.Syntax.{w64}
 use mir.Val.{SFits}
 use mir.Facts.{toZ-ofZ}
 use Rattle.model.specs.Graph.{graphOf, node}
-use Rattle.steps.specs.Steps.{runOf}
-use Rattle.steps.proofs.Rows.{node-limits}
+use Rattle.runs.specs.Clipping.{runOf}
+use Rattle.extents.proofs.Rows.{node-limits}
 use Rattle.listing.proofs.Small.{low-small, displacement-movable, size-movable, last-addable, row-numbers}
 use Rattle.listing.proofs.run_row.Statement.{statement}
 use Rattle.listing.proofs.run_row.Tie as tie

@@ -1,20 +1,18 @@
--- The ends are less the offset, and the delta is more by it. What the calls ask has no name here: a delta that is less by it is refused at its equation first.
+-- The run is shifted.
 use mathlib.Core.Path.{_≡_, refl}
 use borrow.Author.Needs.{needs}
-use lib.IntN.{ℤ, _+ℤ_, _-ℤ_}
-use Rattle.references.specs.References.{Reference, referenceOf, shifted}
+use lib.IntN.{ℤ}
+use Rattle.model.specs.Runs.{Run, shift}
+use Rattle.references.specs.References.{Reference, shifted}
 use Rattle.references.proofs.shifted.Statement.{statement}
 use Rattle.references.proofs.shifted.Tie as tie
 
--- the reference by its numbers
-shifted-numbers : (o : ℤ) (f : Reference) {delta low high : ℤ} → delta ≡ f .delta +ℤ o → low ≡ f .low -ℤ o → high ≡ f .high -ℤ o
-    → _≡_ {A = Reference} (record { owner = f .owner; delta = delta; low = low; high = high }) (shifted o f)
-shifted-numbers o f p q r = rw (p, q, r) refl
+-- the reference with a run that is shifted
+shifted-run : (o : ℤ) (f : Reference) {r : Run} → r ≡ shift o (f .run) → _≡_ {A = Reference} (record { owner = f .owner; run = r }) (shifted o f)
+shifted-run o f e = rw e refl
 
 returns : tie.Need-returns
-returns c =
-    let s = c .before .before .before .before .before .before in
-    shifted-numbers (s .args .offset .0) (referenceOf (s .args .f)) (search needs) (search needs) (search needs)
+returns c = shifted-run _ _ (c .shift .ensures .0)
 
 pub shifted-spec : {M : Type 1} → statement M
-shifted-spec = tie.close (tie.spec (λ c κs. search needs) (λ c κs. search needs) (λ c κs. search needs) returns)
+shifted-spec = tie.close (tie.spec (λ c κs. search needs) returns)

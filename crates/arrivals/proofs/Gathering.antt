@@ -10,14 +10,14 @@ use lib.Dec.{T}
 use lib.IntN.{ℤ, pos, natAbs, _+ℤ_, _-ℤ_}
 use lib.Signed.{_≤ℤ_, yes-nonNeg, pos-natAbs}
 use lib.ListN.{length, getD, drop, length-append, length-map}
-use Rattle.integers.proofs.Linear.{ints, sum}
+use Rattle.integers.proofs.Linear.{ints}
 use Rattle.integers.proofs.Tests.{eqZ?, test-of}
 use Rattle.integers.proofs.Range.{leZ-true}
 use Rattle.lists.specs.Lists.{_∈_, keep}
 use Rattle.model.specs.Limits.{edgeWidth, maxNodes}
 use Rattle.model.specs.Rows.{Edge, nodeRows, edgeRows}
 use Rattle.model.specs.Graph.{Graph, graphOf, NodeRow, node, bitOffset}
-use Rattle.model.specs.Walk.{StandsOn, Walk}
+use Rattle.model.specs.Walk.{Walk}
 use Rattle.model.specs.Paths.{Way, stay, over}
 use Rattle.model.specs.Bitmapping.{Record}
 use Rattle.model.specs.Runs.{Run, Joins, whole}
@@ -34,6 +34,7 @@ use Rattle.reach.proofs.FirstRow.{firstRow-from, firstRow-passes, firstRow-none
 use Rattle.entering.specs.Entering.{enters, entering, Covered}
 use Rattle.entering.proofs.Walks.{walk-entering, walk-way, entering-in, entering-out}
 use Rattle.extents.proofs.Rows.{edge-in}
+use Rattle.extents.proofs.Bounds.{offset-small}
 use Rattle.entering.proofs.Ways.{way-onward}
 use Rattle.entering.proofs.Counts.{count-entering, count-way}
 use Rattle.sorting.specs.declared.Row.{Row}
@@ -43,13 +44,12 @@ use Rattle.normalisation.specs.Merging.{ofDisplacement}
 use Rattle.listing.specs.Listing.{Appended}
 use Rattle.listing.proofs.Appending.{append-none, append-append}
 use Rattle.forward.specs.Forward.{headAt, nextAt}
-use Rattle.references.specs.References.{Reference, Brings, InOwner, SmallRecord, stepped, takenOf, isNone, recordsAt, cutRows, Cuttable}
-use Rattle.references.proofs.Bringing.{own-lying, lying-stands, stepped-brings, stepped-lying, taken-brings, taken-lying, taken-full}
+use Rattle.references.specs.References.{Reference, Brings, InOwner, SmallRecord, through, isNone, recordsAt, cutRows, Cuttable}
+use Rattle.references.proofs.Bringing.{own-lying, lying-stands, through-brings, through-lying}
 use Rattle.references.proofs.Cutting.{cut-rows-brings, cut-rows-full, cut-rows-few}
 use Rattle.arrivals.specs.State.{markWidth, arenaRow, markNumber, isMet, referenceAt, isListed, listRow, countOf, rootIn, Agree}
 use Rattle.arrivals.specs.Sweep.{HasSome, doneOf, Listed, RightMark, Sweeping, Gatherable, Gathered}
 use Rattle.arrivals.specs.Moves.{Crossable, crossing}
-use Rattle.arrivals.proofs.Moves.{nonneg-abs, none-some, some-same}
 use Rattle.arrivals.proofs.Agreeing.{agree-root, agree-free, agree-less, appended-agrees, sweeping-agrees, row-few}
 use Rattle.arrivals.proofs.Settled.{not-both, done-closed, covered-way, settled}
 
@@ -74,6 +74,10 @@ total-front h (y ∷ k) l = omega (arith, total-front h k l)
 way-none : {g : Graph} {v w : ℤ} {p : List Edge} → Way g v p w → length p ≤ 0 → v ≡ w
 way-none stay h = refl
 way-none (over e m q w) h = absurd (omega (arith, h))
+
+-- a number that is not negative is the one that its size is
+pub nonneg-abs : {z : ℤ} → pos 0 ≤ℤ z → pos (natAbs z) ≡ z
+nonneg-abs {z} h = pos-natAbs z (yes-nonNeg h)
 
 -- so many records are read from a state
 records-length : (s : List ℤ) (p c : ℕ) → length (recordsAt s p c) ≡ c
@@ -370,33 +374,29 @@ module _ {ns es : List ℤ} {plan : List ℕ} {f : Reference} {left : ℕ} {s : 
       source-covered : Covered es (doneOf es plan (k .passed)) (pos source)
       source-covered = subst (λ (v : ℤ). Covered es (doneOf es plan (k .passed)) v) (sym source-is) (done-closed through-sweeping edge turn-done)
 
-      -- what comes over the edge, of what arrives at that node, and what the reference takes of it
-      abbrev entered : Reference
-      entered = stepped (graphOf ns es) edge (referenceAt t source)
-
+      -- what comes over the edge, of what arrives at that node
       abbrev part : Reference
-      part = takenOf f entered
+      part = through (bitOffset (graphOf ns es) edge) f (referenceAt t source)
 
       -- it is what the reference has over the edge
       over-edge : (x b : ℤ) → Over (graphOf ns es) (rootIn s) f (edge ∷ []) x b ↔ ((isMet t source ≡ true) × Brings (graphOf ns es) (rootIn s) part x b)
       over-edge x b =
           let g = graphOf ns es in
-          let u = taken-brings g (rootIn s) f entered x b in (
+          let u = through-brings g (rootIn s) (bitOffset g edge) f (referenceAt t source) x b in (
             λ y.
                 let c = y .at +ℤ bitOffset g edge in
-                let z = settled through-sweeping source source-below source-covered x c .0 (from-here c (subst (λ (d : Edge). Walk g (rootIn s) x (d .from) (y .at +ℤ bitOffset g d)) (List·Memᴰ·eq-of-singleton (y .among)) (y .walk))) in
-                let stands = subst (λ (v : ℤ). StandsOn (node g v) (y .at)) (sym edge-enters) (lying-stands (k .inOwner) (y .at) b (y .joins)) in
-                (z .0, u .1 (y .at, stepped-brings g (rootIn s) edge (referenceAt t source) x (y .at) .1 (stands, brings-here c (z .1)), y .joins)),
+                let here = subst (λ (d : Edge). Walk g (rootIn s) x (d .from) (y .at +ℤ bitOffset g d)) (List·Memᴰ·eq-of-singleton (y .among)) (y .walk) in
+                let z = settled through-sweeping source source-below source-covered x c .0 (from-here c here) in
+                (z .0, u .1 (y .at, y .joins, brings-here c (z .1))),
             λ y.
-                let (at, h, j) = u .0 (y .1) in
+                let (at, j, h) = u .0 (y .1) in
                 let c = at +ℤ bitOffset g edge in
-                let z = stepped-brings g (rootIn s) edge (referenceAt t source) x at .0 h in
                 record {
                   at = at;
                   joins = j;
                   edge = edge;
                   among = List·Memᴰ·head refl;
-                  walk = from-there c (settled through-sweeping source source-below source-covered x c .1 (y .0, brings-there c (z .1)));
+                  walk = from-there c (settled through-sweeping source source-below source-covered x c .1 (y .0, brings-there c h));
                 },
           )
         where
@@ -461,7 +461,7 @@ module _ {ns es : List ℤ} {plan : List ℕ} {f : Reference} {left : ℕ} {s : 
             record {
               passed = k .passed;
               sweeping = through-sweeping;
-              inOwner = taken-lying f (k .inOwner .small) (stepped-lying (k .sweeping .tables .graph) inside source-lying (taken-full (f .run) (entered .run) full)) full;
+              inOwner = through-lying f (offset-small (k .sweeping .tables .graph) inside) (k .inOwner .small) source-lying full;
               met = source-mark .owner met;
               covered = covered-way through-sweeping (source-way .1) (done-closed through-sweeping edge turn-done);
               deep = λ p y. deeper p (subst (λ (r : ℤ). Way (graphOf ns es) r p (part .owner)) through-root y);
@@ -518,36 +518,53 @@ module _ {ns es : List ℤ} {plan : List ℕ} {f : Reference} {left : ℕ} {s : 
                 )
 
       -- what the code asks of the edge
-      pub turn-crossable : Crossable ns es e t
+      pub turn-crossable : Crossable ns es e f t
       turn-crossable =
           record {
             tables = k .sweeping .tables;
             there = there;
+            small = k .inOwner .small;
             marks = omega (arith, through-sweeping .room);
             source = λ u q y.
                 let z : u ≡ source = ap natAbs q in
                 subst (λ (v : ℕ). InOwner (graphOf ns es) (referenceAt t v)) (sym z) (source-mark .inOwner (subst (λ (v : ℕ). isMet t v ≡ true) z y)) .small;
           }
 
--- what an edge brings is what the reference takes of what comes over it, where something has arrived at the node that it leaves
+NoneOf : Option Reference → Type 0
+NoneOf none = Unit {0}
+NoneOf (some x) = ⊥
+
+none-some : {x : Reference} → none ≡ some x → ⊥
+unfolding NoneOf
+none-some q = subst NoneOf q tt
+
+orElse : Reference → Option Reference → Reference
+orElse x none = x
+orElse x (some y) = y
+
+some-same : {x y : Reference} → some x ≡ some y → x ≡ y
+unfolding orElse
+some-same {x} q = ap (orElse x) q
+
+-- what an edge brings is what comes through it, where something has arrived at the node that it leaves
 pub crossing-part : (g : Graph) (e : Edge) (f p : Reference) (s : List ℤ) → some p ≡ crossing g e f s
-    → (isMet s (natAbs (e .from)) ≡ true) × (T (not (isNone (takenOf f (stepped g e (referenceAt s (natAbs (e .from)))))))) × (p ≡ takenOf f (stepped g e (referenceAt s (natAbs (e .from)))))
+    → (isMet s (natAbs (e .from)) ≡ true) × (T (not (isNone (through (bitOffset g e) f (referenceAt s (natAbs (e .from))))))) × (p ≡ through (bitOffset g e) f (referenceAt s (natAbs (e .from))))
 crossing-part g e f p s q =
-    go (isMet s (natAbs (e .from))) (isNone (takenOf f (stepped g e (referenceAt s (natAbs (e .from)))))) q
+    go (isMet s (natAbs (e .from))) (isNone (through (bitOffset g e) f (referenceAt s (natAbs (e .from))))) q
   where
-    go : (a b : Bool) → some p ≡ cond a (cond b none (some (takenOf f (stepped g e (referenceAt s (natAbs (e .from))))))) none
-        → (a ≡ true) × T (not b) × (p ≡ takenOf f (stepped g e (referenceAt s (natAbs (e .from)))))
+    go : (a b : Bool) → some p ≡ cond a (cond b none (some (through (bitOffset g e) f (referenceAt s (natAbs (e .from)))))) none
+        → (a ≡ true) × T (not b) × (p ≡ through (bitOffset g e) f (referenceAt s (natAbs (e .from))))
     go true true q = absurd (none-some (sym q))
     go true false q = (refl, tt, some-same q)
     go false b q = absurd (none-some (sym q))
 
 -- and nothing, where it brings none
 pub crossing-nothing : (g : Graph) (e : Edge) (f : Reference) (s : List ℤ) → none ≡ crossing g e f s → isMet s (natAbs (e .from)) ≡ true
-    → T (isNone (takenOf f (stepped g e (referenceAt s (natAbs (e .from))))))
+    → T (isNone (through (bitOffset g e) f (referenceAt s (natAbs (e .from)))))
 crossing-nothing g e f s q m =
-    go (isMet s (natAbs (e .from))) (isNone (takenOf f (stepped g e (referenceAt s (natAbs (e .from)))))) q m
+    go (isMet s (natAbs (e .from))) (isNone (through (bitOffset g e) f (referenceAt s (natAbs (e .from))))) q m
   where
-    go : (a b : Bool) → none ≡ cond a (cond b none (some (takenOf f (stepped g e (referenceAt s (natAbs (e .from))))))) none → a ≡ true → T b
+    go : (a b : Bool) → none ≡ cond a (cond b none (some (through (bitOffset g e) f (referenceAt s (natAbs (e .from)))))) none → a ≡ true → T b
     go true true q m = tt
     go true false q m = absurd (none-some q)
     go false b q m = absurd (not-both m refl)

@@ -5,7 +5,7 @@ use mathlib.Core.List.{List, [], List·Memᴰ·not-nil}
 use mathlib.Core.Logic.{_↔_, Iff·trans}
 use Prim.Native.Nat.{ℕ, _≤_, _<_, _^_}
 use native.Mathlib.Omega.{arith}
-use lib.IntN.{ℤ, pos, _+ℤ_, _-ℤ_, +ℤ-negℤ-cancel}
+use lib.IntN.{ℤ, pos, _+ℤ_, +ℤ-negℤ-cancel}
 use lib.Signed.{_≤ℤ_}
 use lib.ListN.{length, take, length-map, length-take}
 use lib.Seq.{take-all}

@@ -15,7 +15,7 @@ use lib.IntN.{ℤ, pos, natAbs, _+ℤ_}
 use lib.Signed.{leZ, _≤ℤ_}
 use lib.ListN.{length, getD, take, drop, set, length-append, length-drop, length-set, List·getD-append}
 use lib.Seq.{length-take-le, getD-take, getD-set-same, getD-set-other, drop-set-lt, drop-at}
-use Rattle.integers.proofs.Linear.{ints, sum, diff}
+use Rattle.integers.proofs.Linear.{ints, diff}
 use Rattle.integers.proofs.Tests.{Test, passed, failed, eq?, is-true, T-true}
 use Rattle.lists.specs.Lists.{_∈_}
 use Rattle.model.specs.Limits.{edgeWidth, maxNodes, maxPaths}
@@ -31,6 +31,9 @@ use Rattle.normalisation.specs.Merging.{byDisplacement, ofDisplacement, displac
 use Rattle.tables.specs.Tables.{edgeAt}
 use Rattle.tables.proofs.Rows.{edges-length}
 use Rattle.extents.proofs.Rows.{edge-in}
+use Rattle.extents.proofs.Bounds.{offset-small}
+use Rattle.runs.specs.Clipping.{SmallRun}
+use Rattle.model.proofs.Steps.{whole-joins}
 use Rattle.reach.specs.Counting.{pathCount}
 use Rattle.reach.proofs.Counting.{count-leaf}
 use Rattle.entering.proofs.Counts.{count-edge}
@@ -38,11 +41,11 @@ use Rattle.entering.proofs.Walks.{walk-root}
 use Rattle.entering.proofs.Ways.{way-onward, way-back}
 use Rattle.forward.specs.Forward.{plannedCount, plannedOf}
 use Rattle.model.specs.Runs.{whole}
-use Rattle.references.specs.References.{Reference, own, Brings, stepped, isNone, unlessNone, InOwner, sameReference, recordsAt}
-use Rattle.references.proofs.Bringing.{stepped-brings, none-brings, stepped-lying, stepped-inside, own-lying, same-reference-is}
+use Rattle.references.specs.References.{Reference, own, Brings, through, isNone, unlessNone, InOwner, sameReference, recordsAt}
+use Rattle.references.proofs.Bringing.{through-brings, none-brings, through-lying, through-inside, own-lying, same-reference-is}
 use Rattle.arrivals.specs.State.{markWidth, Mark, markNumber, markAt, setMark, marked, freeAt, rootAt, arenaRow, stateRoom, isMet, referenceAt, listRow, countOf, freeRow, rootIn, notListed}
 use Rattle.arrivals.specs.Sweep.{doneOf, Came, HasSome, Listed, RightMark, Sweeping, Sweepable}
-use Rattle.arrivals.specs.Moves.{Crossable, arriving, meeting, Ownable, Blank, begun}
+use Rattle.arrivals.specs.Moves.{Crossable, crossing, meeting, Ownable, Blank, begun}
 use Rattle.arrivals.proofs.Marks.{mark-same, mark-other, mark-behind, mark-length, mark-free, mark-root, met-other, reference-other, listed-other, listRow-other, number-other, met-same, reference-same, listed-same}
 use Rattle.arrivals.proofs.Agreeing.{row-few, rows-few}
 use Rattle.arrivals.proofs.Relisting.{listed-moved}
@@ -50,10 +53,10 @@ use Rattle.arrivals.proofs.Settled.{not-both, front-in, next-covered, d
 
 -- ---- what comes over an edge
 
--- what comes over an edge, where something has arrived at the node that it leaves
-arriving-met : (g : Graph) (e : Edge) (s : List ℤ) (from : ℕ) → pos from ≡ e .from → isMet s from ≡ true
-    → arriving g e s ≡ unlessNone (stepped g e (referenceAt s from))
-arriving-met g e s from p m = let q : natAbs (e .from) ≡ from = ap natAbs (sym p) in rw (q, m)
+-- the reference that is brought over an edge, where something has arrived at the node that it leaves
+crossing-met : (g : Graph) (e : Edge) (f : Reference) (s : List ℤ) (from : ℕ) → pos from ≡ e .from → isMet s from ≡ true
+    → crossing g e f s ≡ unlessNone (through (bitOffset g e) f (referenceAt s from))
+crossing-met g e f s from p m = let q : natAbs (e .from) ≡ from = ap natAbs (sym p) in rw (q, m)
 
 -- none where it has no bit address
 unless-none : (f : Reference) → unlessNone f ≡ none → T (isNone f)
@@ -71,6 +74,10 @@ unless-some f h e = go (isNone f) e
     go true q = let z : _≡_ {A = ℕ} 0 1 = cc in absurd (omega arith)
     go false q = let z : h ≡ f = cc in (z, tt)
 
+-- of what arrives, by u, at the node that an edge leaves: what comes over the edge
+abbrev carried : Graph → Edge → Reference → Reference
+carried g e u = through (bitOffset g e) (own g (e .to)) u
+
 -- root bit x comes over edge e, with bit address b of the node that it enters
 record ComesOver (g : Graph) (r : ℤ) (e : Edge) (x b : ℤ) : Type 0 where
   stands : StandsOn (node g (e .to)) b
@@ -86,6 +93,13 @@ Inside g v f = (firstBit (node g v) ≤ℤ f .run .low) × (f .run .high ≤ℤ 
 own-inside : (g : Graph) (v : ℤ) → Inside g v (own g v)
 unfolding whole
 own-inside g v = omega (arith, ints)
+
+-- and those that come over an edge to the node that it enters
+carried-inside : (g : Graph) (e : Edge) (u : Reference) → Inside g (e .to) (carried g e u)
+carried-inside g e u =
+    let all = own-inside g (e .to) in
+    let part = through-inside (bitOffset g e) (own g (e .to)) u in
+    (omega (arith, ints, all .0, part .0), omega (arith, ints, all .1, part .1))
 
 -- a mark says the same after further edges, where nothing comes over them to its node
 marked-further : {g : Graph} {r : ℤ} {done more : List Edge} {s : List ℤ} {v : ℕ} → ((x b : ℤ) → Came g r more (pos v) x b ↔ Came g r done (pos v) x b)
@@ -316,35 +330,39 @@ module _ {ns es : List ℤ} {plan : List ℕ} {i : ℕ} {s : List ℤ} (w : Swee
         not-both (from-settled x (b +ℤ bitOffset (graphOf ns es) (nextEdge es plan i)) .0 (c .walk) .0) e)
 
     module _ (met : isMet s from ≡ true) where
-      -- else what comes over it is what the mark there brings, stepped over it
+      -- else what comes over it is what the mark there brings, carried over it
       comes-brings : (x b : ℤ) → ComesOver (graphOf ns es) (rootIn s) (nextEdge es plan i) x b
-          ↔ Brings (graphOf ns es) (rootIn s) (stepped (graphOf ns es) (nextEdge es plan i) (referenceAt s from)) x b
+          ↔ Brings (graphOf ns es) (rootIn s) (carried (graphOf ns es) (nextEdge es plan i) (referenceAt s from)) x b
       comes-brings x b =
           let g = graphOf ns es in
-          let over = stepped-brings g (rootIn s) (nextEdge es plan i) (referenceAt s from) x b in
-          let there = from-settled x (b +ℤ bitOffset g (nextEdge es plan i)) in (
-            λ c. over .1 (c .stands, there .0 (c .walk) .1),
-            λ k. let u = over .0 k in record { stands = u .0; walk = there .1 (met, u .1) },
+          let o = bitOffset g (nextEdge es plan i) in
+          let n = node g (nextEdge es plan i .to) in
+          let over = through-brings g (rootIn s) o (own g (nextEdge es plan i .to)) (referenceAt s from) x b in (
+            λ c. over .1 (b, whole-joins n b b .1 (refl, c .stands), from-settled x (b +ℤ o) .0 (c .walk) .1),
+            λ k.
+                let (y, j, h) = over .0 k in
+                let (same, stands) = whole-joins n y b .0 j in
+                record { stands = stands; walk = subst (λ (z : ℤ). Walk g (rootIn s) x (nextEdge es plan i .from) (z +ℤ o)) same (from-settled x (y +ℤ o) .1 (met, h)) },
           )
 
       -- where that has no bit address, nothing
-      pub sweeping-nothing : arriving (graphOf ns es) (nextEdge es plan i) s ≡ none → Sweeping ns es plan (i + 1) s
+      pub sweeping-nothing : crossing (graphOf ns es) (nextEdge es plan i) (own (graphOf ns es) (nextEdge es plan i .to)) s ≡ none → Sweeping ns es plan (i + 1) s
       sweeping-nothing e =
           let g = graphOf ns es in
-          let f = stepped g (nextEdge es plan i) (referenceAt s from) in
-          let empty : T (isNone f) = unless-none f (sym (arriving-met g (nextEdge es plan i) s from leaves met) ∙ e) in
+          let f = carried g (nextEdge es plan i) (referenceAt s from) in
+          let empty : T (isNone f) = unless-none f (sym (crossing-met g (nextEdge es plan i) (own g (nextEdge es plan i .to)) s from leaves met) ∙ e) in
           sweeping-nowhere (λ x b c. none-brings g (rootIn s) f x b empty (comes-brings x b .0 c))
 
       module _ (to : ℕ) (f : Reference) (rows : ℤ) (enters : pos to ≡ nextEdge es plan i .to)
-          (brought : arriving (graphOf ns es) (nextEdge es plan i) s ≡ some f)
+          (brought : crossing (graphOf ns es) (nextEdge es plan i) (own (graphOf ns es) (nextEdge es plan i .to)) s ≡ some f)
         where
           -- what is brought over it
-          brought-is : (f ≡ stepped (graphOf ns es) (nextEdge es plan i) (referenceAt s from))
-              × T (not (isNone (stepped (graphOf ns es) (nextEdge es plan i) (referenceAt s from))))
+          brought-is : (f ≡ carried (graphOf ns es) (nextEdge es plan i) (referenceAt s from))
+              × T (not (isNone (carried (graphOf ns es) (nextEdge es plan i) (referenceAt s from))))
           brought-is =
               let g = graphOf ns es in
-              unless-some (stepped g (nextEdge es plan i) (referenceAt s from)) f
-              (sym (arriving-met g (nextEdge es plan i) s from leaves met) ∙ brought)
+              unless-some (carried g (nextEdge es plan i) (referenceAt s from)) f
+              (sym (crossing-met g (nextEdge es plan i) (own g (nextEdge es plan i .to)) s from leaves met) ∙ brought)
 
           -- its owner is that of the node that it leaves
           brought-owner : f .owner ≡ referenceAt s from .owner
@@ -354,13 +372,14 @@ module _ {ns es : List ℤ} {plan : List ℕ} {i : ℕ} {s : List ℤ} (w : Swee
           pub brought-lying : InOwner (graphOf ns es) f
           brought-lying =
               let g = graphOf ns es in
-              subst (InOwner g) (sym (brought-is .0)) (stepped-lying (w .tables .graph) next-in (source .inOwner met) (brought-is .1))
+              let small = own-lying (w .tables) (w .tables .graph .ends (nextEdge es plan i) next-in .1) .small in
+              subst (InOwner g) (sym (brought-is .0)) (through-lying (own g (nextEdge es plan i .to)) (offset-small (w .tables .graph) next-in) small (source .inOwner met) (brought-is .1))
 
           -- and its bit addresses are some of the node entered
           brought-inside : Inside (graphOf ns es) (pos to) f
           brought-inside =
               let g = graphOf ns es in
-              let inside = stepped-inside g (nextEdge es plan i) (referenceAt s from) in
+              let inside : Inside g (nextEdge es plan i .to) (carried g (nextEdge es plan i) (referenceAt s from)) = carried-inside g (nextEdge es plan i) (referenceAt s from) in
               subst (λ (z : ℤ). Inside g z f) (sym enters) (subst (Inside g (nextEdge es plan i .to)) (sym (brought-is .0)) inside)
 
           -- it leads on to the node entered
@@ -473,19 +492,27 @@ module _ {ns es : List ℤ} {plan : List ℕ} {i : ℕ} {s : List ℤ} (w : Swee
     pub to-read : {to : ℕ} → pos to ≡ edgeAt es e .to → pos to ≡ nextEdge es plan i .to
     to-read {to} q = subst (λ (k : ℕ). pos to ≡ edgeAt es k .to) row q
 
-    -- what has arrived may be taken over it
-    pub next-crossable : Crossable ns es e s
-    next-crossable =
-        record {
-          tables = w .tables;
-          there = next-readable .0;
-          marks = omega (arith, w .room);
-          source = λ u q m. w .marks u (row-there w there (next-from w there (from-read q))) .inOwner m .small;
-        }
+    module _ {to : ℕ} {f : Reference} (enters : pos to ≡ nextEdge es plan i .to) (all : f ≡ own (graphOf ns es) (pos to)) where
+      -- what has arrived may be taken over it
+      pub next-crossable : Crossable ns es e f s
+      next-crossable =
+          let g = graphOf ns es in
+          record {
+            tables = w .tables;
+            there = next-readable .0;
+            small = subst (λ (k : Reference). SmallRun (k .run)) (sym all) (own-lying (w .tables) (next-to w there enters) .small);
+            marks = omega (arith, w .room);
+            source = λ u q m. w .marks u (row-there w there (next-from w there (from-read q))) .inOwner m .small;
+          }
 
-    -- what the code says comes over it
-    pub arriving-read : {o : Option Reference} → o ≡ arriving (graphOf ns es) (edgeAt es e) s → arriving (graphOf ns es) (nextEdge es plan i) s ≡ o
-    arriving-read q = sym (q ∙ ap (λ (k : ℕ). arriving (graphOf ns es) (edgeAt es k) s) row)
+      -- what the code says comes over it
+      pub crossing-read : {o : Option Reference} → o ≡ crossing (graphOf ns es) (edgeAt es e) f s
+          → crossing (graphOf ns es) (nextEdge es plan i) (own (graphOf ns es) (nextEdge es plan i .to)) s ≡ o
+      crossing-read q =
+          let g = graphOf ns es in
+          let same : f ≡ own g (nextEdge es plan i .to) = all ∙ ap (own g) enters in
+          sym (q ∙ ap (λ (k : Reference). crossing g (edgeAt es e) k s) same
+          ∙ ap (λ (k : ℕ). crossing g (edgeAt es k) (own g (nextEdge es plan i .to)) s) row)
 
   -- it stands in the plan
   next-passed : nextEdge es plan i ∈ plannedOf es plan

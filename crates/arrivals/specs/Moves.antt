@@ -9,7 +9,7 @@ use lib.IntN.{ℤ, pos, natAbs}
 use lib.ListN.{length, set, take, drop}
 use Rattle.model.specs.Limits.{edgeWidth, maxNodes, maxPaths}
 use Rattle.model.specs.Rows.{Edge, nodeRows}
-use Rattle.model.specs.Graph.{Graph, graphOf}
+use Rattle.model.specs.Graph.{Graph, graphOf, bitOffset}
 use Rattle.model.specs.Taken.{TakenTables}
 use Rattle.tables.specs.Tables.{edgeAt}
 use Rattle.reach.specs.Counting.{pathCount}
@@ -18,26 +18,23 @@ use Rattle.extents.specs.Extents.{GoodRow}
 use Rattle.sorting.specs.Rows.{rowWidth, numbersOf}
 use Rattle.entering.specs.Entering.{Covered}
 use Rattle.forward.specs.Forward.{plannedCount}
-use Rattle.references.specs.References.{Reference, stepped, takenOf, unlessNone, sameReference}
+use Rattle.references.specs.References.{Reference, through, unlessNone, sameReference}
 use Rattle.arrivals.specs.State.{markWidth, freeAt, rootAt, arenaRow, arenaRows, stateRoom, setMark, marked, isMet, referenceAt, rootIn, notListed, noRoom}
 use Rattle.arrivals.specs.Sweep.{doneOf, Sweeping}
 
 -- ---- over an edge
 
--- an edge row of taken tables, and marks, of which that of the node that the edge leaves has a small run where something has arrived
-pub record Crossable (ns es : List ℤ) (e : ℕ) (s : List ℤ) : Type 0 where
+-- an edge row of taken tables and a reference whose run is small, as is that of the reference of the node that the edge leaves, where something has arrived
+pub record Crossable (ns es : List ℤ) (e : ℕ) (f : Reference) (s : List ℤ) : Type 0 where
   pub tables : TakenTables ns es
   pub there : edgeWidth * e + edgeWidth ≤ length es
+  pub small : SmallRun (f .run)
   pub marks : markWidth * maxNodes ≤ length s
   pub source : (u : ℕ) → pos u ≡ edgeAt es e .from → isMet s u ≡ true → SmallRun (referenceAt s u .run)
 
--- what comes over an edge: nothing where nothing has arrived at the node left
-abbrev pub arriving : Graph → Edge → List ℤ → Option Reference
-arriving g e s = cond (isMet s (natAbs (e .from))) (unlessNone (stepped g e (referenceAt s (natAbs (e .from))))) none
-
--- and of that what f takes, where f refers to the node entered
+-- what comes over an edge of what f takes of the node entered: nothing where nothing has arrived at the node left
 abbrev pub crossing : Graph → Edge → Reference → List ℤ → Option Reference
-crossing g e f s = cond (isMet s (natAbs (e .from))) (unlessNone (takenOf f (stepped g e (referenceAt s (natAbs (e .from)))))) none
+crossing g e f s = cond (isMet s (natAbs (e .from))) (unlessNone (through (bitOffset g e) f (referenceAt s (natAbs (e .from))))) none
 
 -- ---- marks
 

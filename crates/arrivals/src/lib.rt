@@ -11,12 +11,11 @@ ghost use lib.ListN.{length, getD};
 ghost use Rattle.model.specs.Limits.{maxNodes, maxPaths};
 ghost use Rattle.model.specs.Graph.{graphOf};
 ghost use Rattle.tables.specs.Tables.{edgeAt};
-ghost use Rattle.runs.specs.Clipping.{runOf, SmallRun};
 ghost use Rattle.extents.specs.Extents.{GoodRow};
 ghost use Rattle.references.specs.References.{referenceOf, own, broughtOf};
 ghost use Rattle.arrivals.specs.State.{markWidth, arenaRow, arenaRows, freeAt, stateRoom, setMark, marked, markNumber, isMet, referenceAt, isListed, freeRow, rootIn};
 ghost use Rattle.arrivals.specs.Sweep.{Sweeping, Gatherable, Gathered, Normalisable, Normalised, Makeable, Made, Sweepable, Swept, Appendable, LeafAppended};
-ghost use Rattle.arrivals.specs.Moves.{Crossable, arriving, crossing, meeting, Storable, storing, Ownable, ListMade, Passable, Blank, begun};
+ghost use Rattle.arrivals.specs.Moves.{Crossable, crossing, meeting, Storable, storing, Ownable, ListMade, Passable, Blank, begun};
 use forward::first_entering;
 use forward::next_entering;
 use forward::planned_count;
@@ -35,8 +34,7 @@ use references::gather_list;
 use references::own_reference;
 use references::same_reference;
 use references::shifted;
-use references::step_over;
-use references::take;
+use references::step_into;
 use runs::Run;
 use sorting::ROW_WIDTH;
 use sorting::Row;
@@ -213,28 +211,16 @@ fn put_mark(state: &mut [i64], v: usize, f: Reference, row: i64, count: i64)
     state[MARK_WIDTH * v + 5] = count;
 }
 
-// What comes over edge e, where something has arrived at the node that it leaves: the step over the edge.
-fn arriving_over(nodes: &[i64], edges: &[i64], e: usize, state: &[i64]) -> Brought
-    requires { ⌜ Crossable (now nodes) (now edges) e (now state) ⌝ }
-    ensures { λ r. ⌜ broughtOf r ≡ arriving (graphOf (now (nodes .entry)) (now (edges .entry))) (edgeAt (now (edges .entry)) e) (now (state .entry)) ⌝ }
+// What comes over edge e of what f takes of the node that it enters, where something has arrived at the node that it leaves.
+fn brought_over(nodes: &[i64], edges: &[i64], e: usize, f: Reference, state: &[i64]) -> Brought
+    requires { ⌜ Crossable (now nodes) (now edges) e (referenceOf f) (now state) ⌝ }
+    ensures { λ r. ⌜ broughtOf r ≡ crossing (graphOf (now (nodes .entry)) (now (edges .entry))) (edgeAt (now (edges .entry)) e) (referenceOf f) (now (state .entry)) ⌝ }
 {
     let from = edge_from(edges, e);
     if !is_met(state, from) {
         return Brought::Nothing;
     }
-    step_over(nodes, edges, e, reference_at(state, from))
-}
-
-// What f takes of what comes over edge e, which enters the owner of f.
-fn brought_over(nodes: &[i64], edges: &[i64], e: usize, f: Reference, state: &[i64]) -> Brought
-    requires { ⌜ Crossable (now nodes) (now edges) e (now state) × SmallRun (runOf (f .run)) ⌝ }
-    ensures { λ r. ⌜ broughtOf r ≡ crossing (graphOf (now (nodes .entry)) (now (edges .entry))) (edgeAt (now (edges .entry)) e) (referenceOf f) (now (state .entry)) ⌝ }
-{
-    let arrived = arriving_over(nodes, edges, e, state);
-    if let Brought::Left(entered) = arrived {
-        return take(f, entered);
-    }
-    Brought::Nothing
+    step_into(nodes, edges, e, f, reference_at(state, from))
 }
 
 // Gathers the rows of what a reference brings, behind the first n rows, over at most `left` edges: from the list of its owner where one is stored, else through
@@ -381,7 +367,7 @@ fn pass_edge(
     }
     store_list(nodes, edges, plan, from, state, spare);
     let to = edge_to(edges, e);
-    let brought = arriving_over(nodes, edges, e, state);
+    let brought = brought_over(nodes, edges, e, own_reference(nodes, to), state);
     if let Brought::Left(part) = brought {
         meet(nodes, to, part, state);
     }

@@ -5,7 +5,7 @@ ghost use Prim.Native.Nat.{_+_, _*_, _≤_};
 ghost use lib.IntN.{ℤ, pos, _-ℤ_};
 ghost use lib.ListN.{length};
 ghost use Rattle.model.specs.Limits.{edgeWidth};
-ghost use Rattle.model.specs.Graph.{graphOf, node, firstBit, lastBit, bitOffset};
+ghost use Rattle.model.specs.Graph.{graphOf, node, firstBit, bitOffset};
 ghost use Rattle.model.specs.Runs.{whole};
 ghost use Rattle.model.specs.Calls.{standsOn};
 ghost use Rattle.model.specs.Taken.{TakenTables};

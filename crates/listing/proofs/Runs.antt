@@ -1,5 +1,5 @@
 -- The rows of runs, node by node: at the leaf one row, elsewhere the rows of the edges that leave the node; and there are no more than paths.
-use mathlib.Core.Path.{_≡_, refl, sym, ap, _∙_, fun-ext}
+use mathlib.Core.Path.{_≡_, refl, ap, _∙_, fun-ext}
 use mathlib.Core.Bool.{Bool, true, false, not, cond}
 use mathlib.Core.List.{List, [], _∷_, _++_, map, map-append, flatMap}
 use mathlib.Core.Logic.{_≢_}

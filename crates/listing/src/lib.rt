@@ -141,7 +141,8 @@ fn list_from(
 }
 
 // Walks bit address a at node v to the leaf, over at most `left` edges: a row for each arrival, its leaf bit and 0 twice, behind the first n rows
-// of `out`. Returns how many rows stand there then. From an address outside the node there is none.
+// of `out`. Returns how many rows stand there then. From an address outside the node there is none. Over an edge an address goes as a run does: moved by the bit
+// offset, and then it stands on the node entered or ends.
 fn walk_from(
     nodes: &[i64],
     edges: &[i64],

@@ -4,7 +4,7 @@ use mathlib.Core.Bool.{not}
 use mathlib.Core.List.{List, [], _∷_}
 use mathlib.Core.Logic.{_↔_}
 use native.Mathlib.Omega.{arith}
-use lib.Dec.{T}
+use lib.Dec.{T, T-not, not-T}
 use lib.IntN.{ℤ, _+ℤ_, _-ℤ_}
 use lib.Signed.{_≤ℤ_, _<ℤ_, ltZ-yes, ltZ-no}
 use Rattle.integers.specs.Integers.{maxZ}
@@ -14,7 +14,7 @@ use Rattle.model.specs.Rows.{Node, Edge}
 use Rattle.model.specs.Graph.{Graph, node, firstBit, lastBit, bitOffset}
 use Rattle.model.specs.Walk.{StandsOn}
 use Rattle.model.specs.Bitmapping.{Has}
-use Rattle.model.specs.Runs.{Run, InRun, Joins, empty, whole, shift, clip, across, along, recordOf}
+use Rattle.model.specs.Runs.{Run, InRun, Joins, Between, empty, whole, shift, clip, across, along, recordOf}
 
 -- ---- shift
 
@@ -42,16 +42,16 @@ shift-joins o r x b =
 -- ---- clip
 
 -- the clipped run has exactly those bits that lie from `first` to `last`
-pub clip-bits : (first last : ℤ) (r : Run) (b : ℤ) → InRun (clip first last r) b ↔ (InRun r b × (first ≤ℤ b) × (b ≤ℤ last))
+pub clip-bits : (first last : ℤ) (r : Run) (b : ℤ) → InRun (clip first last r) b ↔ (InRun r b × Between first last b)
 unfolding clip
 clip-bits first last r b = (
   λ h. let lo = max-le first (r .low) b .0 (h .above) in let hi = min-le last (r .high) b .0 (h .below) in
-      (record { above = lo .1; below = hi .1 }, lo .0, hi .0),
-  λ h. record { above = max-le first (r .low) b .1 (h .1, h .0 .above); below = min-le last (r .high) b .1 (h .2, h .0 .below) },
+      (record { above = lo .1; below = hi .1 }, record { above = lo .0; below = hi .0 }),
+  λ h. record { above = max-le first (r .low) b .1 (h .1 .above, h .0 .above); below = min-le last (r .high) b .1 (h .1 .below, h .0 .below) },
 )
 
 -- and joins the same root bits to them
-pub clip-joins : (first last : ℤ) (r : Run) (x b : ℤ) → Joins (clip first last r) x b ↔ (Joins r x b × (first ≤ℤ b) × (b ≤ℤ last))
+pub clip-joins : (first last : ℤ) (r : Run) (x b : ℤ) → Joins (clip first last r) x b ↔ (Joins r x b × Between first last b)
 unfolding clip
 clip-joins first last r x b =
     let low = maxZ first (r .low) in
@@ -63,8 +63,8 @@ clip-joins first last r x b =
     let b-before = diff b (r .low) in
     let b-after = diff b low in (
       λ j. let h = clip-bits first last r b .0 (j .inside) in
-          (record { inside = h .0; level = omega (arith, ints) }, h .1, h .2),
-      λ j. record { inside = clip-bits first last r b .1 (j .0 .inside, j .1, j .2); level = omega (arith, ints) },
+          (record { inside = h .0; level = omega (arith, ints) }, h .1),
+      λ j. record { inside = clip-bits first last r b .1 (j .0 .inside, j .1); level = omega (arith, ints) },
     )
 
 -- clipping first at bounds that are moved by the offset, and then shifting, leaves the same bits, each with its root bit: that shift comes first is kept by the
@@ -79,8 +79,8 @@ clip-first-joins first last o r x b =
     let low = sum first o in
     let high = sum last o in
     let at = sum b o in (
-      λ j. let k = cut .0 (moved .0 j) in after .1 (there .1 (k .0), omega (arith, ints, k .1), omega (arith, ints, k .2)),
-      λ j. let k = after .0 j in moved .1 (cut .1 (there .0 (k .0), omega (arith, ints, k .1), omega (arith, ints, k .2))),
+      λ j. let k = cut .0 (moved .0 j) in after .1 (there .1 (k .0), record { above = omega (arith, ints, k .1 .above); below = omega (arith, ints, k .1 .below) }),
+      λ j. let k = after .0 j in moved .1 (cut .1 (there .0 (k .0), record { above = omega (arith, ints, k .1 .above); below = omega (arith, ints, k .1 .below) })),
     )
 
 -- ---- empty runs, and the run of a root
@@ -106,6 +106,20 @@ unfolding shift empty
 shift-empty o r t =
     let k : r .high <ℤ r .low = ltZ-yes t in
     empty-in (shift o r) (omega (arith, ints, diff (r .low) o, diff (r .high) o))
+
+-- a run that is empty once it is shifted was so before
+empty-before : (o : ℤ) (r : Run) → T (empty (shift o r)) → T (empty r)
+unfolding shift empty
+empty-before o r t =
+    let k : (r .high -ℤ o) <ℤ (r .low -ℤ o) = ltZ-yes t in
+    empty-in r (omega (arith, ints, diff (r .low) o, diff (r .high) o))
+
+-- so one that has a bit keeps one, and had one before
+pub full-shift : (o : ℤ) (r : Run) → T (not (empty r)) → T (not (empty (shift o r)))
+full-shift o r t = not-T (empty (shift o r)) (λ e. T-not (empty r) t (empty-before o r e))
+
+pub shift-full : (o : ℤ) (r : Run) → T (not (empty (shift o r))) → T (not (empty r))
+shift-full o r t = not-T (empty r) (λ e. T-not (empty (shift o r)) t (shift-empty o r e))
 
 -- and clipped
 pub clip-empty : (first last : ℤ) (r : Run) → T (empty r) → T (empty (clip first last r))
@@ -134,8 +148,8 @@ across-bits g e r b =
     let n = node g (e .to) in
     let o = bitOffset g e in
     let bits = clip-bits (firstBit n) (lastBit n) (shift o r) b in (
-      λ i. let h = bits .0 i in (shift-bits o r b .0 (h .0), record { above = h .1; below = h .2 }),
-      λ h. bits .1 (shift-bits o r b .1 (h .0), h .1 .above, h .1 .below),
+      λ i. let h = bits .0 i in (shift-bits o r b .0 (h .0), record { above = h .1 .above; below = h .1 .below }),
+      λ h. bits .1 (shift-bits o r b .1 (h .0), record { above = h .1 .above; below = h .1 .below }),
     )
 
 -- the run over an edge joins those root bits that the run joined to an address which the walk may take over the edge
@@ -146,8 +160,8 @@ across-joins g e r x b =
     let n = node g (e .to) in
     let o = bitOffset g e in
     let joins = clip-joins (firstBit n) (lastBit n) (shift o r) x b in (
-      λ j. let h = joins .0 j in (shift-joins o r x b .0 (h .0), record { above = h .1; below = h .2 }),
-      λ h. joins .1 (shift-joins o r x b .1 (h .0), h .1 .above, h .1 .below),
+      λ j. let h = joins .0 j in (shift-joins o r x b .0 (h .0), record { above = h .1 .above; below = h .1 .below }),
+      λ h. joins .1 (shift-joins o r x b .1 (h .0), record { above = h .1 .above; below = h .1 .below }),
     )
 
 -- an empty run stays empty over an edge

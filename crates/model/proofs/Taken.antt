@@ -193,10 +193,6 @@ bounds-address {n} {a} b s =
       omega (arith, ints, s .below, most .0, diff (end *ℤ n .unit) (pos 1)),
     )
 
--- every node of a taken graph has bits
-pub taken-node-full : {g : Graph} {v : ℤ} → Taken g → NodeRow g v → firstBit (node g v) ≤ℤ lastBit (node g v)
-taken-node-full k r = bounds-full (taken-bounds k r)
-
 -- every bit address of a taken graph lies in 0 .. lastAddress
 pub taken-address : {g : Graph} {v a : ℤ} → Taken g → NodeRow g v → StandsOn (node g v) a → (pos 0 ≤ℤ a) × (a ≤ℤ lastAddress)
 taken-address k r s = bounds-address (taken-bounds k r) s

@@ -30,6 +30,11 @@ pub record Joins (r : Run) (x b : ℤ) : Type 0 where
   pub inside : InRun r b
   pub level : x -ℤ r .root ≡ b -ℤ r .low
 
+-- bit address b lies from `first` to `last`
+pub record Between (first last b : ℤ) : Type 0 where
+  pub above : first ≤ℤ b
+  pub below : b ≤ℤ last
+
 -- the run has no bit
 unfoldable pub empty : Run → Bool
 empty r = ltZ (r .high) (r .low)
@@ -38,18 +43,18 @@ empty r = ltZ (r .high) (r .low)
 unfoldable pub whole : Node → Run
 whole n = record { root = firstBit n; low = firstBit n; high = lastBit n }
 
--- ---- the step over an edge (000, 2.5.1)
+-- ---- the step over an edge: bits are clipped after they are shifted (000, 2.5.1)
 
 -- shift: every bit less the bit offset (000, 2.3 to 2.5; there from leaf to root, with the offset added)
 unfoldable pub shift : ℤ → Run → Run
 shift o r = record { root = r .root; low = r .low -ℤ o; high = r .high -ℤ o }
 
--- clip: those bits that lie from `first` to `last`, from the higher of the low ends to the lower of the high ends (000, 2.17 and 2.18). Bits are cut at the low end
--- where `first` lies above it (2.15) and at the high end where `last` lies below it (2.16); the root bit rises with the low end
+-- clip: those bits that lie from `first` to `last`, from the higher of the low ends to the lower of the high ends. Bits are cut at the low end where `first` lies
+-- above it (000, 2.15) and at the high end where `last` lies below it (2.16; there both of the last edge of a path); the root bit rises with the low end
 unfoldable pub clip : ℤ → ℤ → Run → Run
 clip first last r = record { root = r .root +ℤ (maxZ first (r .low) -ℤ r .low); low = maxZ first (r .low); high = minZ last (r .high) }
 
--- over an edge: shift by the bit offset, then clip at the node entered, by its first and last bit
+-- over an edge: shift by the bit offset, then clip at the node entered, by its first and last bit (000, 2.17 and 2.18)
 unfoldable pub across : Graph → Edge → Run → Run
 across g e r = clip (firstBit (node g (e .to))) (lastBit (node g (e .to))) (shift (bitOffset g e) r)
 

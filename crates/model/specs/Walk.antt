@@ -6,7 +6,7 @@ use Rattle.lists.specs.Lists.{_∈_}
 use Rattle.model.specs.Rows.{Node, Edge}
 use Rattle.model.specs.Graph.{Graph, node, firstBit, lastBit, bitOffset}
 
--- a walk may stand on the node with bit address a: a lies between its first and last bit, both included
+-- a walk may stand on the node with bit address a: a lies between its first and last bit, both included; else it is clipped there (000, 2.15 and 2.16)
 pub record StandsOn (n : Node) (a : ℤ) : Type 0 where
   pub above : firstBit n ≤ℤ a
   pub below : a ≤ℤ lastBit n

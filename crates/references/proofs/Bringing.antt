@@ -1,42 +1,28 @@
--- What a reference brings: over an edge, by another reference, shifted, and all that arrives at a node; and where a reference lies.
-use mathlib.Core.Path.{_≡_, refl, sym, subst}
-use mathlib.Core.Bool.{Bool, true, false, not, cond, _&&_}
+-- What a reference takes of a record, as runs; what it brings: over an edge, shifted, and all that arrives at a node; and where a reference lies.
+use mathlib.Core.Path.{_≡_, refl, ap, subst, _∙_}
+use mathlib.Core.Bool.{not, _&&_}
 use mathlib.Core.List.{List}
 use mathlib.Core.Logic.{_↔_}
 use mathlib.Core.Option.{none, some}
 use Prim.Native.Nat.{_^_}
 use native.Mathlib.Omega.{arith}
-use lib.Dec.{T, T-not, not-T}
+use lib.Dec.{T, T-not}
 use lib.IntN.{ℤ, pos, _+ℤ_, _-ℤ_}
 use lib.Signed.{_≤ℤ_}
 use Rattle.integers.specs.Integers.{eqZ}
 use Rattle.integers.proofs.Linear.{ints, sum, diff, neg}
-use Rattle.integers.proofs.Tests.{and-in, and-out, eqZ→eq, eqZ-refl}
-use Rattle.lists.specs.Lists.{_∈_}
-use Rattle.model.specs.Rows.{Edge}
-use Rattle.model.specs.Graph.{Graph, graphOf, NodeRow, node, firstBit, lastBit, bitOffset}
+use Rattle.integers.proofs.Tests.{is-true, is-false, and-in, and-out, eqZ→eq, eqZ-refl}
+use Rattle.model.specs.Graph.{Graph, graphOf, NodeRow, node, firstBit, lastBit}
 use Rattle.model.specs.Walk.{StandsOn, Walk}
-use Rattle.model.specs.Runs.{Run, InRun, Joins, empty, whole, shift, clip, across}
-use Rattle.model.specs.Taken.{Taken, TakenTables}
+use Rattle.model.specs.Runs.{Run, InRun, Joins, empty, whole, shift, clip}
+use Rattle.model.specs.Taken.{TakenTables}
 use Rattle.model.proofs.Walks.{walk-end}
-use Rattle.model.proofs.Steps.{empty-none, empty-not, shift-joins, shift-empty, clip-joins, clip-empty, whole-joins, across-joins}
+use Rattle.model.proofs.Steps.{empty-none, shift-joins, shift-empty, shift-full, full-shift, clip-joins, whole-joins}
 use Rattle.runs.specs.declared.Clipped.{Clipped}
-use Rattle.runs.specs.declared.Clipped.the-variants.{Left, Nothing}
-use Rattle.runs.specs.Clipping.{runOf, living, livingOf, SmallRun, SmallOffset}
-use Rattle.runs.proofs.Runs.{living-none, living-some, shift-clippable, shift-last, clip-small, clip-inside, clip-roots}
-use Rattle.extents.proofs.Bounds.{whole-small, across-small}
-use Rattle.references.specs.References.{Reference, own, Brings, stepped, taken, TakenBy, takenOf, shifted, isNone, unlessNone, ownedBy, InOwner, sameReference}
-
--- ---- the owner of a run
-
--- what is left of a run of bits of the owner is a reference that has bits, or none
-pub owned-unless : (v : ℤ) (r : Run) → ownedBy v (living r) ≡ unlessNone (record { owner = v; run = r })
-unfolding living
-owned-unless v r = go (empty r)
-  where
-    go : (t : Bool) → ownedBy v (cond t none (some r)) ≡ cond t none (some (record { owner = v; run = r }))
-    go true = refl
-    go false = refl
+use Rattle.runs.specs.Clipping.{living, livingOf, SmallRun, SmallOffset, SmallExtent}
+use Rattle.runs.proofs.Runs.{living-none, living-some, left-exact, shift-clippable, shift-last, clip-read, clip-small, clip-inside, clip-roots}
+use Rattle.extents.proofs.Bounds.{whole-small}
+use Rattle.references.specs.References.{Reference, own, Brings, lastRoot, through, narrowed, NarrowedBy, shifted, isNone, unlessNone, InOwner, sameReference}
 
 -- ---- what a part takes of a run
 
@@ -48,9 +34,9 @@ root-bit : (r : Run) (b : ℤ) → InRun r b → Joins r (rootBit r b) b
 root-bit r b h = record { inside = h; level = omega (arith, ints, diff b (r .low), sum (r .root) (b -ℤ r .low), diff (rootBit r b) (r .root)) }
 
 -- it joins root bit x to b exactly where the run joins x to a bit address that the part joins to b
-pub taken-joins : (part r : Run) (x b : ℤ) → Joins (taken part r) x b ↔ ((y : ℤ) × Joins r x y × Joins part y b)
-unfolding taken
-taken-joins part r x b =
+pub narrowed-joins : (part r : Run) (x b : ℤ) → Joins (narrowed part r) x b ↔ ((y : ℤ) × Joins r x y × Joins part y b)
+unfolding narrowed
+narrowed-joins part r x b =
     let o = part .root -ℤ part .low in
     let y = b +ℤ o in
     let cut = clip-joins (part .low) (part .high) (shift o r) x b in
@@ -61,43 +47,27 @@ taken-joins part r x b =
     let here = diff b (part .low) in (
       λ j.
           let k = cut .0 j in
-          (y, moved .0 (k .0), record { inside = record { above = k .1; below = k .2 }; level = omega (arith, ints) }),
+          (y, moved .0 (k .0), record { inside = record { above = k .1 .above; below = k .1 .below }; level = omega (arith, ints) }),
       λ (z, j, k).
           let level = k .level in
           let same : z ≡ y = omega (arith, ints, diff z (part .root)) in
-          cut .1 (moved .1 (subst (λ (a : ℤ). Joins r x a) same j), k .inside .above, k .inside .below),
+          cut .1 (moved .1 (subst (λ (a : ℤ). Joins r x a) same j), record { above = k .inside .above; below = k .inside .below }),
     )
 
 -- it has bit b exactly where the run has a bit address that the part joins to b
-taken-bits : (part r : Run) (b : ℤ) → InRun (taken part r) b ↔ ((y : ℤ) × InRun r y × Joins part y b)
-taken-bits part r b = (
-  λ h. let (y, j, k) = taken-joins part r (rootBit (taken part r) b) b .0 (root-bit (taken part r) b h) in (y, j .inside, k),
-  λ (y, h, k). taken-joins part r (rootBit r y) b .1 (y, root-bit r y h, k) .inside,
+narrowed-bits : (part r : Run) (b : ℤ) → InRun (narrowed part r) b ↔ ((y : ℤ) × InRun r y × Joins part y b)
+narrowed-bits part r b = (
+  λ h. let (y, j, k) = narrowed-joins part r (rootBit (narrowed part r) b) b .0 (root-bit (narrowed part r) b h) in (y, j .inside, k),
+  λ (y, h, k). narrowed-joins part r (rootBit r y) b .1 (y, root-bit r y h, k) .inside,
 )
 
--- of an empty run it takes nothing
-pub taken-empty : (part r : Run) → T (empty r) → T (empty (taken part r))
-unfolding taken
-taken-empty part r t = let o = part .root -ℤ part .low in clip-empty (part .low) (part .high) (shift o r) (shift-empty o r t)
-
--- so where it takes something, the run is not empty
-pub taken-full : (part r : Run) → T (not (empty (taken part r))) → T (not (empty r))
-taken-full part r t = not-T (empty r) (λ e. T-not (empty (taken part r)) t (taken-empty part r e))
-
--- what is left has exactly the bits that it should, each with its root bit
-taken-exact : (part r : Run) (c : Clipped) → livingOf c ≡ living (taken part r) → TakenBy part r c
-taken-exact part r (Left s) q =
-    let w = living-some (taken part r) (runOf s) q in
-    let low = taken part r .low in
-    let end : InRun (taken part r) low = record { above = omega (arith, ints); below = empty-not (taken part r) (w .1) } in
-    (rw (w .0) (record { bits = taken-bits part r; roots = taken-joins part r }), (low, taken-bits part r low .0 end))
-taken-exact part r Nothing q = λ b h. empty-none (taken part r) b (living-none (taken part r) q) (taken-bits part r b .1 h)
-
--- what is left of the run, shifted and then clipped at the part's ends, is what is left of what it takes
-pub taken-returns : (part r : Run) (c : Clipped) (s : Run) (first last : ℤ) → livingOf c ≡ living (clip first last s) → first ≡ part .low → last ≡ part .high
-    → s ≡ shift (part .root -ℤ part .low) r → (livingOf c ≡ living (taken part r)) × TakenBy part r c
-unfolding taken
-taken-returns part r c s first last q f l p = let left : livingOf c ≡ living (taken part r) = cc in (left, taken-exact part r c left)
+-- what is left of the run, shifted and then clipped at the part's ends, is what is left of what it takes: exactly the bits that it should, each with its root bit
+pub narrowed-returns : (part r : Run) (c : Clipped) (s : Run) (first last : ℤ) → livingOf c ≡ living (clip first last s) → first ≡ part .low → last ≡ part .high
+    → s ≡ shift (part .root -ℤ part .low) r → (livingOf c ≡ living (narrowed part r)) × NarrowedBy part r c
+unfolding narrowed
+narrowed-returns part r c s first last q f l p =
+    let left : livingOf c ≡ living (narrowed part r) = q ∙ ap living (clip-read f l p) in
+    (left, left-exact (narrowed part r) c (narrowed-bits part r) (narrowed-joins part r) left)
 
 -- the part's bits lie below those of the node by a small number
 pub part-offset : {part : Run} → SmallRun part → SmallOffset (part .root -ℤ part .low)
@@ -111,30 +81,40 @@ part-offset {part} small =
     }
 
 -- what it takes of a small run is small
-pub taken-small : {part r : Run} → SmallRun part → SmallRun r → T (not (empty (taken part r))) → SmallRun (taken part r)
-unfolding taken
-taken-small {part} {r} small s t =
+pub narrowed-small : {part r : Run} → SmallRun part → SmallRun r → T (not (empty (narrowed part r))) → SmallRun (narrowed part r)
+unfolding narrowed
+narrowed-small {part} {r} small s t =
     clip-small (part .low) (part .high) (shift-clippable s (part-offset small)) (record { low = small .low; high = small .high }) t
 
 -- ---- what is brought
 
--- over an edge: what the reference brought to the node left, and the node entered holds
-pub stepped-brings : (g : Graph) (r : ℤ) (e : Edge) (u : Reference) (x b : ℤ)
-    → Brings g r (stepped g e u) x b ↔ (StandsOn (node g (e .to)) b × Brings g r u x (b +ℤ bitOffset g e))
-stepped-brings g r e u x b = (
-  λ h. let k = across-joins g e (u .run) (h .at) b .0 (h .joins) in (k .1, record { at = h .at; walk = h .walk; joins = k .0 }),
-  λ (stands, h). record { at = h .at; walk = h .walk; joins = across-joins g e (u .run) (h .at) b .1 (h .joins, stands) },
-)
-
--- taken by another reference: what was brought to its owner, and it joins to b
-pub taken-brings : (g : Graph) (r : ℤ) (f u : Reference) (x b : ℤ)
-    → Brings g r (takenOf f u) x b ↔ ((y : ℤ) × Brings g r u x y × Joins (f .run) y b)
-taken-brings g r f u x b = (
-  λ h.
-      let (y, j, k) = taken-joins (f .run) (u .run) (h .at) b .0 (h .joins) in
-      (y, record { at = h .at; walk = h .walk; joins = j }, k),
-  λ (y, h, k). record { at = h .at; walk = h .walk; joins = taken-joins (f .run) (u .run) (h .at) b .1 (y, h .joins, k) },
-)
+-- over an edge: what u brought to the node left, less the bit offset, and f joins to b
+pub through-brings : (g : Graph) (r o : ℤ) (f u : Reference) (x b : ℤ)
+    → Brings g r (through o f u) x b ↔ ((y : ℤ) × Joins (f .run) y b × Brings g r u x (y +ℤ o))
+through-brings g r o f u x b =
+    let p = f .run in
+    let d = p .root -ℤ p .low in
+    let y = b +ℤ d in
+    let offset = diff (p .root) (p .low) in
+    let at = sum b d in
+    let above = diff y (p .root) in
+    let here = diff b (p .low) in
+    let size = diff (p .high) (p .low) in
+    let last = sum (p .root) (p .high -ℤ p .low) in (
+      λ h.
+          let j = shift-joins d (clip (p .root) (lastRoot p) (shift o (u .run))) (h .at) b .0 (h .joins) in
+          let k = clip-joins (p .root) (lastRoot p) (shift o (u .run)) (h .at) y .0 j in (
+            y,
+            record { inside = record { above = omega (arith, ints, k .1 .above); below = omega (arith, ints, k .1 .below) }; level = omega (arith, ints) },
+            record { at = h .at; walk = h .walk; joins = shift-joins o (u .run) (h .at) y .0 (k .0) },
+          ),
+      λ (z, k, h).
+          let level = k .level in
+          let same : z ≡ y = omega (arith, ints, diff z (p .root)) in
+          let j = shift-joins o (u .run) (h .at) y .1 (subst (λ (a : ℤ). Joins (u .run) (h .at) (a +ℤ o)) same (h .joins)) in
+          let cut = clip-joins (p .root) (lastRoot p) (shift o (u .run)) (h .at) y .1 (j, record { above = omega (arith, ints, k .inside .above); below = omega (arith, ints, k .inside .below) }) in
+          record { at = h .at; walk = h .walk; joins = shift-joins d (clip (p .root) (lastRoot p) (shift o (u .run))) (h .at) b .1 cut },
+    )
 
 -- shifted by o, it brings with b what it brought with b + o
 pub shifted-brings : (g : Graph) (r : ℤ) (o : ℤ) (f : Reference) (x b : ℤ) → Brings g r (shifted o f) x b ↔ Brings g r f x (b +ℤ o)
@@ -179,35 +159,68 @@ own-lying {ns} {es} {v} tables row =
       below = omega (arith, ints, diff (lastBit n) (firstBit n), sum (firstBit n) (lastBit n -ℤ firstBit n));
     }
 
--- what clip leaves of the shifted run lies where the reference does: its root bits are some of those of the run
-clipped-lying : {g : Graph} {f : Reference} (first last o : ℤ) → InOwner g f → SmallRun (clip first last (shift o (f .run)))
-    → InOwner g (record { owner = f .owner; run = clip first last (shift o (f .run)) })
+-- what comes over an edge lies where u does, unless it has no bit address: its root bits are some of those of u
+pub through-lying : {g : Graph} {o : ℤ} (f : Reference) {u : Reference} → SmallOffset o → SmallRun (f .run) → InOwner g u → T (not (isNone (through o f u)))
+    → InOwner g (through o f u)
 unfolding shift
-clipped-lying {g} {f} first last o l small =
-    let roots = clip-roots first last (shift o (f .run)) in
+through-lying {g} {o} f {u} offset small l t =
+    let p = f .run in
+    let d = p .root -ℤ p .low in
+    let r = clip (p .root) (lastRoot p) (shift o (u .run)) in
+    let extent : SmallExtent (p .root) (lastRoot p) = record { low = small .root; high = small .last } in
+    let left = clip-small (p .root) (lastRoot p) (shift-clippable (l .small) offset) extent (shift-full d r t) in
+    let roots = clip-roots (p .root) (lastRoot p) (shift o (u .run)) in
+    let inside = clip-inside (p .root) (lastRoot p) (shift o (u .run)) in
+    let apart = diff (p .root) (p .low) in
+    let size = diff (p .high) (p .low) in
+    let end = sum (p .root) (p .high -ℤ p .low) in
+    let low = diff (r .low) d in
+    let high = diff (r .high) d in
     record {
       row = l .row;
-      small = small;
+      small = record {
+        root = left .root;
+        low = omega (arith, ints, inside .0, small .low);
+        full = omega (arith, ints, left .full);
+        high = omega (arith, ints, inside .1, small .high);
+        last = omega (arith, ints, shift-last d r, left .last);
+      };
       above = omega (arith, ints, l .above, roots .0);
-      below = omega (arith, ints, l .below, roots .1, shift-last o (f .run));
+      below = omega (arith, ints, l .below, roots .1, shift-last o (u .run), shift-last d r);
     }
 
--- so it is over an edge of a taken graph
-pub stepped-lying : {g : Graph} {e : Edge} {u : Reference} → Taken g → e ∈ g .edges → InOwner g u → T (not (isNone (stepped g e u))) → InOwner g (stepped g e u)
-unfolding across
-stepped-lying {g} {e} {u} taken edge l t =
-    let n = node g (e .to) in
-    clipped-lying {f = u} (firstBit n) (lastBit n) (bitOffset g e) l (across-small taken edge (l .small) t)
+-- its bit addresses are some of f's
+pub through-inside : (o : ℤ) (f u : Reference) → (f .run .low ≤ℤ through o f u .run .low) × (through o f u .run .high ≤ℤ f .run .high)
+unfolding shift
+through-inside o f u =
+    let p = f .run in
+    let d = p .root -ℤ p .low in
+    let r = clip (p .root) (lastRoot p) (shift o (u .run)) in
+    let inside = clip-inside (p .root) (lastRoot p) (shift o (u .run)) in
+    let apart = diff (p .root) (p .low) in
+    let size = diff (p .high) (p .low) in
+    let end = sum (p .root) (p .high -ℤ p .low) in
+    (omega (arith, ints, inside .0, diff (r .low) d), omega (arith, ints, inside .1, diff (r .high) d))
 
--- and by another reference
-pub taken-lying : {g : Graph} (f : Reference) {u : Reference} → SmallRun (f .run) → InOwner g u → T (not (isNone (takenOf f u))) → InOwner g (takenOf f u)
-unfolding taken
-taken-lying {g} f {u} small l t = clipped-lying {f = u} (f .run .low) (f .run .high) (f .run .root -ℤ f .run .low) l (taken-small small (l .small) t)
+-- ---- what the code says comes over an edge
 
--- over an edge the bit addresses are some of the node entered
-pub stepped-inside : (g : Graph) (e : Edge) (u : Reference) → (firstBit (node g (e .to)) ≤ℤ stepped g e u .run .low) × (stepped g e u .run .high ≤ℤ lastBit (node g (e .to)))
-unfolding across
-stepped-inside g e u = let n = node g (e .to) in clip-inside (firstBit n) (lastBit n) (shift (bitOffset g e) (u .run))
+module _ (o : ℤ) (f u : Reference) where
+  -- the shifted run, clipped at the bits of the node entered that f takes
+  abbrev pub cut : Run
+  cut = clip (f .run .root) (lastRoot (f .run)) (shift o (u .run))
+
+  -- nothing where nothing is left
+  pub through-nothing : none ≡ living cut → none ≡ unlessNone (through o f u)
+  through-nothing q =
+      rw (is-true (isNone (through o f u)) (shift-empty (f .run .root -ℤ f .run .low) cut (living-none cut q))) refl
+
+  -- else what is left, shifted
+  pub through-left : {r s : Run} → some r ≡ living cut → s ≡ shift (f .run .root -ℤ f .run .low) r → some (record { owner = u .owner; run = s }) ≡ unlessNone (through o f u)
+  through-left {r} {s} q e =
+      let w = living-some cut r q in
+      let same : s ≡ through o f u .run = e ∙ ap (shift (f .run .root -ℤ f .run .low)) (w .0) in
+      let full = full-shift (f .run .root -ℤ f .run .low) cut (w .1) in
+      rw (is-false (isNone (through o f u)) (T-not (isNone (through o f u)) full)) (ap (λ (z : Run). some (record { owner = u .owner; run = z })) same)
 
 -- ---- the same reference
 

@@ -6,7 +6,7 @@ use mathlib.Core.Logic.{_↔_, ⊎-elim}
 use Prim.Native.Nat.{_≤_}
 use native.Mathlib.Omega.{arith}
 use lib.Dec.{T, T-not}
-use lib.IntN.{ℤ, _+ℤ_, _-ℤ_}
+use lib.IntN.{ℤ, _-ℤ_}
 use lib.Signed.{_≤ℤ_}
 use lib.ListN.{length, length-append}
 use Rattle.integers.proofs.Linear.{ints, sum, diff}
@@ -23,7 +23,7 @@ use Rattle.sorting.specs.declared.Row.{Row}
 use Rattle.normalisation.specs.Merging.{byDisplacement, ofDisplacement}
 use Rattle.runs.specs.Clipping.{SmallRun}
 use Rattle.references.specs.References.{Reference, Brings, recordRun, runRecord, cutRun, cutRow, cutRows, SmallRecord}
-use Rattle.references.proofs.Bringing.{taken-joins}
+use Rattle.references.proofs.Bringing.{narrowed-joins}
 
 -- ---- records and runs
 
@@ -77,9 +77,9 @@ cutRecord f s = runRecord (cutRun f s)
 pub cut-has : (f : Reference) (s : Record) (x b : ℤ) → Has (cutRecord f s) x b ↔ ((y : ℤ) × Has s x y × Joins (f .run) y b)
 cut-has f s x b =
     let cut = run-record-joins (cutRun f s) x b in
-    let taken = taken-joins (f .run) (recordRun s) x b in (
-      λ h. let (y, j, k) = taken .0 (cut .0 h) in (y, record-run-joins s x y .1 j, k),
-      λ (y, h, k). cut .1 (taken .1 (y, record-run-joins s x y .0 h, k)),
+    let narrowed = narrowed-joins (f .run) (recordRun s) x b in (
+      λ h. let (y, j, k) = narrowed .0 (cut .0 h) in (y, record-run-joins s x y .1 j, k),
+      λ (y, h, k). cut .1 (narrowed .1 (y, record-run-joins s x y .0 h, k)),
     )
 
 -- where nothing is left of the record, there is no row

@@ -3,7 +3,6 @@ use mathlib.Core.Path.{_≡_}
 use Prim.Native.Nat.{_^_}
 use native.Mathlib.Omega.{arith}
 use lib.IntN.{ℤ, pos, _+ℤ_, _-ℤ_}
-use lib.Signed.{_≤ℤ_}
 use Rattle.integers.proofs.Linear.{ints, sum, diff, neg}
 use Rattle.model.specs.Bitmapping.{Record}
 use Rattle.model.specs.Runs.{Run}

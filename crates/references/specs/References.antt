@@ -9,11 +9,10 @@ use lib.ListN.{length, drop}
 use Rattle.integers.specs.Integers.{eqZ}
 use Rattle.lists.specs.Lists.{_∈_}
 use Rattle.model.specs.Limits.{addressRoom}
-use Rattle.model.specs.Rows.{Edge}
 use Rattle.model.specs.Graph.{Graph, NodeRow, node, firstBit, lastBit}
 use Rattle.model.specs.Walk.{Walk}
 use Rattle.model.specs.Bitmapping.{Record}
-use Rattle.model.specs.Runs.{Run, InRun, Joins, empty, whole, shift, clip, across}
+use Rattle.model.specs.Runs.{Run, InRun, Joins, empty, whole, shift, clip}
 use Rattle.sorting.specs.declared.Row.{Row}
 use Rattle.sorting.specs.Rows.{rowWidth, rowAt, Ascending}
 use Rattle.normalisation.specs.Merging.{byDisplacement, displacedOf}
@@ -24,7 +23,7 @@ use Rattle.references.specs.declared.Reference.{Reference as Held}
 use Rattle.references.specs.declared.Brought.{Brought}
 use Rattle.references.specs.declared.Brought.the-variants.{Left, Nothing}
 
--- of what arrives at the owner, bits that the run has: its root bits are bit addresses of the owner
+-- a run from the owner in place of the root: what it has as root bits are bit addresses of the owner
 pub record Reference : Type 0 where
   pub owner : ℤ
   pub run : Run
@@ -43,23 +42,24 @@ pub record Brings (g : Graph) (r : ℤ) (f : Reference) (x b : ℤ) : Type 0 whe
   pub walk : Walk g r x (f .owner) at
   pub joins : Joins (f .run) at b
 
+-- the bit address of the owner that the highest bit of a run stands for
+abbrev pub lastRoot : Run → ℤ
+lastRoot r = r .root +ℤ (r .high -ℤ r .low)
+
 -- ---- moved and cut: shift, then clip
 
--- the step over edge e, of a reference to what arrives at the node that it leaves
-abbrev pub stepped : Graph → Edge → Reference → Reference
-stepped g e u = record { owner = u .owner; run = across g e (u .run) }
+-- the step over an edge with bit offset o into the part of the node entered that f refers to, from u, a reference to what arrives at the node left: shift, then clip at
+-- the first and the last bit of the node entered that f takes; what is left is shifted to the bit addresses that f has for them
+abbrev pub through : ℤ → Reference → Reference → Reference
+through o f u = record { owner = u .owner; run = shift (f .run .root -ℤ f .run .low) (clip (f .run .root) (lastRoot (f .run)) (shift o (u .run))) }
 
--- what a part of a node's bits takes of a run that arrives there: shifted by as much as the part's bits lie below those of the node, then clipped at the part's ends
-unfoldable pub taken : Run → Run → Run
-taken part r = clip (part .low) (part .high) (shift (part .root -ℤ part .low) r)
+-- what a reference has of a record of its owner, both as runs: shifted to the bit addresses that the reference has for them, then clipped at its ends
+unfoldable pub narrowed : Run → Run → Run
+narrowed part r = clip (part .low) (part .high) (shift (part .root -ℤ part .low) r)
 
--- bit by bit: the bits that the part joins to bits of the run, each with the root bit that the run joins to those; or nothing
-abbrev pub TakenBy : Run → Run → Clipped → Type 0
-TakenBy part r = ExactlyOrNone (λ b. (y : ℤ) × InRun r y × Joins part y b) (λ x b. (y : ℤ) × Joins r x y × Joins part y b)
-
--- what reference f takes of what u brings to the owner of f
-abbrev pub takenOf : Reference → Reference → Reference
-takenOf f u = record { owner = u .owner; run = taken (f .run) (u .run) }
+-- bit by bit: the bits that the reference's run joins to bits of the record's, each with the root bit that the record joins to those; or nothing
+abbrev pub NarrowedBy : Run → Run → Clipped → Type 0
+NarrowedBy part r = ExactlyOrNone (λ b. (y : ℤ) × InRun r y × Joins part y b) (λ x b. (y : ℤ) × Joins r x y × Joins part y b)
 
 -- every bit address less o
 abbrev pub shifted : ℤ → Reference → Reference
@@ -73,11 +73,6 @@ isNone f = empty (f .run)
 abbrev pub unlessNone : Reference → Option Reference
 unlessNone f = cond (isNone f) none (some f)
 
--- what is left of a run of bits of the owner v, as a reference
-abbrev pub ownedBy : ℤ → Option Run → Option Reference
-ownedBy v none = none
-ownedBy v (some r) = some (record { owner = v; run = r })
-
 -- what the code says is brought
 abbrev pub broughtOf : Brought → Option Reference
 broughtOf (Left f) = some (referenceOf f)
@@ -88,7 +83,7 @@ pub record InOwner (g : Graph) (f : Reference) : Type 0 where
   pub row : NodeRow g (f .owner)
   pub small : SmallRun (f .run)
   pub above : firstBit (node g (f .owner)) ≤ℤ f .run .root
-  pub below : (f .run .root +ℤ (f .run .high -ℤ f .run .low)) ≤ℤ lastBit (node g (f .owner))
+  pub below : lastRoot (f .run) ≤ℤ lastBit (node g (f .owner))
 
 -- two references are the same
 abbrev pub sameReference : Reference → Reference → Bool
@@ -107,9 +102,9 @@ runRecord r = record { first = r .root; last = r .root +ℤ (r .high -ℤ r .low
 
 -- what the reference takes of a record of the owner
 abbrev pub cutRun : Reference → Record → Run
-cutRun f s = taken (f .run) (recordRun s)
+cutRun f s = narrowed (f .run) (recordRun s)
 
--- its row, or nothing where it has no bit
+-- the row of what the reference takes of a record of the owner, or nothing where that has no bit
 unfoldable pub cutRow : Reference → Record → List Row
 cutRow f s = cond (empty (cutRun f s)) [] (byDisplacement (runRecord (cutRun f s)) ∷ [])
 
@@ -138,9 +133,9 @@ pub record Parted (t : List ℤ) (row count : ℕ) (d : ℤ) (low high : ℕ) : 
 
 -- root bits from `first` on walk to no bit address of the reference at the owner by a displacement below this one
 abbrev pub leastOf : Reference → ℤ → ℤ
-leastOf f first = first -ℤ (f .run .root +ℤ (f .run .high -ℤ f .run .low))
+leastOf f first = first -ℤ lastRoot (f .run)
 
--- nor root bits up to `last` by this one or a higher
+-- root bits up to `last` walk to no bit address of the reference at the owner by this displacement or a higher one
 abbrev pub pastOf : Reference → ℤ → ℤ
 pastOf f last = last -ℤ (f .run .root -ℤ pos 1)
 

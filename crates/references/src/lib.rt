@@ -5,7 +5,7 @@ ghost use Prim.Native.Nat.{_+_, _*_, _≤_, _<_};
 ghost use lib.IntN.{ℤ, pos};
 ghost use lib.ListN.{length};
 ghost use Rattle.model.specs.Limits.{edgeWidth};
-ghost use Rattle.model.specs.Graph.{graphOf};
+ghost use Rattle.model.specs.Graph.{graphOf, bitOffset};
 ghost use Rattle.model.specs.Taken.{TakenTables};
 ghost use Rattle.normalisation.specs.Merging.{byDisplacement, ofDisplacement};
 ghost use Rattle.sorting.specs.Rows.{rowWidth, rowAt, Ascending};
@@ -13,7 +13,7 @@ ghost use Rattle.tables.specs.Tables.{edgeAt};
 ghost use Rattle.runs.specs.Clipping.{runOf, living, livingOf, SmallRun, SmallOffset};
 ghost use Rattle.extents.specs.Extents.{GoodRow, SmallAddress};
 ghost use Rattle.listing.specs.Listing.{Appended};
-ghost use Rattle.references.specs.References.{referenceOf, own, shifted, stepped, taken, TakenBy, takenOf, unlessNone, ownedBy, broughtOf, sameReference, recordRun, runRecord, cutRow, cutRows, SmallRecord, recordsAt, Parted, leastOf, pastOf, Cuttable};
+ghost use Rattle.references.specs.References.{referenceOf, own, shifted, through, narrowed, NarrowedBy, unlessNone, broughtOf, sameReference, recordRun, runRecord, cutRow, cutRows, SmallRecord, recordsAt, Parted, leastOf, pastOf, Cuttable};
 use listing::append_row;
 use model::Bits;
 use runs::Clipped;
@@ -23,13 +23,13 @@ use runs::shift;
 use sorting::Row;
 use sorting::row_at;
 
-// Of what arrives at the owner, bits that the run has: its root bits are bit addresses of the owner.
+// A run from the owner in place of the root: what it has as root bits are bit addresses of the owner.
 pub struct Reference {
     pub owner: usize,
     pub run: Run,
 }
 
-// What comes over an edge, or what a reference takes of it.
+// What comes over an edge.
 pub enum Brought {
     Left(Reference),
     Nothing,
@@ -41,32 +41,39 @@ struct Displacements {
     past: Bits,
 }
 
-// A reference to what is left of a run of bits of the owner.
-fn of_owner(owner: usize, left: Clipped) -> Brought
-    ensures { λ r. ⌜ broughtOf r ≡ ownedBy (pos owner) (livingOf left) ⌝ }
+// The step over edge e into the part of the node entered that f refers to, from u, a reference to what arrives at the node left: shift by the bit offset, then clip
+// at the first and the last bit of the node entered that f takes. What is left is shifted to the bit addresses that f has for them.
+pub fn step_into(nodes: &[i64], edges: &[i64], e: usize, f: Reference, u: Reference) -> Brought
+    requires { ⌜
+        TakenTables (now nodes) (now edges)
+        × (edgeWidth * e + edgeWidth ≤ length (now edges))
+        × SmallRun (runOf (f .run))
+        × SmallRun (runOf (u .run)) ⌝ }
+    ensures { λ r. ⌜
+        broughtOf r ≡ unlessNone (through (bitOffset (graphOf (now (nodes .entry)) (now (edges .entry))) (edgeAt (now (edges .entry)) e)) (referenceOf f) (referenceOf u)) ⌝ }
 {
-    if let Clipped::Left(run) = left {
+    let part = f.run;
+    let first = part.root;
+    let low = part.low;
+    let high = part.high;
+    let last = first.plus(high.less(low));
+    let offset = first.less(low);
+    let shifted = shift(u.run, extents::offset_of(nodes, edges, e));
+    let clipped = clip(shifted, first, last);
+    if let Clipped::Left(run) = clipped {
         return Brought::Left(Reference {
-            owner: owner,
-            run: run,
+            owner: u.owner,
+            run: shift(run, offset),
         });
     }
     Brought::Nothing
 }
 
-// The step over edge e, of a reference to what arrives at the node that it leaves.
-pub fn step_over(nodes: &[i64], edges: &[i64], e: usize, u: Reference) -> Brought
-    requires { ⌜ TakenTables (now nodes) (now edges) × (edgeWidth * e + edgeWidth ≤ length (now edges)) × SmallRun (runOf (u .run)) ⌝ }
-    ensures { λ r. ⌜ broughtOf r ≡ unlessNone (stepped (graphOf (now (nodes .entry)) (now (edges .entry))) (edgeAt (now (edges .entry)) e) (referenceOf u)) ⌝ }
-{
-    of_owner(u.owner, steps::step(nodes, edges, e, u.run))
-}
-
-// What a part of a node's bits takes of a run that arrives there: shifted by as much as the part's bits lie below those of the node, then clipped at the part's ends.
-fn taken(part: Run, run: Run) -> Clipped
+// What a reference has of a record of its owner, both as runs: shifted to the bit addresses that the reference has for them, then clipped at its ends.
+fn narrowed(part: Run, run: Run) -> Clipped
     requires { ⌜ SmallRun (runOf part) × SmallRun (runOf run) ⌝ }
-    ensures { λ r. ⌜ livingOf r ≡ living (taken (runOf part) (runOf run)) ⌝ }
-    ensures { λ r. ⌜ TakenBy (runOf part) (runOf run) r ⌝ }
+    ensures { λ r. ⌜ livingOf r ≡ living (narrowed (runOf part) (runOf run)) ⌝ }
+    ensures { λ r. ⌜ NarrowedBy (runOf part) (runOf run) r ⌝ }
 {
     let root = part.root;
     let low = part.low;
@@ -74,14 +81,6 @@ fn taken(part: Run, run: Run) -> Clipped
     let offset = root.less(low);
     let shifted = shift(run, offset);
     clip(shifted, low, high)
-}
-
-// What reference f takes of what u brings to the owner of f.
-pub fn take(f: Reference, u: Reference) -> Brought
-    requires { ⌜ SmallRun (runOf (f .run)) × SmallRun (runOf (u .run)) ⌝ }
-    ensures { λ r. ⌜ broughtOf r ≡ unlessNone (takenOf (referenceOf f) (referenceOf u)) ⌝ }
-{
-    of_owner(u.owner, taken(f.run, u.run))
 }
 
 // Every bit address less the offset.
@@ -169,8 +168,8 @@ fn append_cut(state: &mut [i64], p: usize, f: Reference, n: usize) -> usize
     ensures { λ r. ⌜ Appended (cutRow (referenceOf f) (ofDisplacement (rowAt (now (state .entry)) p))) (now (state .entry)) (now (state .exit)) n r ⌝ }
 {
     let row = row_at(state, p);
-    let left = taken(f.run, record_run(row));
-    if let Clipped::Left(run) = left {
+    let cut = narrowed(f.run, record_run(row));
+    if let Clipped::Left(run) = cut {
         return append_row(state, n, run_record(run));
     }
     n

@@ -12,12 +12,12 @@ use Rattle.integers.specs.Integers.{minZ, maxZ}
 use Rattle.integers.proofs.Linear.{ints, sum, diff, neg}
 use Rattle.integers.proofs.Tests.{is-true, is-false, min-is, max-is}
 use Rattle.model.specs.Quantities.{Addable, Movable}
-use Rattle.model.specs.Runs.{Run, InRun, empty, shift, clip}
+use Rattle.model.specs.Runs.{Run, InRun, Joins, empty, shift, clip}
 use Rattle.model.proofs.Steps.{empty-none, empty-not, empty-in, shift-bits, shift-joins, clip-bits, clip-joins}
 use Rattle.runs.specs.declared.Run.{Run as Held}
 use Rattle.runs.specs.declared.Clipped.{Clipped}
 use Rattle.runs.specs.declared.Clipped.the-variants.{Left, Nothing}
-use Rattle.runs.specs.Clipping.{runOf, living, livingOf, Shifted, Within, ClippedTo, SmallRun, SmallOffset, Clippable, SmallExtent}
+use Rattle.runs.specs.Clipping.{runOf, living, livingOf, ExactlyOrNone, Shifted, ClippedTo, SmallRun, SmallOffset, Clippable, SmallExtent}
 
 -- ---- what is left of a run
 
@@ -56,6 +56,14 @@ left-living r e p = ap livingOf (sym e) ∙ p
 pub nothing-living : (r : Run) {c : Clipped} → c ≡ Nothing → livingOf c ≡ living r → none ≡ living r
 nothing-living r e p = ap livingOf (sym e) ∙ p
 
+-- what is left of a run with certain bits, each with certain root bits, has exactly those, or there are none
+pub left-exact : {Bit : ℤ → Type 0} {Root : ℤ → ℤ → Type 0} (r : Run) (c : Clipped) → ((b : ℤ) → InRun r b ↔ Bit b) → ((x b : ℤ) → Joins r x b ↔ Root x b)
+    → livingOf c ≡ living r → ExactlyOrNone Bit Root c
+left-exact r (Left s) bits roots e =
+    let w = living-some r (runOf s) e in
+    (rw (w .0) (record { bits = bits; roots = roots }), (r .low, bits (r .low) .0 (record { above = omega (arith, ints); below = empty-not r (w .1) })))
+left-exact r Nothing bits roots e = λ b h. empty-none r b (living-none r e) (bits b .1 h)
+
 -- ---- shift
 
 -- the ends of a small run can be moved by a small offset
@@ -93,6 +101,10 @@ shift-ends o r p q = cc
 -- the shifted run has exactly the run's bits less the offset, each with its root bit
 pub shift-exact : (o : ℤ) (r : Run) {s : Run} → s ≡ shift o r → Shifted o r s
 shift-exact o r e = rw e (record { bits = shift-bits o r; roots = shift-joins o r })
+
+-- a run shifted by an offset that was read
+pub shift-read : (o p : ℤ) (r s : Run) → s ≡ shift o r → o ≡ p → s ≡ shift p r
+shift-read o p r s e q = e ∙ ap (λ (z : ℤ). shift z r) q
 
 -- the last root bit stays
 pub shift-last : (o : ℤ) (r : Run) → shift o r .root +ℤ (shift o r .high -ℤ shift o r .low) ≡ r .root +ℤ (r .high -ℤ r .low)
@@ -144,22 +156,11 @@ module _ {r : Run} {first last low high : ℤ} (fits : Clippable r) (extent : Sm
 
 -- what is left has exactly the bits that lie there, each with its root bit
 pub clip-exact : (first last : ℤ) (r : Run) (c : Clipped) → livingOf c ≡ living (clip first last r) → ClippedTo first last r c
-clip-exact first last r (Left s) e =
-    let w = living-some (clip first last r) (runOf s) e in
-    let bits : (b : ℤ) → InRun (clip first last r) b ↔ (InRun r b × Within first last b) =
-    λ b. let k = clip-bits first last r b in
-    (λ h. let i = k .0 h in (i .0, record { above = i .1; below = i .2 }), λ h. k .1 (h .0, h .1 .above, h .1 .below)) in
-    let low = clip first last r .low in
-    let end : InRun (clip first last r) low = record { above = omega (arith, ints); below = empty-not (clip first last r) (w .1) } in (
-      rw (w .0) (record {
-        bits = bits;
-        roots = λ x b. let k = clip-joins first last r x b in
-            (λ h. let i = k .0 h in (i .0, record { above = i .1; below = i .2 }), λ h. k .1 (h .0, h .1 .above, h .1 .below));
-      }),
-      (low, bits low .0 end),
-    )
-clip-exact first last r Nothing e = λ b h.
-    empty-none (clip first last r) b (living-none (clip first last r) e) (clip-bits first last r b .1 (h .0, h .1 .above, h .1 .below))
+clip-exact first last r c = left-exact (clip first last r) c (clip-bits first last r) (clip-joins first last r)
+
+-- a run clipped at a first and a last bit that were read
+pub clip-read : {first last low high : ℤ} {s r : Run} → first ≡ low → last ≡ high → s ≡ r → clip first last s ≡ clip low high r
+clip-read f l p = cc
 
 -- what is left of a run that can be clipped is small
 pub clip-small : (first last : ℤ) {r : Run} → Clippable r → SmallExtent first last → T (not (empty (clip first last r))) → SmallRun (clip first last r)

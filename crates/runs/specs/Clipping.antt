@@ -6,7 +6,7 @@ use mathlib.Core.Option.{Option, none, some}
 use lib.IntN.{ℤ, pos, negℤ, _+ℤ_, _-ℤ_}
 use lib.Signed.{_≤ℤ_, _<ℤ_}
 use Rattle.model.specs.Limits.{addressRoom}
-use Rattle.model.specs.Runs.{Run, InRun, Joins, empty}
+use Rattle.model.specs.Runs.{Run, InRun, Joins, Between, empty}
 use Rattle.runs.specs.declared.Run.{Run as Held}
 use Rattle.runs.specs.declared.Clipped.{Clipped}
 use Rattle.runs.specs.declared.Clipped.the-variants.{Left, Nothing}
@@ -31,7 +31,7 @@ pub record Exactly (Bit : ℤ → Type 0) (Root : ℤ → ℤ → Type 0) (r : R
   pub bits : (b : ℤ) → InRun r b ↔ Bit b
   pub roots : (x b : ℤ) → Joins r x b ↔ Root x b
 
--- what is left has exactly these bits, of which there are some; or nothing is left, and there are none
+-- what is left has exactly these bits, each with exactly these root bits, and there are some; or nothing is left, and there are none
 abbrev pub ExactlyOrNone : (ℤ → Type 0) → (ℤ → ℤ → Type 0) → Clipped → Type 0
 ExactlyOrNone Bit Root (Left r) = Exactly Bit Root (runOf r) × ((b : ℤ) × Bit b)
 ExactlyOrNone Bit Root Nothing = (b : ℤ) → Bit b → ⊥
@@ -40,14 +40,9 @@ ExactlyOrNone Bit Root Nothing = (b : ℤ) → Bit b → ⊥
 abbrev pub Shifted : ℤ → Run → Run → Type 0
 Shifted o before = Exactly (λ b. InRun before (b +ℤ o)) (λ x b. Joins before x (b +ℤ o))
 
--- bit address b lies from `first` to `last`
-pub record Within (first last b : ℤ) : Type 0 where
-  pub above : first ≤ℤ b
-  pub below : b ≤ℤ last
-
 -- clipped at first and last: those bits of the run that lie there, each with its root bit, or nothing
 abbrev pub ClippedTo : ℤ → ℤ → Run → Clipped → Type 0
-ClippedTo first last before = ExactlyOrNone (λ b. InRun before b × Within first last b) (λ x b. Joins before x b × Within first last b)
+ClippedTo first last before = ExactlyOrNone (λ b. InRun before b × Between first last b) (λ x b. Joins before x b × Between first last b)
 
 -- ---- numbers of 64 bits
 

@@ -1,4 +1,4 @@
-// Runs of bit addresses, and the two operations of which the step over an edge is made: shift, then clip (000, 2.5.1).
+// Runs of bit addresses, and the two operations of which the step over an edge is made: bits are clipped after they are shifted (000, 2.5.1).
 ghost use mathlib.Core.Path.{_≡_};
 ghost use Rattle.model.specs.Runs.{shift, clip};
 ghost use Rattle.runs.specs.Clipping.{runOf, living, livingOf, SmallRun, SmallOffset, Clippable, SmallExtent, Shifted, ClippedTo};
@@ -33,9 +33,8 @@ pub fn shift(run: Run, offset: Bits) -> Run
     }
 }
 
-// Clip: those bits that lie from `first` to `last`, each with its root bit, or nothing: from the higher of the low ends to the lower of the high ends (000, 2.17 and
-// 2.18). Bits are cut at the low end where `first` lies above it (2.15), and at the high end where `last` lies below it (2.16). A run that has no bit left is found
-// before its root bit is computed: the sum might not fit.
+// Clip: those bits that lie from `first` to `last`, each with its root bit, or nothing. Bits are cut at the low end where `first` lies above it (000, 2.15), and at the
+// high end where `last` lies below it (2.16). A run that has no bit left is found before its root bit is computed: the sum might not fit.
 pub fn clip(run: Run, first: Bits, last: Bits) -> Clipped
     requires { ⌜ Clippable (runOf run) × SmallExtent (first .0) (last .0) ⌝ }
     ensures { λ r. ⌜ livingOf r ≡ living (clip (first .0) (last .0) (runOf run)) ⌝ }

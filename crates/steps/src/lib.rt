@@ -1,4 +1,4 @@
-// The step over an edge in the order of 000, 2.5.1: shift by the bit offset, then clip at the node entered.
+// The step over an edge in the order of 000, 2.5.1: bits are clipped after they are shifted.
 ghost use mathlib.Core.Path.{_≡_};
 ghost use Prim.Native.Nat.{_+_, _*_, _≤_};
 ghost use lib.ListN.{length};
@@ -14,7 +14,8 @@ use runs::Run;
 use runs::clip;
 use runs::shift;
 
-// The step over edge e: the run shifted by the bit offset, then clipped at the node entered, by its first and last bit.
+// The step over edge e: the run shifted by the bit offset, then clipped at the node entered, by its first and last bit (000, 2.17 and 2.18). Any run within its node is
+// one with bits and root bits below 2^62, which is what is asked.
 pub fn step(nodes: &[i64], edges: &[i64], e: usize, run: Run) -> Clipped
     requires { ⌜ TakenTables (now nodes) (now edges) × (edgeWidth * e + edgeWidth ≤ length (now edges)) × SmallRun (runOf run) ⌝ }
     ensures { λ r. ⌜ livingOf r ≡ living (across (graphOf (now (nodes .entry)) (now (edges .entry))) (edgeAt (now (edges .entry)) e) (runOf run)) ⌝ }

@@ -11,14 +11,14 @@ use borrow.Fn.PlainCycle.{Measures, is, falls, and}
 use lib.IntN.{ℤ, pos, natAbs}
 use lib.ListN.{length}
 use Rattle.model.specs.Rows.{edgeRows}
-use Rattle.model.specs.Graph.{graphOf, NodeRow, node}
+use Rattle.model.specs.Graph.{graphOf, NodeRow, node, bitOffset}
 use Rattle.model.specs.Runs.{whole}
 use Rattle.runs.specs.Clipping.{runOf}
 use Rattle.tables.proofs.Rows.{edges-length}
 use Rattle.tables.specs.Tables.{edgeAt}
 use Rattle.extents.proofs.Rows.{node-good}
 use Rattle.model.specs.Limits.{edgeWidth}
-use Rattle.references.specs.References.{Reference, referenceOf, broughtOf, stepped, takenOf, isNone}
+use Rattle.references.specs.References.{Reference, referenceOf, broughtOf, through, isNone}
 use Rattle.references.specs.declared.Reference.{Reference as Held}
 use Rattle.references.specs.declared.Brought.the-variants.{Left}
 use Rattle.references.proofs.Bringing.{none-brings}
@@ -182,7 +182,7 @@ module _ (t : ℕ) where
       let i = c .before in
       let l = i .before in
       let s = l .before .before .before .before .before .before .before in
-      (turn-crossable (s .pre .1) (other l) (l .loop .inv) (within i), s .pre .1 .inOwner .small)
+      turn-crossable (s .pre .1) (other l) (l .loop .inv) (within i)
 
   enum-known-brought : lts.Need-enum-known-brought (claims t) (at t) reads.Post Inv-loop μ-loop
   enum-known-brought c = search needs
@@ -193,7 +193,7 @@ module _ (t : ℕ) where
       let s = l .before .before .before .before .before .before .before in
       let g = graphOf (s .args .nodes .now) (s .args .edges .now) in
       let e = edgeAt (s .args .edges .now) (l .loop .e) in
-      let part = takenOf (referenceOf (s .args .f)) (stepped g e (referenceAt (l .loop .state) (natAbs (e .from)))) in
+      let part = through (bitOffset g e) (referenceOf (s .args .f)) (referenceAt (l .loop .state) (natAbs (e .from))) in
       (isMet (l .loop .state) (natAbs (e .from)) ≡ true) × T (not (isNone part)) × (referenceOf h ≡ part)
   brought x {h} q =
       let l = x .before .before .before in
@@ -251,7 +251,7 @@ module _ (t : ℕ) where
             rw (w .6, w .7) (turn-part k (other l) (l .loop .inv) (within i) (p .0) (p .1) (rw (← p .2) (w .4 .ensures)))
         | inr w ↦
             rw (w .2, w .3) (turn-nothing k (other l) (l .loop .inv) (within i)
-            (λ y b m z. none-brings g (rootIn (s .args .state .now)) (takenOf f (stepped g e (referenceAt (l .loop .state) (natAbs (e .from))))) y b
+            (λ y b m z. none-brings g (rootIn (s .args .state .now)) (through (bitOffset g e) f (referenceAt (l .loop .state) (natAbs (e .from)))) y b
             (crossing-nothing g e f (l .loop .state) (sym (ap broughtOf (w .1 .given .1)) ∙ x .brought-over .ensures) m) z))
       ])
 

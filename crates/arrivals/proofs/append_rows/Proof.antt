@@ -10,7 +10,7 @@ use lib.ListN.{length}
 use Rattle.integers.proofs.Linear.{ints}
 use Rattle.model.specs.Graph.{graphOf, node, firstBit}
 use Rattle.model.specs.Runs.{Run, whole}
-use Rattle.references.specs.References.{Reference, referenceOf, shifted}
+use Rattle.references.specs.References.{referenceOf, shifted}
 use Rattle.arrivals.specs.State.{markWidth, isMet}
 use Rattle.arrivals.proofs.Agreeing.{row-few}
 use Rattle.arrivals.proofs.LeafRows.{leafPart, leaf-good, first-small, leaf-unmet, part-movable, part-gatherable, part-appended}

@@ -10,9 +10,9 @@ use Rattle.extents.proofs.Rows.{node-good}
 use Rattle.references.specs.References.{referenceOf, own, broughtOf}
 use Rattle.arrivals.specs.State.{isMet}
 use Rattle.arrivals.specs.Sweep.{Sweeping}
-use Rattle.arrivals.specs.Moves.{arriving}
+use Rattle.arrivals.specs.Moves.{crossing}
 use Rattle.arrivals.proofs.Agreeing.{row-few}
-use Rattle.arrivals.proofs.Passing.{nextEdge, next-from, next-to, next-readable, from-read, to-read, next-crossable, arriving-read, next-ownable}
+use Rattle.arrivals.proofs.Passing.{nextEdge, next-from, next-to, next-readable, from-read, to-read, next-crossable, crossing-read, next-ownable}
 use Rattle.arrivals.proofs.Passing.{brought-lying, sweeping-unmet, sweeping-nothing, sweeping-met, meeting-root}
 use Rattle.arrivals.proofs.pass_edge.Statement.{statement}
 use Rattle.arrivals.proofs.pass_edge.Tie as tie
@@ -45,17 +45,19 @@ enters k =
     to-read (s .pre .sweeping) (s .pre .there) (p .planned-row .ensures) (k .edge-to .ensures)
 
 -- what the code says comes over the edge
-came : (k : tie.After-arriving-over)
-    → let l = k .before .before .before .before .before in
+came : (k : tie.After-brought-over)
+    → let l = k .before .before .before .before .before .before in
     let s = l .before .before .before .before .before .before .before .before .before in
     let g = graphOf (s .args .nodes .now) (s .args .edges .now) in
     let e = nextEdge (s .args .edges .now) (s .args .plan .now) (s .args .i) in
-    arriving g e (l .store-list .last .1 .1 .1 .1 .0) ≡ broughtOf (k .arriving-over .result)
+    crossing g e (own g (e .to)) (l .store-list .last .1 .1 .1 .1 .0) ≡ broughtOf (k .brought-over .result)
 came k =
-    let l = k .before .before .before .before .before in
+    let o = k .before .before in
+    let t = o .before in
+    let l = t .before .before .before in
     let p = l .before .before .before .before .before .before .before in
     let s = p .before .before in
-    arriving-read (swept l) (s .pre .there) (p .planned-row .ensures) (k .arriving-over .ensures)
+    crossing-read (swept l) (s .pre .there) (p .planned-row .ensures) (enters t) (o .own-reference .ensures (s .args .edges .now)) (k .brought-over .ensures)
 
 edge-from-requires : tie.Need-edge-from-requires
 edge-from-requires c κs =
@@ -93,16 +95,24 @@ edge-to-requires c κs =
     let r = next-readable (s .pre .sweeping) (s .pre .there) (p .planned-row .ensures) in
     (r .0, r .2)
 
-arriving-over-requires : tie.Need-arriving-over-requires
-arriving-over-requires c κs =
-    let l = c .before .before .before .before in
+own-reference-requires : tie.Need-own-reference-requires
+own-reference-requires c κs =
+    let s = c .before .before .before .before .before .before .before .before .before .before .before .before in
+    node-good (s .pre .sweeping .tables) (next-to (s .pre .sweeping) (s .pre .there) (enters c))
+
+brought-over-requires : tie.Need-brought-over-requires
+brought-over-requires c κs =
+    let o = c .before in
+    let t = o .before in
+    let l = t .before .before .before in
     let p = l .before .before .before .before .before .before .before in
-    next-crossable (swept l) (p .before .before .pre .there) (p .planned-row .ensures)
+    let s = p .before .before in
+    next-crossable (swept l) (s .pre .there) (p .planned-row .ensures) (enters t) (o .own-reference .ensures (s .args .edges .now))
 
 meet-requires : tie.Need-meet-requires
 meet-requires c κs =
     let b = c .before .before in
-    let t = b .before .before .before .before in
+    let t = b .before .before .before .before .before in
     let l = t .before .before .before in
     let e = l .before .before .before .before .before .before in
     let there = e .before .before .before .pre .there in
@@ -118,7 +128,7 @@ returns-2 : tie.Need-returns-2
 returns-2 c =
     let m = c .before in
     let b = m .before .before .before in
-    let t = b .before .before .before .before in
+    let t = b .before .before .before .before .before in
     let l = t .before .before .before in
     let e = l .before .before .before .before .before .before in
     let s = e .before .before .before in
@@ -137,7 +147,7 @@ returns-2 c =
 returns-3 : tie.Need-returns-3
 returns-3 c =
     let x = c .before .before in
-    let l = x .before .before .before .before .before in
+    let l = x .before .before .before .before .before .before in
     let e = l .before .before .before .before .before .before in (
       sweeping-nothing (swept l) (e .before .before .before .pre .there) (e .edge-from .result) (leaves e) (l .store-list .ensures .met)
           (came x ∙ ap broughtOf (c .enum-told .given .1)),
@@ -155,7 +165,8 @@ pass-edge-spec =
     returns
     store-list-requires
     edge-to-requires
-    arriving-over-requires
+    own-reference-requires
+    brought-over-requires
     (λ c. search needs)
     meet-requires
     (λ c. search needs)

@@ -8,8 +8,8 @@ use Rattle.normalisation.specs.Merging.{byDisplacement, ofDisplacement}
 use Rattle.listing.proofs.Appending.{append-none}
 use Rattle.runs.specs.Clipping.{runOf, living, SmallRun}
 use Rattle.runs.proofs.Runs.{living-none, living-some, left-living, nothing-living}
-use Rattle.references.specs.References.{referenceOf, taken, recordRun, runRecord, cutRun, SmallRecord}
-use Rattle.references.proofs.Bringing.{taken-small}
+use Rattle.references.specs.References.{referenceOf, narrowed, recordRun, runRecord, cutRun, SmallRecord}
+use Rattle.references.proofs.Bringing.{narrowed-small}
 use Rattle.references.proofs.Cutting.{record-run-small, cut-none, cut-left}
 use Rattle.references.proofs.append_cut.Statement.{statement}
 use Rattle.references.proofs.append_cut.Tie as tie
@@ -21,29 +21,29 @@ record-run-requires c κs = subst (λ (r : Row). SmallRecord (ofDisplacement r))
 read : (c : tie.After-record-run) → let a = c .before .before .before .args in runOf (c .record-run .result) ≡ recordRun (ofDisplacement (rowAt (a .state .now) (a .p)))
 read c = c .record-run .ensures ∙ ap (λ (r : Row). recordRun (ofDisplacement r)) (c .before .row-at .ensures)
 
-taken-requires : tie.Need-taken-requires
-taken-requires c κs = let s = c .before .before .before in (s .pre .2, subst SmallRun (sym (read c)) (record-run-small (s .pre .3)))
+narrowed-requires : tie.Need-narrowed-requires
+narrowed-requires c κs = let s = c .before .before .before in (s .pre .2, subst SmallRun (sym (read c)) (record-run-small (s .pre .3)))
 
 -- what is left, as the definition has it
-cut : (c : tie.After-taken) → let a = c .before .before .before .before .args in
-    living (taken (runOf (a .f .run)) (runOf (c .before .record-run .result))) ≡ living (cutRun (referenceOf (a .f)) (ofDisplacement (rowAt (a .state .now) (a .p))))
-cut c = ap (λ r. living (taken (runOf (c .before .before .before .before .args .f .run)) r)) (read (c .before))
+cut : (c : tie.After-narrowed) → let a = c .before .before .before .before .args in
+    living (narrowed (runOf (a .f .run)) (runOf (c .before .record-run .result))) ≡ living (cutRun (referenceOf (a .f)) (ofDisplacement (rowAt (a .state .now) (a .p))))
+cut c = ap (λ r. living (narrowed (runOf (c .before .before .before .before .args .f .run)) r)) (read (c .before))
 
 -- where something is left
 left : (c : tie.After-append-row-arg) → let b = c .before .before in let a = b .before .before .before .before .before .before .args in
-    some (runOf (b .left .given .0 .0)) ≡ living (cutRun (referenceOf (a .f)) (ofDisplacement (rowAt (a .state .now) (a .p))))
+    some (runOf (b .cut .given .0 .0)) ≡ living (cutRun (referenceOf (a .f)) (ofDisplacement (rowAt (a .state .now) (a .p))))
 left c =
     let b = c .before .before in
     let t = b .before .before in
     let a = t .before .before .before .before .args in
-    left-living (cutRun (referenceOf (a .f)) (ofDisplacement (rowAt (a .state .now) (a .p)))) (b .left .given .1) (t .taken .ensures .0 ∙ cut t)
+    left-living (cutRun (referenceOf (a .f)) (ofDisplacement (rowAt (a .state .now) (a .p)))) (b .cut .given .1) (t .narrowed .ensures .0 ∙ cut t)
 
 run-record-requires : tie.Need-run-record-requires
 run-record-requires c κs =
     let s = c .before .before .before .before .before .before .before .before in
     let r = cutRun (referenceOf (s .args .f)) (ofDisplacement (rowAt (s .args .state .now) (s .args .p))) in
     let w = living-some r _ (left c) in
-    subst SmallRun (sym (w .0)) (taken-small (s .pre .2) (record-run-small (s .pre .3)) (w .1))
+    subst SmallRun (sym (w .0)) (narrowed-small (s .pre .2) (record-run-small (s .pre .3)) (w .1))
 
 returns : tie.Need-returns
 returns c =
@@ -62,7 +62,7 @@ returns-2 c =
     let s = t .before .before .before .before in
     let f = referenceOf (s .args .f) in
     let q = ofDisplacement (rowAt (s .args .state .now) (s .args .p)) in
-    let nothing = nothing-living (cutRun f q) (c .enum-told .given .1) (t .taken .ensures .0 ∙ cut t) in
+    let nothing = nothing-living (cutRun f q) (c .enum-told .given .1) (t .narrowed .ensures .0 ∙ cut t) in
     rw (cut-none f q (living-none (cutRun f q) nothing)) (append-none (s .args .state .now) (s .args .n))
 
 pub append-cut-spec : {M : Type 1} → statement M
@@ -71,7 +71,7 @@ append-cut-spec =
     (tie.spec
     (λ c κs. search needs)
     record-run-requires
-    taken-requires
+    narrowed-requires
     (λ c. search needs)
     run-record-requires
     (λ c κs. search needs)

@@ -3,8 +3,8 @@
 use mathlib.Core.Path.{sym, subst}
 use borrow.Author.Needs.{needs}
 use Rattle.runs.specs.Clipping.{Clippable, SmallOffset}
-use Rattle.runs.proofs.Runs.{shift-clippable}
-use Rattle.steps.proofs.Steps.{shift-read, step-returns}
+use Rattle.runs.proofs.Runs.{shift-read, shift-clippable}
+use Rattle.steps.proofs.Steps.{step-returns}
 use Rattle.extents.proofs.Rows.{to-small, edge-small}
 use Rattle.steps.proofs.step.Statement.{statement}
 use Rattle.steps.proofs.step.Tie as tie

@@ -3,15 +3,14 @@
 use mathlib.Core.Path.{sym, subst}
 use borrow.Author.Needs.{needs}
 use Rattle.runs.specs.Clipping.{Clippable, SmallOffset}
-use Rattle.runs.proofs.Runs.{shift-clippable}
-use Rattle.steps.proofs.Steps.{shift-read}
-use Rattle.references.proofs.Bringing.{part-offset, taken-returns}
+use Rattle.runs.proofs.Runs.{shift-read, shift-clippable}
+use Rattle.references.proofs.Bringing.{part-offset, narrowed-returns}
 use Rattle.references.proofs.Numbers.{root-movable}
-use Rattle.references.proofs.taken.Statement.{statement}
-use Rattle.references.proofs.taken.Tie as tie
+use Rattle.references.proofs.narrowed.Statement.{statement}
+use Rattle.references.proofs.narrowed.Tie as tie
 
 returns : tie.Need-returns
-returns c = taken-returns _ _ (c .clip .result) _ _ _ (c .clip .ensures .0) (search needs) (search needs) (search (needs, shift-read))
+returns c = narrowed-returns _ _ (c .clip .result) _ _ _ (c .clip .ensures .0) (search needs) (search needs) (search (needs, shift-read))
 
 less-requires : tie.Need-less-requires
 less-requires c κs = root-movable (c .before .before .before .pre .0)
@@ -29,5 +28,5 @@ clip-requires c κs =
       record { low = s .pre .0 .low; high = s .pre .0 .high },
     )
 
-pub taken-spec : {M : Type 1} → statement M
-taken-spec = tie.close (tie.spec less-requires shift-requires clip-requires returns)
+pub narrowed-spec : {M : Type 1} → statement M
+narrowed-spec = tie.close (tie.spec less-requires shift-requires clip-requires returns)

@@ -22,9 +22,9 @@ pub fn step(nodes: &[i64], edges: &[i64], e: usize, run: Run) -> Clipped
     ensures { λ r. ⌜ Stepped (graphOf (now (nodes .entry)) (now (edges .entry))) (edgeAt (now (edges .entry)) e) (runOf run) r ⌝ }
 {
     let offset = extents::offset_of(nodes, edges, e);
+    let shifted = shift(run, offset);
     let entered = extents::entered_extent(nodes, edges, e);
     let first = entered.first;
     let last = entered.last;
-    let shifted = shift(run, offset);
     clip(shifted, first, last)
 }

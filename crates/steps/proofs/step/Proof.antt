@@ -15,22 +15,23 @@ returns c = step-returns _ _ _ (c .clip .result) _ _ _ (c .clip .ensures .0) (se
 offset-of-requires : tie.Need-offset-of-requires
 offset-of-requires c κs = (c .pre .0, c .pre .1)
 
-entered-extent-requires : tie.Need-entered-extent-requires
-entered-extent-requires c κs = (c .before .pre .0, c .before .pre .1)
-
 small : (c : tie.After-offset-of) → SmallOffset (c .offset-of .result .0)
 small c = let s = c .before in edge-small (s .pre .0) (s .args .e) (s .pre .1) (c .offset-of .ensures)
 
 shift-requires : tie.Need-shift-requires
-shift-requires c κs = let o = c .before .before .before in (o .before .pre .2, small o)
+shift-requires c κs = (c .before .pre .2, small c)
+
+entered-extent-requires : tie.Need-entered-extent-requires
+entered-extent-requires c κs = let s = c .before .before in (s .pre .0, s .pre .1)
 
 clip-requires : tie.Need-clip-requires
 clip-requires c κs =
-    let x = c .before .before .before in
-    let s = x .before .before in (
-      subst Clippable (sym (c .shift .ensures .0)) (shift-clippable (s .pre .2) (small (x .before))),
+    let x = c .before .before in
+    let m = x .before in
+    let s = m .before .before in (
+      subst Clippable (sym (m .shift .ensures .0)) (shift-clippable (s .pre .2) (small (m .before))),
       to-small (s .pre .0) (s .args .e) (s .pre .1) (x .entered-extent .ensures),
     )
 
 pub step-spec : {M : Type 1} → statement M
-step-spec = tie.close (tie.spec offset-of-requires entered-extent-requires shift-requires clip-requires returns)
+step-spec = tie.close (tie.spec offset-of-requires shift-requires entered-extent-requires clip-requires returns)

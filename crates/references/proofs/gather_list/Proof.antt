@@ -1,8 +1,10 @@
 -- The invariant is `Gathering`; the measure is what is left of the records whose displacements reach. The reference has nothing of the others.
+use mathlib.Core.Path.{subst}
 use Prim.Native.Nat.{_-_, _<_}
 use native.Mathlib.Omega.{arith}
 use borrow.Author.Needs.{needs}
-use Rattle.references.specs.References.{referenceOf}
+use lib.IntN.{ℤ}
+use Rattle.references.specs.References.{referenceOf, Parted}
 use Rattle.references.proofs.Gathering.{Gathering, gathering-length, gathering-within, gathering-before, gathering-room, gathering-next}
 use Rattle.references.proofs.Searching.{gathering-from, gathering-upto}
 use Rattle.references.proofs.gather_list.Statement.{statement}
@@ -68,7 +70,10 @@ returns : tie.Need-returns Inv-loop μ-loop
 returns c =
     let l = c .before in
     let b = l .before .before .before in
-    gathering-upto (start l .pre) (l .loop .inv) (rw (b .before .before .reaching .ensures .1) at (b .rows-below .ensures)) (c .loop-test .left)
+    let s = start l .args in
+    let end = b .rows-below .result in
+    gathering-upto (start l .pre) (l .loop .inv)
+    (subst (λ (d : ℤ). Parted (s .state .now) (s .row) (s .count) d end end) (b .before .before .reaching .ensures .1) (b .rows-below .ensures)) (c .loop-test .left)
 
 pub gather-list-spec : {M : Type 1} → statement M
 gather-list-spec =

@@ -136,16 +136,21 @@ own-brings g r v x b = (
 
 -- ---- where references lie
 
--- the bit addresses of the owner that the bits of a reference stand for are bits of the owner
-pub lying-stands : {g : Graph} {f : Reference} → InOwner g f → (y b : ℤ) → Joins (f .run) y b → StandsOn (node g (f .owner)) y
-lying-stands {g} {f} l y b j =
-    let r = f .run in
+-- the bit addresses of the owner that a run joins lie from its first to its last root bit
+pub joins-roots : (r : Run) {y b : ℤ} → Joins r y b → (r .root ≤ℤ y) × (y ≤ℤ lastRoot r)
+joins-roots r {y} {b} j =
     let size = diff (r .high) (r .low) in
     let end = sum (r .root) (r .high -ℤ r .low) in
     let over = diff y (r .root) in
     let under = diff b (r .low) in
     let level = j .level in
-    record { above = omega (arith, ints, l .above, j .inside .above); below = omega (arith, ints, l .below, j .inside .below) }
+    (omega (arith, ints, j .inside .above), omega (arith, ints, j .inside .below))
+
+-- so those that the bits of a reference stand for are bits of the owner
+pub lying-stands : {g : Graph} {f : Reference} → InOwner g f → (y b : ℤ) → Joins (f .run) y b → StandsOn (node g (f .owner)) y
+lying-stands {f = f} l y b j =
+    let roots = joins-roots (f .run) j in
+    record { above = omega (arith, ints, l .above, roots .0); below = omega (arith, ints, l .below, roots .1) }
 
 -- all that arrives at a node lies there
 pub own-lying : {ns es : List ℤ} {v : ℤ} → TakenTables ns es → NodeRow (graphOf ns es) v → InOwner (graphOf ns es) (own (graphOf ns es) v)

@@ -6,10 +6,10 @@ use Prim.Native.Nat.{ℕ, _+_, _-_, _≤_, _<_, _*_}
 use native.Mathlib.Nat.{zero-add}
 use native.Mathlib.Omega.{arith}
 use lib.Dec.{T}
-use lib.IntN.{ℤ, pos, _+ℤ_, _-ℤ_}
+use lib.IntN.{ℤ, pos, _-ℤ_}
 use lib.Signed.{_≤ℤ_, _<ℤ_}
 use lib.ListN.{drop}
-use Rattle.integers.proofs.Linear.{ints, sum, diff}
+use Rattle.integers.proofs.Linear.{ints, diff}
 use Rattle.integers.proofs.Tests.{test?, of-test}
 use Rattle.lists.specs.Lists.{_∈_}
 use Rattle.model.specs.Bitmapping.{Record, Has}
@@ -23,7 +23,8 @@ use Rattle.sorting.proofs.Tables.{rowsOf-add, rowsFrom-more}
 use Rattle.normalisation.specs.Merging.{byDisplacement}
 use Rattle.normalisation.proofs.Sorted.{rows-back}
 use Rattle.listing.specs.Listing.{Appended}
-use Rattle.references.specs.References.{Reference, recordsAt, cutRun, cutRow, cutRows, leastOf, pastOf, Parted, Cuttable}
+use Rattle.references.specs.References.{Reference, lastRoot, recordsAt, cutRun, cutRow, cutRows, leastOf, pastOf, Parted, Cuttable}
+use Rattle.references.proofs.Bringing.{joins-roots}
 use Rattle.references.proofs.Cutting.{run-record-joins, cut-has, cut-none}
 use Rattle.references.proofs.Gathering.{recordAt, row-behind, row-in, recordAt-in, Gathering, gathering-start, gathering-end, gathering-skip}
 
@@ -93,13 +94,25 @@ parted-start t row count d =
 -- ---- displacements that do not reach
 
 module _ (f : Reference) (q : Record) {first last : ℤ} (inside : (first ≤ℤ q .first) × (q .last ≤ℤ last)) where
-  -- where the record has no root bit with a bit address of the owner that the reference joins to another, the reference has nothing of it
-  cut-unless : ((x b y : ℤ) → Has q x y → Joins (f .run) y b → ⊥) → cutRow f q ≡ []
+  -- a bit of the record that the reference takes: its displacement is that of a root bit from first to last and a bit address that the reference takes of the owner
+  cut-displacement : {x b y : ℤ} → Has q x y → Joins (f .run) y b → (leastOf f first ≤ℤ q .displacement) × (q .displacement <ℤ pastOf f last)
+  cut-displacement {x} {b} {y} k j =
+      let roots = joins-roots (f .run) j in
+      let end = lastRoot (f .run) in
+      let apart = k .apart in
+      let at = diff x y in
+      let before = diff (f .run .root) (pos 1) in (
+        omega (arith, ints, inside .0, k .above, roots .1, diff first end),
+        omega (arith, ints, inside .1, k .below, roots .0, diff last (f .run .root -ℤ pos 1)),
+      )
+
+  -- where there is no such bit, the reference has nothing of the record
+  cut-unless : ((leastOf f first ≤ℤ q .displacement) × (q .displacement <ℤ pastOf f last) → ⊥) → cutRow f q ≡ []
   cut-unless none =
       cut-none f q
       (of-test (test? (empty r)) (λ t.
-      let (y, h, j) = cut-has f q (r .root) (r .low) .0 (run-record-joins r (r .root) (r .low) .1 (start t)) in
-      none (r .root) (r .low) y h j))
+      let (y, k, j) = cut-has f q (r .root) (r .low) .0 (run-record-joins r (r .root) (r .low) .1 (start t)) in
+      none (cut-displacement k j)))
     where
       r : Run
       r = cutRun f q
@@ -111,49 +124,13 @@ module _ (f : Reference) (q : Record) {first last : ℤ} (inside : (first ≤ℤ
             level = omega (arith, ints, diff (r .root) (r .root), diff (r .low) (r .low));
           }
 
-  -- of a record whose displacement is below the least the reference has nothing
+  -- so it has nothing of one whose displacement is below the least
   pub cut-before : q .displacement <ℤ leastOf f first → cutRow f q ≡ []
-  cut-before h =
-      cut-unless (λ x b y k j.
-      let p = f .run in
-      let end = p .root +ℤ (p .high -ℤ p .low) in
-      let level = j .level in
-      let apart = k .apart in
-      omega (
-        arith,
-        ints,
-        h,
-        inside .0,
-        k .above,
-        j .inside .below,
-        diff x y,
-        diff y (p .root),
-        diff b (p .low),
-        diff (p .high) (p .low),
-        sum (p .root) (p .high -ℤ p .low),
-        diff first end,
-      ))
+  cut-before h = cut-unless (λ k. omega (arith, ints, h, k .0))
 
   -- nor of one whose displacement is past all of them
   pub cut-past : pastOf f last ≤ℤ q .displacement → cutRow f q ≡ []
-  cut-past h =
-      cut-unless (λ x b y k j.
-      let p = f .run in
-      let level = j .level in
-      let apart = k .apart in
-      omega (
-        arith,
-        ints,
-        h,
-        inside .1,
-        k .below,
-        j .inside .above,
-        diff x y,
-        diff y (p .root),
-        diff b (p .low),
-        diff (p .root) (pos 1),
-        diff last (p .root -ℤ pos 1),
-      ))
+  cut-past h = cut-unless (λ k. omega (arith, ints, h, k .1))
 
 -- ---- a list gathered
 

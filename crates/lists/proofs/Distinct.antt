@@ -94,17 +94,20 @@ module _ {A : Type 0} where
       more (λ m. ⊎-elim new (apart x (List·Memᴰ·head refl)) (List·Memᴰ·append-cases l m)) (append-distinct c d (λ y m. apart y (List·Memᴰ·tail m)))
 
 module _ {A B : Type 0} where
-  -- the images of a list without repetition, where the function takes no two elements to one
-  pub map-distinct : (f : A → B) → ((x y : A) → f x ≡ f y → x ≡ y) → {l : List A} → Distinct l → Distinct (map f l)
+  -- the images of a list without repetition, where the function takes no two elements of it to one
+  pub map-distinct : (f : A → B) {l : List A} → ((x y : A) → x ∈ l → y ∈ l → f x ≡ f y → x ≡ y) → Distinct l → Distinct (map f l)
   map-distinct f once none = none
   map-distinct f once (more {x} {l} new d) =
-      more (λ m. let w = map-out f l m in new (Memᴰ·cast (once x (w .0) (w .2)) (w .1))) (map-distinct f once d)
+      more (λ m. let w = map-out f l m in new (Memᴰ·cast (once x (w .0) (List·Memᴰ·head refl) (List·Memᴰ·tail (w .1)) (w .2)) (w .1)))
+      (map-distinct f (λ y z m n. once y z (List·Memᴰ·tail m) (List·Memᴰ·tail n)) d)
 
   -- the lists of a list without repetition, where each is without repetition and no two of them share an element
-  pub flatMap-distinct : (f : A → List B) → ((x : A) → Distinct (f x)) → ((x z : A) (y : B) → y ∈ f x → y ∈ f z → x ≡ z)
-      → {l : List A} → Distinct l → Distinct (flatMap f l)
+  pub flatMap-distinct : (f : A → List B) → ((x : A) → Distinct (f x)) → {l : List A}
+      → ((x z : A) → x ∈ l → z ∈ l → (y : B) → y ∈ f x → y ∈ f z → x ≡ z) → Distinct l → Distinct (flatMap f l)
   unfolding flatMap
   flatMap-distinct f each apart none = none
   flatMap-distinct f each apart (more {x} {l} new d) =
-      append-distinct (each x) (flatMap-distinct f each apart d)
-      (λ y m n. let w = flatMap-out f l n in new (Memᴰ·cast (apart x (w .0) y m (w .2)) (w .1)))
+      append-distinct (each x) (flatMap-distinct f each (λ y z m n. apart y z (List·Memᴰ·tail m) (List·Memᴰ·tail n)) d)
+      (λ y m n.
+      let w = flatMap-out f l n in
+      new (Memᴰ·cast (apart x (w .0) (List·Memᴰ·head refl) (List·Memᴰ·tail (w .1)) y m (w .2)) (w .1)))

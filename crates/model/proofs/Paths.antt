@@ -134,7 +134,7 @@ within-distinct (suc k) g v l d = cond-distinct (eqZ v l) (more List·Memᴰ·no
 
     onward-distinct : ((w : ℤ) → Distinct (pathsWithin k g w l)) → Distinct (flatMap (onward k g l) (leaving g v))
     onward-distinct rec =
-        flatMap-distinct (onward k g l) (λ e. map-distinct (λ p. e ∷ p) (λ p q h. cc) (rec (e .to))) apart (keep-distinct (λ e. eqZ (e .from) v) d)
+        flatMap-distinct (onward k g l) (λ e. map-distinct (λ p. e ∷ p) (λ p q i j h. cc) (rec (e .to))) (λ e f i j. apart e f) (keep-distinct (λ e. eqZ (e .from) v) d)
 
 -- each path is listed once
 pub paths-distinct : (g : Graph) (r l : ℤ) → Distinct (g .edges) → Distinct (paths g r l)
@@ -157,7 +157,7 @@ many-paths {g} {r} {ls} f once d = (
   λ h. record {
     paths = flatMap (paths g r) ls;
     many = h;
-    distinct = flatMap-distinct (paths g r) (λ l. paths-distinct g r l d) (λ l m p i j. way-end (paths-sound i) (paths-sound j)) once;
+    distinct = flatMap-distinct (paths g r) (λ l. paths-distinct g r l d) (λ l m a b p i j. way-end (paths-sound i) (paths-sound j)) once;
     each = λ p n. let (l, i, k) = flatMap-out (paths g r) ls n in (l, i, paths-sound k);
   },
 )

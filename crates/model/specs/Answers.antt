@@ -42,6 +42,7 @@ refusalOf reason.NoCaller = numbered 15 7 0
 refusalOf (reason.At t r) = numbered 16 t r
 refusalOf (reason.SheetRange l) = numbered 17 6 l
 refusalOf (reason.OtherSize l) = numbered 18 6 l
+refusalOf reason.LongBatch = numbered 19 7 0
 
 -- verdict 0 equal, 1 partial, 2 different
 abbrev pub verdictNumber : Verdict → ℕ

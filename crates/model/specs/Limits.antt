@@ -55,6 +55,14 @@ maxChain = 64
 abbrev pub maxPaths : ℕ
 maxPaths = 1024
 
+-- addresses of a batch at most
+abbrev pub maxBatch : ℕ
+maxBatch = 512
+
+-- numbers of a row of a batch
+abbrev pub batchWidth : ℕ
+batchWidth = 2
+
 -- bytes of a text at most
 abbrev pub maxText : ℕ
 maxText = 65536

@@ -31,6 +31,11 @@ pub const MAX_PATHS: usize = 1024;
 // Numbers of a list at most: RECORD_WIDTH for each of MAX_PATHS records.
 pub const MAX_NUMBERS: usize = 3072;
 
+// Addresses of a batch at most, and numbers of a row of its output.
+pub const MAX_BATCH: usize = 512;
+
+pub const BATCH_WIDTH: usize = 2;
+
 // Base + range of a node, and the size of an offset, in address units, at most: 2^48.
 pub const MAX_UNITS: i64 = 281474976710656;
 
@@ -187,6 +192,7 @@ pub enum Reason {
     At { table: usize, row: usize },
     SheetRange { line: usize },
     OtherSize { line: usize },
+    LongBatch,
 }
 
 // The verdict on a pair, or on two graphs.
@@ -245,5 +251,17 @@ pub struct SheetSizes {
 // The answer of the call that reads a sheet.
 pub enum SheetRead {
     Tables(SheetSizes),
+    Refused(Reason),
+}
+
+// How many rows a batch of addresses gives, and how many records of the list were read for them.
+pub struct BatchCounts {
+    pub rows: usize,
+    pub records: usize,
+}
+
+// The answer of the call that walks many addresses together.
+pub enum Batched {
+    Counts(BatchCounts),
     Refused(Reason),
 }

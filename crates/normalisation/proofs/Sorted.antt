@@ -129,7 +129,7 @@ by-displacement-unique {l} {m} c d same =
     (λ z. (over l m (λ s. same s .0), over m l (λ s. same s .1))))
   where
     once : {k : List Record} → Distinct k → Distinct (sorted (map byDisplacement k))
-    once d = sorted-distinct (map-distinct byDisplacement (λ x y e. ap ofDisplacement e) d)
+    once d = sorted-distinct (map-distinct byDisplacement (λ x y i j e. ap ofDisplacement e) d)
 
     over : {z : Row} (k n : List Record) → ((s : Record) → s ∈ k → s ∈ n) → z ∈ sorted (map byDisplacement k) → z ∈ sorted (map byDisplacement n)
     over k n f p =
@@ -188,11 +188,11 @@ ascending-ordered (rows.more {x} {l} h a) (lists.more new d) u =
 pub by-first-distinct : {l : List Record} → Distinct l → Distinct (sortedByFirst l)
 unfolding sortedByFirst
 by-first-distinct d =
-    map-distinct ofFirst (λ x y e. ap byFirst e) (sorted-distinct (map-distinct byFirst (λ x y e. ap ofFirst e) d))
+    map-distinct ofFirst (λ x y i j e. ap byFirst e) (sorted-distinct (map-distinct byFirst (λ x y i j e. ap ofFirst e) d))
 
 -- records sorted by first are in order, where none stands twice and no two begin alike
 pub by-first-ordered : {l : List Record} → Distinct l → ((r s : Record) → r ∈ l → s ∈ l → Aligned r s → r ≡ s) → Ordered (sortedByFirst l)
 unfolding sortedByFirst
 by-first-ordered {l} d u =
-    ascending-ordered (sorted-ascending (map byFirst l)) (sorted-distinct (map-distinct byFirst (λ x y e. ap ofFirst e) d))
+    ascending-ordered (sorted-ascending (map byFirst l)) (sorted-distinct (map-distinct byFirst (λ x y i j e. ap ofFirst e) d))
     (λ r s p q. u r s (rows-members byFirst ofFirst (λ t. refl) l .0 p) (rows-members byFirst ofFirst (λ t. refl) l .0 q))

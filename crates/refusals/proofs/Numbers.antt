@@ -3,7 +3,7 @@ use Prim.Native.Nat.{_≤_}
 use native.Mathlib.Omega.{arith}
 use Rattle.model.specs.Answers.{refusalOf}
 use Rattle.model.specs.declared.Reason.{Reason}
-use Rattle.model.specs.declared.Reason.the-variants.{Shape, Node, Edge, FromBlock, Cycle, LongChain, NotRootOrLeaf, PairedBefore, NoPair, ManyPaths, LongOutput, Characters, Names, Values, NoCaller, At, SheetRange, OtherSize}
+use Rattle.model.specs.declared.Reason.the-variants.{Shape, Node, Edge, FromBlock, Cycle, LongChain, NotRootOrLeaf, PairedBefore, NoPair, ManyPaths, LongOutput, Characters, Names, Values, NoCaller, At, SheetRange, OtherSize, LongBatch}
 use Rattle.refusals.specs.Small.{lastNumber}
 
 -- none is higher than the last
@@ -26,3 +26,4 @@ number-few NoCaller = omega arith
 number-few (At t r) = omega arith
 number-few (SheetRange l) = omega arith
 number-few (OtherSize l) = omega arith
+number-few LongBatch = omega arith

@@ -13,7 +13,7 @@ refusalNumbers r = record { number = r .number; table = r .table; row = r .row }
 
 -- the highest number of a refusal, and of one that the text check gives
 abbrev pub lastNumber : ℕ
-lastNumber = 18
+lastNumber = 19
 
 abbrev pub lastOfText : ℕ
 lastOfText = 16

@@ -60,6 +60,7 @@ pub fn refusal_numbers(reason: Reason) -> Refusal
         Reason::At { table, row } => numbered(16, table, row),
         Reason::SheetRange { line } => numbered(17, TEXT, line),
         Reason::OtherSize { line } => numbered(18, TEXT, line),
+        Reason::LongBatch => numbered(19, OUTPUT, 0),
     }
 }
 

@@ -64,10 +64,15 @@ returns-17 c = by-case (c .numbered17 .ensures) (c .before .before .reason15 .gi
 returns-18 : tie.Need-returns-18
 returns-18 c = by-case (c .numbered18 .ensures) (c .before .before .reason16 .given .1)
 
+returns-19 : tie.Need-returns-19
+returns-19 c = by-case (c .numbered19 .ensures) (c .before .enum-told3 .given .1)
+
 pub refusal-numbers-spec : {M : Type 1} → statement M
 refusal-numbers-spec =
     tie.close
     (tie.spec
+    (λ c. search needs)
+    (λ c κs. search needs)
     (λ c. search needs)
     (λ c κs. search needs)
     (λ c. search needs)
@@ -121,4 +126,5 @@ refusal-numbers-spec =
     returns-15
     returns-16
     returns-17
-    returns-18)
+    returns-18
+    returns-19)

@@ -8,7 +8,6 @@ use borrow.Author.Tests.{lt-ltb, le-ltb}
 use lib.IntN.{ℤ, pos}
 use lib.ListN.{length, getD, take, drop, set, length-append, length-drop, length-take, length-map}
 use lib.Seq.{drop-cons, set-at, append-snoc, ext-getD, getD-take, length-take-le}
-use Rattle.model.specs.Bitmapping.{Record}
 use Rattle.model.specs.Checks.{when, checkOutput}
 use Rattle.model.specs.Calls.{answer, bufferAfter, numbersOf}
 use Rattle.model.specs.declared.Reason.the-variants.{LongOutput}
@@ -16,6 +15,7 @@ use Rattle.model.specs.declared.Written.{Written}
 use Rattle.model.specs.declared.Written.the-variants.{Count, Refused}
 use Rattle.reach.specs.Counting.{valuesOf}
 use Rattle.reach.proofs.Values.{values-length, values-at}
+use Rattle.normalisation.proofs.Normalising.{numbers-length}
 use Rattle.model.specs.Limits.{recordWidth}
 use Rattle.listing.specs.Listing.{bitRecord}
 use Rattle.bitmapping.specs.Checking.{spaced, Copied}
@@ -55,14 +55,8 @@ module _ (f : ℕ → ℤ) (n : ℕ) (old : List ℤ) where
 
 -- ---- which numbers
 
--- three numbers a record are written
-pub numbers-length : (records : List Record) → length (numbersOf records) ≡ recordWidth * length records
-unfolding numbersOf
-numbers-length [] = refl
-numbers-length (s ∷ records) = let h = numbers-length records in omega arith
-
 -- a list whose front is a list of n numbers has as many
-pub front-room : (from : List ℤ) {numbers : List ℤ} (n : ℕ) → length numbers ≡ n → take n from ≡ numbers → n ≤ length from
+front-room : (from : List ℤ) {numbers : List ℤ} (n : ℕ) → length numbers ≡ n → take n from ≡ numbers → n ≤ length from
 front-room from n e q = omega (arith, length-take n from, ap length q)
 
 -- each number of the front

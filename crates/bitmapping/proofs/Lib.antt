@@ -1,4 +1,2 @@
 pub mod Copying
-pub mod Answers
-pub mod Counts
 pub mod Promises

@@ -26,8 +26,9 @@ use Rattle.model.proofs.WalkCall as call
 use Rattle.tables.proofs.Checks.{checked}
 use Rattle.bitmapping.specs.Promises as promises
 use Rattle.bitmapping.specs.Promises.{ListStands, ListPromise, Ascending, more, WalkStands, WalkPromise}
-use Rattle.bitmapping.specs.Checking.{checkAsked, Copied}
-use Rattle.bitmapping.proofs.Answers.{asked-tables, asked-leaf, single-refused, single-passes, single-given}
+use Rattle.asked.specs.Asking.{checkAsked}
+use Rattle.bitmapping.specs.Checking.{Copied}
+use Rattle.asked.proofs.Answers.{asked-tables, asked-leaf, single-refused, single-passes, single-given}
 
 -- the length of the output, and the numbers of the records, of an answer
 answer-length : {A : Type 0} (c : Option Refusal) (out : List A) → lengthOf (answer c out) ≡ answer c (length out)

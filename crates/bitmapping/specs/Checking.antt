@@ -1,21 +1,14 @@
--- The refusals of list and walk, and what is copied into a lent buffer. Assumes nothing.
+-- What is copied into a lent buffer. Assumes nothing.
 use mathlib.Core.Path.{_≡_}
 use mathlib.Core.List.{List}
-use mathlib.Core.Option.{Option}
 use Prim.Native.Nat.{ℕ, _+_, _*_}
 use lib.IntN.{ℤ, pos}
 use lib.ListN.{length, getD}
-use Rattle.model.specs.Graph.{graphOf}
-use Rattle.model.specs.Refusals.{Refusal}
-use Rattle.model.specs.Checks.{_then_, checkGraph, checkNamed, checkOutput}
+use Rattle.model.specs.Checks.{checkOutput}
 use Rattle.model.specs.Calls.{answer, bufferAfter}
 use Rattle.model.specs.Answers.{writtenAnswer}
 use Rattle.model.specs.declared.Written.{Written}
 use Rattle.reach.specs.Counting.{valuesOf}
-
--- the refusals of list and walk, but for that of a long output
-unfoldable pub checkAsked : List ℤ → List ℤ → ℤ → ℤ → Option Refusal
-checkAsked ns es root leaf = checkGraph 0 ns es then checkNamed (graphOf ns es) root leaf
 
 -- n numbers of a list: that at `first`, and each `step` behind the one before
 abbrev pub spaced : List ℤ → ℕ → ℕ → ℕ → List ℤ

@@ -3,12 +3,9 @@ ghost use mathlib.Core.Path.{_≡_};
 ghost use mathlib.Core.List.{_++_};
 ghost use Prim.Native.Nat.{ℕ, _+_, _*_, _≤_, _<_};
 ghost use lib.ListN.{length, drop};
-ghost use Rattle.model.specs.Limits.{maxNodes};
-ghost use Rattle.named.specs.Naming.{Counted};
 ghost use Rattle.bitmapping.specs.Promises.{ListPromise, WalkPromise};
-ghost use Rattle.bitmapping.specs.Checking.{checkAsked, spaced, Copied};
+ghost use Rattle.bitmapping.specs.Checking.{spaced, Copied};
 use model::Checked;
-use model::MAX_EDGES;
 use model::MAX_NODES;
 use model::MAX_NUMBERS;
 use model::RECORD_WIDTH;
@@ -17,22 +14,6 @@ use model::Written;
 
 // The place of the displacement among the numbers of a record.
 const DISPLACEMENT: usize = 2;
-
-// Refusals 1 to 7 and 10 of a root and a leaf of a graph. Counts the paths to the leaf.
-fn check_asked(nodes: &[i64], edges: &[i64], root: i64, leaf: i64, counts: &mut [usize]) -> Checked
-    requires { ⌜ maxNodes ≤ length (now counts) ⌝ }
-    ensures { λ r. ⌜
-        Counted (checkAsked (now (nodes .entry)) (now (edges .entry)) root leaf)
-        (now (nodes .entry)) (now (edges .entry)) leaf (now (counts .entry)) r (now (counts .exit)) ⌝ }
-{
-    let mut rest = [0usize; MAX_EDGES];
-    let mut order = [0usize; MAX_EDGES];
-    let checked = depth::check_graph_with(nodes, edges, 0, &mut rest, &mut order);
-    if let Checked::Refused(reason) = checked {
-        return Checked::Refused(reason);
-    }
-    named::check_named(nodes, edges, &order, root, leaf, counts)
-}
 
 // Copies n numbers of `from` to the front of `to`: that at `first`, and each `step` behind the one before.
 fn copy_numbers(from: &[i64], first: usize, step: usize, n: usize, to: &mut [i64])
@@ -75,21 +56,12 @@ fn put_numbers(
 pub fn list(nodes: &[i64], edges: &[i64], root: i64, leaf: i64, out: &mut [i64]) -> Written
     ensures { λ r. ⌜ ListPromise (now (nodes .entry)) (now (edges .entry)) root leaf (now (out .entry)) r (now (out .exit)) ⌝ }
 {
-    let mut counts = [0usize; MAX_NODES];
-    let checked = check_asked(nodes, edges, root, leaf, &mut counts);
-    if let Checked::Refused(reason) = checked {
-        return Written::Refused(reason);
-    }
     let mut work = [0i64; MAX_NUMBERS];
-    let records = listing::list_pair(
-        nodes,
-        edges,
-        root as usize,
-        leaf as usize,
-        &counts,
-        &mut work,
-    );
-    put_numbers(&work, 0, 1, RECORD_WIDTH * records, records, out)
+    let listed = asked::list_asked(nodes, edges, root, leaf, &mut work);
+    match listed {
+        Written::Refused(reason) => Written::Refused(reason),
+        Written::Count(records) => put_numbers(&work, 0, 1, RECORD_WIDTH * records, records, out),
+    }
 }
 
 // The distinct leaf bits that a bit address at the root reaches, ascending, in the front of `out`, and how many they are: none for an address
@@ -106,7 +78,7 @@ pub fn walk(
         WalkPromise (now (nodes .entry)) (now (edges .entry)) root leaf address (now (out .entry)) r (now (out .exit)) ⌝ }
 {
     let mut counts = [0usize; MAX_NODES];
-    let checked = check_asked(nodes, edges, root, leaf, &mut counts);
+    let checked = asked::check_asked(nodes, edges, root, leaf, &mut counts);
     if let Checked::Refused(reason) = checked {
         return Written::Refused(reason);
     }

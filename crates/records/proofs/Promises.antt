@@ -11,22 +11,20 @@ use lib.ListN.{length, take, drop, length-map}
 use lib.Seq.{length-take-le}
 use Rattle.integers.proofs.Tests.{Test, passed, failed, ltb?}
 use Rattle.model.specs.Limits.{recordWidth, maxPaths}
-use Rattle.model.specs.Graph.{graphOf, node}
+use Rattle.model.specs.Graph.{graphOf}
 use Rattle.model.specs.Bitmapping.{Record}
-use Rattle.model.specs.Runs.{listOf, runs}
-use Rattle.model.specs.Runs as runs
+use Rattle.model.specs.Runs.{listOf}
 use Rattle.model.specs.Refusals.{Refusal}
 use Rattle.model.specs.Calls.{Answer, refused, full, answer, lengthOf, bufferAfter, numbersOf, listAnswer, numbersAnswer, listGives, listAfter}
 use Rattle.model.specs.Calls.{recordsGives, recordsAfter}
 use Rattle.model.specs.Answers.{writtenAnswer}
 use Rattle.model.specs.declared.Written.{Written}
 use Rattle.model.specs.declared.Written.the-variants as written
-use Rattle.model.proofs.Normalisation.{normal-length}
-use Rattle.model.proofs.Walks.{runs-within-paths}
 use Rattle.tables.proofs.Checks.{checked}
-use Rattle.bitmapping.specs.Checking.{checkAsked}
-use Rattle.bitmapping.proofs.Answers.{asked-few, single-refused, single-long, single-full, single-given}
-use Rattle.bitmapping.proofs.Copying.{numbers-length}
+use Rattle.asked.specs.Asking.{checkAsked}
+use Rattle.asked.proofs.Listed.{list-few}
+use Rattle.asked.proofs.Answers.{single-refused, single-long, single-full, single-given}
+use Rattle.normalisation.proofs.Normalising.{numbers-length}
 use Rattle.bitmapping.proofs.Promises.{list-given}
 use Rattle.records.specs.declared.Record.{Record as Stored}
 use Rattle.sorting.specs.Rows.{rowsOf}
@@ -65,18 +63,10 @@ lent-within room = go (ltb room maxPaths) (ltb? room maxPaths)
 -- ---- the answer
 
 module _ (ns es : List ℤ) (r l : ℤ) where
-  -- a list has no more records than there are paths
-  pub list-few : full tt ≡ checked (checkAsked ns es r l) → length (listOf (graphOf ns es) r l) ≤ maxPaths
-  unfolding listOf
-  list-few taken =
-      let g = graphOf ns es in
-      let records = runs.recordOf (node g l) in
-      omega (arith, asked-few ns es r l taken, runs-within-paths g r l, length-map (runs g r l) records, normal-length (map records (runs g r l)))
-
   -- where list gives records, they are no more than a list can have, and their numbers fit
   pub given-fit : (room : ℕ) (records : List Record) → listAnswer ns es r l room ≡ full records → (length records ≤ maxPaths) × (recordWidth * length records ≤ room)
   unfolding listAnswer
-  given-fit room records e = (omega (arith, ap length (given .1), list-few (given .0)), fit (ltb room size) (ltb? room size))
+  given-fit room records e = (omega (arith, ap length (given .1), list-few ns es r l (given .0)), fit (ltb room size) (ltb? room size))
     where
       all : List Record
       all = listOf (graphOf ns es) r l
@@ -106,7 +96,7 @@ module _ (ns es : List ℤ) (r l : ℤ) where
 
       many : maxPaths ≤ room → (c : Option Refusal) → checked c ≡ checked (checkAsked ns es r l) → listAnswer ns es r l (recordWidth * room) ≡ listAnswer ns es r l (recordWidth * maxPaths)
       many k none e =
-          let few = list-few e in
+          let few = list-few ns es r l e in
           single-full all ns es r l size (recordWidth * room) e (omega (arith, numbers-length all))
           ∙ sym (single-full all ns es r l size (recordWidth * maxPaths) e (omega (arith, numbers-length all)))
       many k (some x) e = single-refused all ns es r l size (recordWidth * room) e ∙ sym (single-refused all ns es r l size (recordWidth * maxPaths) e)

@@ -16,10 +16,10 @@ use Rattle.model.specs.Answers.{checkedAnswer}
 use Rattle.tables.proofs.Cells.{index-fits, index-same}
 use Rattle.tables.proofs.Checks.{checked}
 use Rattle.listing.specs.Listing.{bitRecord}
-use Rattle.bitmapping.specs.Checking.{checkAsked}
+use Rattle.asked.specs.Asking.{checkAsked}
 use Rattle.bitmapping.proofs.Copying.{bits-room, spaced-bits}
-use Rattle.bitmapping.proofs.Answers.{asked-root, asked-leaf}
-use Rattle.bitmapping.proofs.Counts.{asked-ready}
+use Rattle.asked.proofs.Answers.{asked-root, asked-leaf}
+use Rattle.asked.proofs.Counts.{asked-ready}
 use Rattle.bitmapping.proofs.Promises.{walk-refused, walk-taken}
 use Rattle.bitmapping.proofs.walk.Statement.{statement}
 use Rattle.bitmapping.proofs.walk.Tie as tie

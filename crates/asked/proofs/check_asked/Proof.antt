@@ -9,9 +9,9 @@ use Rattle.model.specs.Calls.{full}
 use Rattle.model.specs.Answers.{checkedAnswer}
 use Rattle.tables.proofs.Checks.{checked}
 use Rattle.named.proofs.Answers.{graph-nameable}
-use Rattle.bitmapping.proofs.Answers.{asked-refused, asked-named}
-use Rattle.bitmapping.proofs.check_asked.Statement.{statement}
-use Rattle.bitmapping.proofs.check_asked.Tie as tie
+use Rattle.asked.proofs.Answers.{asked-refused, asked-named}
+use Rattle.asked.proofs.check_asked.Statement.{statement}
+use Rattle.asked.proofs.check_asked.Tie as tie
 
 -- the check takes the graph
 taken : (c : tie.After-enum-told) → let a = c .before .before .before .before .before .before .before .before .args in

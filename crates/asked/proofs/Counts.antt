@@ -10,8 +10,8 @@ use Rattle.model.specs.Calls.{full}
 use Rattle.tables.proofs.Checks.{checked}
 use Rattle.reach.specs.Counting.{countsOver}
 use Rattle.listing.specs.Listing.{Ready}
-use Rattle.bitmapping.specs.Checking.{checkAsked}
-use Rattle.bitmapping.proofs.Answers.{asked-tables, asked-root, asked-leaf, asked-few}
+use Rattle.asked.specs.Asking.{checkAsked}
+use Rattle.asked.proofs.Answers.{asked-tables, asked-root, asked-leaf, asked-few}
 
 -- where what a call is asked for is taken, with the counts of the paths to the leaf, listing and walking can start
 pub asked-ready : (ns es : List ℤ) (r l : ℤ) → full tt ≡ checked (checkAsked ns es r l) → (root leaf : ℕ) → pos root ≡ r → pos leaf ≡ l

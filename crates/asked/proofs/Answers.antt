@@ -23,7 +23,7 @@ use Rattle.tables.proofs.Checks.{checked, then-on, then-stops}
 use Rattle.depth.proofs.GraphCheck.{checked-taken}
 use Rattle.named.specs.Naming.{Counted}
 use Rattle.named.proofs.Answers.{then-both, named-root, named-leaf, named-few}
-use Rattle.bitmapping.specs.Checking.{checkAsked}
+use Rattle.asked.specs.Asking.{checkAsked}
 
 -- ---- what a call is asked for
 

@@ -1,0 +1,9 @@
+-- What is asked of a record whose leaf bits are computed. Assumes nothing.
+use lib.IntN.{ℤ}
+use lib.Signed.{_≤ℤ_}
+use Rattle.model.specs.Bitmapping.{Record}
+use Rattle.model.specs.Quantities.{Movable}
+
+-- each root bit of the record is a bit address, and less the displacement a number of 64 bits
+abbrev pub LeafBitsFit : Record → Type 0
+LeafBitsFit s = (x : ℤ) → s .first ≤ℤ x → x ≤ℤ s .last → Movable x (s .displacement)

@@ -20,6 +20,7 @@ const LIBRARIES: [(&str, &str, &[&str]); 2] = [
             "benchcalls_check",
             "benchcalls_list",
             "benchcalls_walk",
+            "benchcalls_batch",
             "benchcalls_compare",
             "benchcalls_read_sheet",
         ],

@@ -74,6 +74,29 @@ pub fn list(reached: &Reached) -> Vec<Record> {
     list
 }
 
+/// The rows (place, leaf bit) of a batch, from the single walk of each address: record by
+/// record of the list, and within a record by place. The walks give the rows; the list
+/// gives their order alone, and must have one record for each.
+pub fn batch<W: IntoIterator<Item = i64>>(
+    list: &[Record], addresses: &[i64], walk: impl Fn(i64) -> W,
+) -> Vec<[i64; 2]> {
+    let mut rows = Vec::new();
+    for (place, &address) in addresses.iter().enumerate() {
+        for leaf_bit in walk(address) {
+            let displacement = address - leaf_bit;
+            let has_bit = |record: &Record| {
+                record.displacement == displacement
+                    && record.first <= address
+                    && address <= record.last
+            };
+            let record = list.iter().position(has_bit).expect("a record has the bit");
+            rows.push((record, place, leaf_bit));
+        }
+    }
+    rows.sort_unstable();
+    rows.into_iter().map(|(_, place, leaf_bit)| [place as i64, leaf_bit]).collect()
+}
+
 /// By the reached sets alone: 0 where they are the same, 1 where all that the
 /// implementation reaches, and it reaches something, the specification reaches too.
 pub fn verdict(spec: &Reached, implementation: &Reached) -> i64 {

@@ -2,7 +2,7 @@
 
 use crate::generate::{groups, plain_text, root_rows, small_map, tables, text_of_length, unjoined};
 use crate::generate::{Draft, Random, SEGMENT};
-use crate::reference::{parse, Tables, BLOCK, MAX_EDGES, MAX_NODES, MAX_TEXT, UNITS};
+use crate::reference::{parse, Tables, BLOCK, MAX_BATCH, MAX_EDGES, MAX_NODES, MAX_TEXT, UNITS};
 
 pub struct Map {
     pub name: &'static str,
@@ -643,5 +643,38 @@ pub fn singles() -> Vec<Single> {
         asked("10 doubled edges, hub, 900 leaves", BOTH, &hub.draft(), ADDRESS),
         asked("1,024 paths, no merging", LIST, &short.draft(), ADDRESS),
         asked("1,024 paths of 64 edges, no merging", LIST, &DEEP.draft(), ADDRESS),
+    ]
+}
+
+// Batches
+
+/// A graph whose root and leaf are asked for, and a batch of bit addresses.
+pub struct Batch {
+    pub graph: Single,
+    pub addresses: Vec<i64>,
+}
+
+/// As many addresses as a batch may have, two units apart, the lowest last.
+fn descending(lowest: i64) -> Vec<i64> {
+    (0..MAX_BATCH as i64).rev().map(|number| lowest + 16 * number).collect()
+}
+
+/// Batches of as many addresses as may be, on a list of one record and on lists of as many
+/// as may be; in the last every record has every address, so that no batch has more rows.
+pub fn batches() -> [Batch; 4] {
+    let short = Funnel { chain: 0, ..DEEP };
+    let first_bit = 8 * short.leaf_offset;
+    let batch = |name, funnel: Funnel, lowest| {
+        let graph = asked(name, &[], &funnel.draft(), lowest);
+        Batch { graph, addresses: descending(lowest) }
+    };
+    let one = Funnel { stages: 0, leaf_range: SPAN, ..short };
+    let last_record = first_bit + 8 * 1_023;
+    let wide = Funnel { leaf_range: SPAN, ..short };
+    [
+        batch("1 record", one, first_bit),
+        batch("1,024 records", short, first_bit),
+        batch("1,024 records, paths of 64 edges", DEEP, first_bit),
+        batch("1,024 records, each has every address", wide, last_record),
     ]
 }

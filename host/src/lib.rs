@@ -23,5 +23,5 @@ pub mod propagate;
 pub mod reference;
 pub mod sheet;
 pub mod sheet_texts;
-#[cfg(healdrip_library)]
+#[cfg(any(healdrip_library, benchcalls_library))]
 pub mod stack;

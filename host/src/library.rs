@@ -39,6 +39,13 @@ extern "C" {
         leaf: i64, address: i64, out: *mut i64, out_len: usize,
     ) -> i64;
 
+    /// How many rows are written and how many records were read as `counts` gives it, or the
+    /// refusal's number below zero.
+    pub(crate) fn benchcalls_batch(
+        nodes: *const i64, nodes_len: usize, edges: *const i64, edges_len: usize, root: i64,
+        leaf: i64, addresses: *const i64, addresses_len: usize, out: *mut i64, out_len: usize,
+    ) -> i64;
+
     /// The answer as `summary` gives it; the tables in the order of their numbers.
     fn benchcalls_compare(
         spec_nodes: *const i64, spec_nodes_len: usize, spec_edges: *const i64,
@@ -80,6 +87,20 @@ pub fn walk(
     let (n, e, room, out) = (nodes.len(), edges.len(), out.len(), out.as_mut_ptr());
     // SAFETY: every pointer is valid for its length during the call.
     unsafe { benchcalls_walk(nodes.as_ptr(), n, edges.as_ptr(), e, root, leaf, address, out, room) }
+}
+
+/// Walk of a batch of bit addresses from a root to a leaf by the verified code, two numbers
+/// for each row.
+#[cfg(benchcalls_library)]
+pub fn batch(
+    nodes: &[i64], edges: &[i64], root: i64, leaf: i64, addresses: &[i64], out: &mut [i64],
+) -> i64 {
+    let (n, e, a, room) = (nodes.len(), edges.len(), addresses.len(), out.len());
+    let (addresses, out) = (addresses.as_ptr(), out.as_mut_ptr());
+    // SAFETY: every pointer is valid for its length during the call.
+    unsafe {
+        benchcalls_batch(nodes.as_ptr(), n, edges.as_ptr(), e, root, leaf, addresses, a, out, room)
+    }
 }
 
 /// Comparison of tables by the verified code.
@@ -129,6 +150,15 @@ pub fn summary(answer: &Result<crate::reference::Comparison, crate::reference::R
 /// refusal's number below zero.
 pub fn count<T>(answer: &Result<Vec<T>, crate::reference::Refusal>) -> i64 {
     answer.as_ref().map_or_else(|refusal| -refusal.number, |written| written.len() as i64)
+}
+
+/// What a batch gives as one number: how many rows, and how many records were read, with 20
+/// binary digits each; or the refusal's number below zero.
+pub fn counts(answer: &Result<crate::reference::BatchRows, crate::reference::Refusal>) -> i64 {
+    match answer {
+        Ok(batch) => ((batch.rows.len() << 20) + batch.records) as i64,
+        Err(refusal) => -refusal.number,
+    }
 }
 
 /// What reading a sheet gives as one number: how many numbers the node table has, times

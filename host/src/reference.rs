@@ -10,6 +10,7 @@ pub const MAX_EDGES: usize = 2_600;
 pub const MAX_PAIRS: usize = 1_000;
 pub const MAX_CHAIN: usize = 64;
 pub const MAX_PATHS: u32 = 1_024;
+pub const MAX_BATCH: usize = 512;
 pub const MAX_TEXT: usize = 65_536;
 pub const MAX_UNITS: i64 = 1 << 48;
 pub const MAX_AT: i64 = (1 << 55) - 1;
@@ -86,6 +87,14 @@ pub struct Record {
     pub first: i64,
     pub last: i64,
     pub displacement: i64,
+}
+
+/// What a batch of addresses gives: rows of a place in the batch and a leaf bit, and how many
+/// records were read for them.
+#[derive(Clone, Debug, PartialEq, Eq)]
+pub struct BatchRows {
+    pub rows: Vec<[i64; 2]>,
+    pub records: usize,
 }
 
 /// A root row and a group with a record on either side: the root row, the group's lowest
@@ -424,6 +433,29 @@ pub fn list(
         return Err(refusal(11, OUTPUT, 0));
     }
     Ok(list)
+}
+
+/// The rows of a batch of addresses, record by record and within a record by place; `room`
+/// counts numbers, two for each row.
+pub fn batch(
+    nodes: &[i64], edges: &[i64], root: i64, leaf: i64, addresses: &[i64], room: usize,
+) -> Result<BatchRows, Refusal> {
+    if addresses.len() > MAX_BATCH {
+        return Err(refusal(19, OUTPUT, 0));
+    }
+    let list = list(nodes, edges, root, leaf, usize::MAX)?;
+    let mut rows = Vec::new();
+    for record in &list {
+        for (place, &address) in addresses.iter().enumerate() {
+            if record.first <= address && address <= record.last {
+                rows.push([place as i64, address - record.displacement]);
+            }
+        }
+    }
+    if rows.len() * 2 > room {
+        return Err(refusal(11, OUTPUT, 0));
+    }
+    Ok(BatchRows { rows, records: list.len() })
 }
 
 // Comparing

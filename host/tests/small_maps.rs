@@ -8,7 +8,8 @@ use std::collections::BTreeSet;
 
 const MAPS: u64 = 6_000;
 
-/// Every pair of both sides: list, and walks at and around its records' ends.
+/// Every pair of both sides: list, walks at and around its records' ends, and a batch of
+/// these addresses, there and back.
 fn check_single_calls(nodes: &[i64], edges: &[i64], root: i64, leaf: i64, random: &mut Random) {
     let reached = bitwalk::reached(nodes, edges, root as usize, leaf as usize);
     let expected = bitwalk::list(&reached);
@@ -23,11 +24,21 @@ fn check_single_calls(nodes: &[i64], edges: &[i64], root: i64, leaf: i64, random
         .flat_map(|record| [record.first - 1, record.first, record.last, record.last + 1])
         .collect();
     addresses.extend((0..4).map(|_| random.between(-9, 2_000)));
-    for address in addresses {
-        let expected = bitwalk::walk(nodes, edges, root as usize, leaf as usize, address);
+    let reach = |address| bitwalk::walk(nodes, edges, root as usize, leaf as usize, address);
+    for &address in &addresses {
+        let expected = reach(address);
         let bits = walk(nodes, edges, root, leaf, address, expected.len()).unwrap();
         assert_eq!(bits, Vec::from_iter(expected));
     }
+    addresses.extend(addresses.clone().iter().rev());
+    let rows = bitwalk::batch(&expected, &addresses, reach);
+    let room = 2 * rows.len();
+    if !rows.is_empty() {
+        let short = batch(nodes, edges, root, leaf, &addresses, room - 1);
+        assert_eq!(short, Err(refusal(11, OUTPUT, 0)));
+    }
+    let given = batch(nodes, edges, root, leaf, &addresses, room).unwrap();
+    assert_eq!(given, BatchRows { rows, records: expected.len() });
 }
 
 /// Lists that would be partial if displacements did not count: not all that is reached is

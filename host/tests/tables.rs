@@ -2,68 +2,47 @@
 //! have any lengths. Compiled only with BENCHCALLS_LIB_DIR set.
 #![cfg(benchcalls_library)]
 
+mod asking;
+
+use asking::{batch_rows, check_written, full_batch, Full, FAR};
 use host::faults::{base, table_faults};
 use host::generate::{disturbed, far_rows, limits, raised, small_map, Random};
 use host::grouped::cases;
 use host::large::{banked_maps, singles};
 use host::library;
-use host::reference::{self, compare, parse, refusal, Refusal, Tables};
-use host::reference::{LEAF_PAIRS, OUTPUT, ROOT_PAIRS};
+use host::reference::{self, compare, parse, Tables, LEAF_PAIRS, ROOT_PAIRS};
 
 const MAPS: u64 = 4_000;
-const FAR: [i64; 13] = [
-    i64::MIN,
-    i64::MIN + 1,
-    -1,
-    0,
-    1,
-    2,
-    8,
-    1 << 48,
-    (1 << 55) - 1,
-    1 << 55,
-    1 << 62,
-    i64::MAX - 1,
-    i64::MAX,
-];
-
-/// A call with a lent buffer, of the numbers' own length, one less and some more: the
-/// answer and every number of the buffer.
-fn check_written(
-    numbers: Result<Vec<i64>, Refusal>, width: usize, call: impl Fn(&mut [i64]) -> i64,
-) {
-    let length = numbers.as_ref().map_or(0, Vec::len);
-    for room in [length.saturating_sub(1), length, length + 5] {
-        let expected = match &numbers {
-            Ok(numbers) if numbers.len() > room => Err(refusal(11, OUTPUT, 0)),
-            answer => answer.clone(),
-        };
-        let pattern: Vec<i64> = (0..room as i64).map(|place| place * 37 - 5).collect();
-        let mut buffer = pattern.clone();
-        let answer = call(&mut buffer);
-        let written = expected.map(|numbers| numbers.chunks(width).map(Vec::from).collect());
-        assert_eq!(answer, library::count(&written), "room {room}");
-        let front = written.unwrap_or_default().concat();
-        assert!(buffer[..front.len()] == front, "room {room}: {buffer:?}, expected {front:?}");
-        assert!(buffer[front.len()..] == pattern[front.len()..], "room {room}: past the output");
-    }
-}
 
 fn check_walk(nodes: &[i64], edges: &[i64], root: i64, leaf: i64, address: i64) {
-    let expected = reference::walk(nodes, edges, root, leaf, address, usize::MAX);
-    check_written(expected, 1, |out| library::walk(nodes, edges, root, leaf, address, out));
+    let bits = reference::walk(nodes, edges, root, leaf, address, usize::MAX);
+    let answer = library::count(&bits);
+    let expected = bits.map(|numbers| Full { answer, numbers });
+    check_written(&expected, |out| library::walk(nodes, edges, root, leaf, address, out));
 }
 
-/// The calls on one graph: list, and walks at and around the ends of its records.
+/// A batch by the library, beside the reference and its single walks.
+fn check_batch(nodes: &[i64], edges: &[i64], root: i64, leaf: i64, addresses: &[i64]) {
+    let expected = full_batch(batch_rows(nodes, edges, root, leaf, addresses));
+    check_written(&expected, |out| library::batch(nodes, edges, root, leaf, addresses, out));
+}
+
+/// The calls on one graph: list, walks at and around the ends of its records, and a batch of
+/// these addresses, of far ones, and of these in reverse.
 fn check_pair(nodes: &[i64], edges: &[i64], root: i64, leaf: i64) {
     let records = reference::list(nodes, edges, root, leaf, usize::MAX);
-    let numbers = records.clone().map(|records| {
-        records.iter().flat_map(|r| [r.first, r.last, r.displacement]).collect::<Vec<_>>()
+    let answer = library::count(&records);
+    let expected = records.clone().map(|records| {
+        let numbers = records.iter().flat_map(|r| [r.first, r.last, r.displacement]).collect();
+        Full { answer, numbers }
     });
-    check_written(numbers, 3, |out| library::list(nodes, edges, root, leaf, out));
+    check_written(&expected, |out| library::list(nodes, edges, root, leaf, out));
     let records = records.unwrap_or_default();
     let ends = records.iter().take(3).flat_map(|r| [r.first - 1, r.first, r.last, r.last + 1]);
-    ends.chain([0]).for_each(|address| check_walk(nodes, edges, root, leaf, address));
+    let ends: Vec<i64> = ends.chain([0]).collect();
+    ends.iter().for_each(|&address| check_walk(nodes, edges, root, leaf, address));
+    let addresses = ends.iter().chain(&FAR).chain(ends.iter().rev());
+    check_batch(nodes, edges, root, leaf, &addresses.copied().collect::<Vec<_>>());
 }
 
 fn check_graph(nodes: &[i64], edges: &[i64]) {

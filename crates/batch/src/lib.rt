@@ -1,4 +1,4 @@
-// The walks of many bit addresses from one root to one leaf, in a single pass over its bitmapping list.
+// The walks of many bit addresses from one root to one leaf, in a single pass over their bitmapping list.
 ghost use Rattle.batch.specs.Promises.{BatchPromise};
 use model::Batched;
 use model::MAX_BATCH;

@@ -8,11 +8,8 @@ use lib.ListN.{length, take, drop, length-append, length-drop, drop-of-length-le
 use lib.Seq.{take-all, take-append-le, take-take, drop-drop, drop-at, length-take-le}
 use Rattle.model.specs.Limits.{batchWidth}
 use Rattle.batches.specs.Batch.{BatchRow, batchNumbers}
+use Rattle.batches.specs.Buffers.{rowsBehind}
 use Rattle.batches.proofs.Rows.{batchNumbers-length, batchNumbers-append}
-
--- rows behind the first b rows of a buffer that held `old`, and past them what it held
-abbrev pub rowsBehind : ℕ → List BatchRow → List ℤ → List ℤ
-rowsBehind b ts old = take (batchWidth * b) old ++ (batchNumbers ts ++ drop (batchWidth * (b + length ts)) old)
 
 -- the buffer keeps its length
 pub behind-length : (b : ℕ) (ts : List BatchRow) (old : List ℤ) → batchWidth * (b + length ts) ≤ length old → length (rowsBehind b ts old) ≡ length old

@@ -1,4 +1,4 @@
--- The rows of a record and of a list: which they are, how many, and what one more address adds.
+-- The rows of a record and of a list: which they are, and how many; and their numbers.
 use mathlib.Core.Path.{_≡_, refl, sym, ap, subst, _∙_}
 use mathlib.Core.Bool.{Bool, true, false, cond}
 use mathlib.Core.List.{List, [], _∷_, _++_, flatMap, List·Memᴰ·head, List·Memᴰ·tail, List·Memᴰ·not-nil, List·Memᴰ·cases-cons}
@@ -12,20 +12,15 @@ use Rattle.integers.proofs.Linear.{ints, diff}
 use Rattle.integers.proofs.Tests.{passed, failed}
 use Rattle.lists.specs.Lists.{_∈_, Distinct, none, more}
 use Rattle.lists.proofs.Membership.{flatMap-in, flatMap-out}
-use Rattle.lists.proofs.Decisions.{Decides, decides-iff, decides-as, decides-and, decides-le}
+use Rattle.lists.proofs.Decisions.{Decides, decides-iff}
 use Rattle.model.specs.Limits.{maxBatch, batchWidth}
 use Rattle.model.specs.Bitmapping.{Record, Has}
 use Rattle.model.specs.Verdicts.{hasBit}
 use Rattle.batches.specs.Batch.{BatchRow, rowsIn, batchRows, batchNumbers}
 use Rattle.model.proofs.Records.{has-at}
-use Rattle.model.proofs.Lowest.{HasSome}
+use Rattle.model.proofs.Lowest.{HasSome, hasBit?}
 
--- a record has a root bit, with its leaf bit, or not
-pub hasBit? : (x : ℤ) (s : Record) → Decides (Has s x (x -ℤ s .displacement)) (hasBit x s)
-unfolding hasBit
-hasBit? x s = decides-as (λ p. has-at s x (p .0) (p .1), λ h. (h .above, h .below)) (decides-and (decides-le (s .first) x) (decides-le x (s .last)))
-
--- where the test says so
+-- where the test says so, the record has the root bit, with its leaf bit
 pub hasBit-true : (x : ℤ) (s : Record) → hasBit x s ≡ true → Has s x (x -ℤ s .displacement)
 hasBit-true x s e = decides-iff (hasBit? x s) .0 (subst T (sym e) tt)
 

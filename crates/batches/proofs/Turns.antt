@@ -12,6 +12,7 @@ use Rattle.model.specs.Limits.{batchWidth}
 use Rattle.model.specs.Bitmapping.{Record}
 use Rattle.model.specs.Verdicts.{hasBit}
 use Rattle.batches.specs.Batch.{BatchRow, rowsIn, batchNumbers}
+use Rattle.batches.specs.Buffers.{rowsOver}
 use Rattle.batches.proofs.Rows.{rowOf, rows-few, rows-append, batchNumbers-length, batchNumbers-append}
 
 module _ (s : Record) (xs : List ℤ) where
@@ -69,11 +70,7 @@ module _ (s : Record) (xs : List ℤ) where
 
 -- ---- in the front of a buffer
 
--- rows in front of a buffer that held `old`
-abbrev pub rowsOver : List BatchRow → List ℤ → List ℤ
-rowsOver ts old = batchNumbers ts ++ drop (batchWidth * length ts) old
-
--- they leave its length as it was
+-- rows in front leave its length as it was
 pub over-length : (ts : List BatchRow) (old : List ℤ) → batchWidth * length ts ≤ length old → length (rowsOver ts old) ≡ length old
 over-length ts old h =
     let rest = drop (batchWidth * length ts) old in

@@ -81,7 +81,7 @@ unfoldable pub batchNumbersOf : Answer (List BatchRow) → Answer (List ℤ)
 batchNumbersOf (refused r) = refused r
 batchNumbersOf (full ts) = full (batchNumbers ts)
 
--- what the call returns: every record of the list is read, once for all addresses
+-- what the call returns: how many rows there are, and as many records as the list has
 unfoldable pub batchGives : List ℤ → List ℤ → ℤ → ℤ → List ℤ → List ℤ → Answer BatchCounts
 batchGives ns es r l xs buffer = countsOf (length (listOf (graphOf ns es) r l)) (batchAnswer ns es r l xs (length buffer))
 

@@ -1,13 +1,13 @@
 -- The pass record by record, from the end of the list: at the end there is no row more, and each record adds its rows in front of those behind it.
 use mathlib.Core.Path.{_≡_, refl, sym, ap, _∙_}
-use mathlib.Core.Bool.{Bool, true, false, not}
+use mathlib.Core.Bool.{Bool, true, false}
 use mathlib.Core.List.{List, [], _∷_, _++_, flatMap}
 use Prim.Native.Nat.{ℕ, _+_, _-_, _*_, _≤_, _<_}
 use native.Mathlib.Omega.{arith}
-use borrow.Author.Tests.{ltb-true, ltb-false, not-true, not-false, lt-ltb, le-ltb, lt-leb, le-leb}
-use lib.Dec.{leb, ltb}
+use borrow.Author.Tests.{lt-ltb, le-ltb}
+use lib.Dec.{ltb}
 use lib.IntN.{ℤ}
-use lib.ListN.{length, take, drop, length-append, length-map, take-append-drop}
+use lib.ListN.{length, take, drop, length-append, take-append-drop}
 use Rattle.integers.proofs.Tests.{Test, passed, failed, ltb?}
 use Rattle.model.specs.Limits.{batchWidth}
 use Rattle.model.specs.Bitmapping.{Record}
@@ -17,30 +17,9 @@ use Rattle.batches.specs.Batch.{BatchRow, BatchCounts, rowsIn, batchRows, batch
 use Rattle.model.specs.declared.BatchCounts as code
 use Rattle.model.specs.declared.Reason.the-variants.{LongOutput}
 use Rattle.model.specs.declared.Batched.the-variants.{Counts, Refused}
-use Rattle.sorting.specs.Rows.{rowWidth, rowsFrom}
-use Rattle.sorting.proofs.Tables.{rowsOf-length}
-use Rattle.normalisation.specs.Records.{ofRow, recordsFrom}
 use Rattle.batches.proofs.Rows.{batchNumbers-length}
 use Rattle.batches.proofs.Behind.{behind-length, behind-more}
 use Rattle.batchpass.specs.Passing.{PassedBehind, Passed}
-
--- ---- whether rows fit
-
--- the test passes exactly where they do
-pub fit-same : (numbers room : ℕ) → leb numbers room ≡ not (ltb room numbers)
-fit-same numbers room = go (ltb room numbers) (ltb? room numbers)
-  where
-    go : (t : Bool) → Test (room < numbers) (numbers ≤ room) t → leb numbers room ≡ not t
-    go true (passed h) = lt-leb numbers room h
-    go false (failed h) = le-leb numbers room h
-
--- they fit
-pub fit-true : (room numbers : ℕ) → not (ltb room numbers) ≡ true → numbers ≤ room
-fit-true room numbers e = ltb-false room numbers (not-true (ltb room numbers) e)
-
--- they do not
-pub fit-false : (room numbers : ℕ) → not (ltb room numbers) ≡ false → room < numbers
-fit-false room numbers e = ltb-true room numbers (not-false (ltb room numbers) e)
 
 -- ---- what a pass leaves
 
@@ -58,17 +37,13 @@ passed-length {records} {xs} {before} {old} {new} p = go (ltb (length old) all) 
 
 -- ---- at the end of the list
 
--- from record i on there are so many
-pub recordsFrom-length : (t : List ℤ) (i n : ℕ) → length (recordsFrom t i n) ≡ n - i
-recordsFrom-length t i n = length-map (rowsFrom t i n) ofRow ∙ rowsOf-length (drop (rowWidth * i) t) (n - i)
-
 -- there is no record, and no row more
 pub passed-none : (xs : List ℤ) (before : ℕ) (old : List ℤ) → PassedBehind [] xs before old (record { rows = before; records = 0 }) old
 unfolding batchRows flatMap batchNumbers
 passed-none xs before old =
     record {
       rows = omega arith;
-      count = refl;
+      records = refl;
       fits = λ h. sym (ap (λ (k : ℕ). take (batchWidth * before) old ++ drop (batchWidth * k) old) none ∙ take-append-drop (batchWidth * before) old);
       short = λ h. refl;
     }
@@ -100,7 +75,7 @@ module _ (s : Record) {rest : List Record} {xs : List ℤ} (before : ℕ) {old :
         let fits = p .fits (omega (arith, p .rows)) in
         record {
           rows = more-rows;
-          count = omega (arith, p .count);
+          records = omega (arith, p .records);
           fits = λ _. rw (rows-cons s rest xs) (behind-more before (rowsIn s 0 xs) (batchRows rest xs) old room fits e);
           short = λ k. absurd (omega (arith, more-rows, k));
         }
@@ -109,7 +84,7 @@ module _ (s : Record) {rest : List Record} {xs : List ℤ} (before : ℕ) {old :
     pub passed-short : length old < batchWidth * given .rows
         → PassedBehind (s ∷ rest) xs before old (record { rows = given .rows; records = given .records + 1 }) mid
     passed-short h =
-        record { rows = more-rows; count = omega (arith, p .count); fits = λ k. absurd (omega (arith, more-rows, k)); short = λ _. p .short (omega (arith, p .rows)) }
+        record { rows = more-rows; records = omega (arith, p .records); fits = λ k. absurd (omega (arith, more-rows, k)); short = λ _. p .short (omega (arith, p .rows)) }
 
 -- ---- all records
 
@@ -121,7 +96,7 @@ module _ {records : List Record} {xs old new : List ℤ} {counts : code.BatchCou
   counted = omega (arith, p .rows)
 
   same-counts : countsResult counts ≡ record { rows = length rows; records = length records }
-  same-counts = λ i. record { rows = sym counted i; records = p .count i }
+  same-counts = λ i. record { rows = sym counted i; records = p .records i }
 
   -- the rows fit
   pub passed-counts : batchWidth * counts .rows ≤ length old → Passed records xs old (Counts counts) new

@@ -1,9 +1,8 @@
 // The pass of a batch over a list of records: each record is read once, for all addresses. Nothing is written before the last record has been read, and
 // nothing at all where the rows do not fit: the pass counts on its way to the end of the list, and writes on its way back.
 ghost use mathlib.Core.Path.{_≡_};
-ghost use mathlib.Core.Bool.{not};
 ghost use Prim.Native.Nat.{_*_, _≤_};
-ghost use lib.Dec.{ltb};
+ghost use lib.Dec.{leb};
 ghost use Rattle.model.specs.Limits.{maxBatch, batchWidth, maxPaths};
 ghost use Rattle.batches.specs.Batch.{countsResult};
 ghost use Rattle.normalisation.specs.Records.{recordsOf, recordsFrom};
@@ -16,7 +15,7 @@ use model::Reason;
 // Whether so many rows fit into a buffer with room for so many numbers.
 fn fit(rows: usize, room: usize) -> bool
     requires { ⌜ rows ≤ maxBatch * maxPaths ⌝ }
-    ensures { λ r. ⌜ r ≡ not (ltb room (batchWidth * rows)) ⌝ }
+    ensures { λ r. ⌜ r ≡ leb (batchWidth * rows) room ⌝ }
 {
     BATCH_WIDTH * rows <= room
 }

@@ -1,13 +1,13 @@
 // The rows that one record of a list gives for a batch of addresses: how many they are, and their numbers in the front of a lent buffer.
 ghost use mathlib.Core.Path.{_≡_};
-ghost use mathlib.Core.List.{_++_};
-ghost use Prim.Native.Nat.{_+_, _*_, _≤_};
+ghost use Prim.Native.Nat.{_+_, _*_, _≤_, _<_};
 ghost use lib.IntN.{pos, _-ℤ_};
-ghost use lib.ListN.{length, set, drop};
+ghost use lib.ListN.{length, set};
 ghost use Rattle.model.specs.Limits.{maxBatch, batchWidth};
 ghost use Rattle.model.specs.Quantities.{Movable};
 ghost use Rattle.model.specs.Verdicts.{hasBit};
-ghost use Rattle.batches.specs.Batch.{rowsIn, batchNumbers};
+ghost use Rattle.batches.specs.Batch.{rowsIn};
+ghost use Rattle.batches.specs.Buffers.{rowsOver};
 ghost use Rattle.verdicts.specs.Records.{asRecord};
 ghost use Rattle.batchrows.specs.LeafBits.{LeafBitsFit};
 use model::BATCH_WIDTH;
@@ -49,13 +49,13 @@ pub fn count_rows(s: Record, addresses: &[i64]) -> usize
 
 // Writes a row behind the first n rows of the buffer.
 fn put_row(out: &mut [i64], n: usize, place: usize, bit: Bits)
-    requires { ⌜ (batchWidth * n + batchWidth ≤ length (now out)) × (place ≤ maxBatch) ⌝ }
+    requires { ⌜ (batchWidth * n + batchWidth ≤ length (now out)) × (place < maxBatch) ⌝ }
     ensures { λ _. ⌜ now (out .exit) ≡ set (set (now (out .entry)) (batchWidth * n) (pos place)) (batchWidth * n + 1) (bit .0) ⌝ }
 {
-    let number = place as i64;
-    let leaf_bit = bit.0;
-    out[BATCH_WIDTH * n] = number;
-    out[BATCH_WIDTH * n + 1] = leaf_bit;
+    let place_number = place as i64;
+    let bit_number = bit.0;
+    out[BATCH_WIDTH * n] = place_number;
+    out[BATCH_WIDTH * n + 1] = bit_number;
 }
 
 // Writes the rows that the record gives to the front of the buffer, by place.
@@ -64,9 +64,7 @@ pub fn put_rows(s: Record, addresses: &[i64], out: &mut [i64])
         LeafBitsFit (asRecord s) × (length (now addresses) ≤ maxBatch)
         × (batchWidth * length (rowsIn (asRecord s) 0 (now addresses)) ≤ length (now out)) ⌝ }
     ensures { λ _. ⌜
-        now (out .exit)
-        ≡ batchNumbers (rowsIn (asRecord s) 0 (now (addresses .entry)))
-        ++ drop (batchWidth * length (rowsIn (asRecord s) 0 (now (addresses .entry)))) (now (out .entry)) ⌝ }
+        now (out .exit) ≡ rowsOver (rowsIn (asRecord s) 0 (now (addresses .entry))) (now (out .entry)) ⌝ }
 {
     let mut rows: usize = 0;
     let mut place: usize = 0;

@@ -3,6 +3,7 @@ use Prim.Native.Nat.{ℕ, _+_, _*_, _^_, min}
 use lib.IntN.{ℤ, pos, negℤ}
 use Rattle.model.specs.Compare.{Result}
 use Rattle.model.specs.Calls.{Answer, refused, full}
+use Rattle.batches.specs.Batch.{BatchCounts}
 use Rattle.model.specs.TextCheck.{coded}
 use Rattle.model.specs.SheetCall.{TableLengths}
 use Rattle.model.specs.declared.SheetSizes.{SheetSizes}
@@ -35,6 +36,14 @@ taken = signed (λ _. 0)
 -- the answer of walk and list: how many numbers or records were written, at most 1,024
 abbrev pub written : Answer ℕ → ℤ
 written = signed digits
+
+-- the counts of a batch: the rows, then the records, with 20 binary digits each; 512 × 1,024 rows are fewer
+abbrev pub counted : BatchCounts → ℕ
+counted n = digits (n .rows) * 2 ^ 20 + digits (n .records)
+
+-- the answer of a batch: how many rows were written, and how many records were read
+abbrev pub batched : Answer BatchCounts → ℤ
+batched = signed counted
 
 -- the lengths of the two tables of a sheet
 abbrev pub sheetLengths : SheetSizes → TableLengths

@@ -4,14 +4,18 @@ ghost use mathlib.Core.Path.{_≡_};
 ghost use lib.IntN.{pos, negℤ};
 ghost use Rattle.model.specs.Answers.{comparisonResult, refusalOf, checkedAnswer, writtenAnswer, sheetReadAnswer};
 ghost use Rattle.model.specs.Calls.{checkAnswer, walkGives, walkAfter, listGives, listAfter, compareAnswer};
+ghost use Rattle.batches.specs.Batch.{countsResult, batchedAnswer, batchGives, batchAfter};
 ghost use Rattle.model.specs.SheetCall.{sheetGives, sheetNodesAfter, sheetEdgesAfter};
 ghost use Rattle.pairing.specs.Pairs.{tablesOf};
-ghost use Rattle.benchcalls.specs.Summary.{digits, packed, summary, taken, written, sheetLengths, lengths, tables};
-ghost use Rattle.refusals.specs.Small.{lastNumber, SmallAnswer};
+ghost use Rattle.benchcalls.specs.Summary.{digits, packed, summary, taken, written, counted, batched, sheetLengths, lengths, tables};
+ghost use Rattle.refusals.specs.Small.{lastOfSheet, SmallAnswer};
+use batch::batch;
 use bitmapping::list;
 use bitmapping::walk;
 use compare::compare;
 use depth::check_graph;
+use model::BatchCounts;
+use model::Batched;
 use model::Checked;
 use model::Compared;
 use model::Comparison;
@@ -33,6 +37,9 @@ const EQUAL_PLACE: usize = 1099511627776;
 const PARTIAL_PLACE: usize = 1048576;
 
 const VERDICT_PLACE: usize = 1152921504606846976;
+
+// What the count of rows counts for in the answer of a batch.
+const ROWS_PLACE: usize = 1048576;
 
 // What the length of the node table counts for in the answer of the reader of sheets.
 const NODES_PLACE: usize = 100000;
@@ -88,6 +95,25 @@ fn written_number(given: Written) -> i64
     }
 }
 
+// The counts of a batch as one number.
+fn counts_of(counts: BatchCounts) -> i64
+    ensures { λ r. ⌜ r ≡ pos (counted (countsResult counts)) ⌝ }
+{
+    let rows = digits_of(counts.rows);
+    let records = digits_of(counts.records);
+    (rows * ROWS_PLACE + records) as i64
+}
+
+// The answer of a batch.
+fn batched_number(given: Batched) -> i64
+    ensures { λ r. ⌜ r ≡ batched (batchedAnswer given) ⌝ }
+{
+    match given {
+        Batched::Counts(counts) => counts_of(counts),
+        Batched::Refused(reason) => refused_number(reason),
+    }
+}
+
 // The lengths of the two tables of a sheet as one number.
 fn lengths_of(sizes: SheetSizes) -> i64
     ensures { λ r. ⌜ r ≡ pos (lengths (sheetLengths sizes)) ⌝ }
@@ -99,7 +125,7 @@ fn lengths_of(sizes: SheetSizes) -> i64
 
 // The answer of the reader of sheets.
 fn read_number(read: SheetRead) -> i64
-    requires { ⌜ SmallAnswer lastNumber (sheetReadAnswer read) ⌝ }
+    requires { ⌜ SmallAnswer lastOfSheet (sheetReadAnswer read) ⌝ }
     ensures { λ r. ⌜ r ≡ tables (sheetReadAnswer read) ⌝ }
 {
     match read {
@@ -148,6 +174,23 @@ pub extern "C" fn benchcalls_walk(
 {
     let given = walk(nodes, edges, root, leaf, address, out);
     written_number(given)
+}
+
+// Walks a batch of bit addresses from a root to a leaf and gives the answer as one number.
+#[no_mangle]
+pub extern "C" fn benchcalls_batch(
+    nodes: &[i64],
+    edges: &[i64],
+    root: i64,
+    leaf: i64,
+    addresses: &[i64],
+    out: &mut [i64],
+) -> i64
+    ensures returned { λ r. ⌜ r ≡ batched (batchGives (now (nodes .entry)) (now (edges .entry)) root leaf (now (addresses .entry)) (now (out .entry))) ⌝ }
+    ensures buffer { λ _. ⌜ now (out .exit) ≡ batchAfter (now (nodes .entry)) (now (edges .entry)) root leaf (now (addresses .entry)) (now (out .entry)) ⌝ }
+{
+    let given = batch(nodes, edges, root, leaf, addresses, out);
+    batched_number(given)
 }
 
 // Compares two graphs and gives the answer as one number.

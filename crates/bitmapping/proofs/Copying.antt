@@ -18,7 +18,7 @@ use Rattle.reach.proofs.Values.{values-length, values-at}
 use Rattle.normalisation.proofs.Normalising.{numbers-length}
 use Rattle.model.specs.Limits.{recordWidth}
 use Rattle.listing.specs.Listing.{bitRecord}
-use Rattle.bitmapping.specs.Checking.{spaced, Copied}
+use Rattle.bitmapping.specs.Copying.{spaced, Copied}
 
 -- ---- one by one
 

@@ -27,7 +27,7 @@ use Rattle.tables.proofs.Checks.{checked}
 use Rattle.bitmapping.specs.Promises as promises
 use Rattle.bitmapping.specs.Promises.{ListStands, ListPromise, Ascending, more, WalkStands, WalkPromise}
 use Rattle.asked.specs.Asking.{checkAsked}
-use Rattle.bitmapping.specs.Checking.{Copied}
+use Rattle.bitmapping.specs.Copying.{Copied}
 use Rattle.asked.proofs.Answers.{asked-tables, asked-leaf, single-refused, single-passes, single-given}
 
 -- the length of the output, and the numbers of the records, of an answer

@@ -4,7 +4,7 @@ ghost use mathlib.Core.List.{_++_};
 ghost use Prim.Native.Nat.{ℕ, _+_, _*_, _≤_, _<_};
 ghost use lib.ListN.{length, drop};
 ghost use Rattle.bitmapping.specs.Promises.{ListPromise, WalkPromise};
-ghost use Rattle.bitmapping.specs.Checking.{spaced, Copied};
+ghost use Rattle.bitmapping.specs.Copying.{spaced, Copied};
 use model::Checked;
 use model::MAX_NODES;
 use model::MAX_NUMBERS;

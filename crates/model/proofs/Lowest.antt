@@ -33,7 +33,7 @@ DifferAt l m x = (y : ℤ) × DifferOn l m x y
 -- ---- the test at one address
 
 -- hasBit decides whether the root bit is one of the record's, and so has the leaf bit that stands the displacement below it
-hasBit? : (x : ℤ) (r : Record) → Decides (Has r x (x -ℤ r .displacement)) (hasBit x r)
+pub hasBit? : (x : ℤ) (r : Record) → Decides (Has r x (x -ℤ r .displacement)) (hasBit x r)
 unfolding hasBit
 hasBit? x r = decides-as (λ p. has-at r x (p .0) (p .1), λ h. (h .above, h .below)) (decides-and (decides-le (r .first) x) (decides-le x (r .last)))
 

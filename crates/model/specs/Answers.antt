@@ -1,4 +1,4 @@
--- The number and the values that documents 01 and 02 give for each case of an answer. Every contract uses these. Assumes nothing.
+-- The number and the values that documents 01 and 02 give for each case of an answer. Every contract uses these; that of batch has its values in crate batches. Assumes nothing.
 use Prim.Native.Nat.{ℕ}
 use Rattle.model.specs.declared.Reason.{Reason}
 use Rattle.model.specs.declared.Reason.the-variants as reason

@@ -3,7 +3,7 @@ use mathlib.Core.Path.{_≡_, refl, sym, ap, _∙_}
 use mathlib.Core.List.{List, [], _∷_, _++_, map, append-nil, List·Memᴰ·head, Memᴰ·append-right}
 use Prim.Native.Nat.{ℕ, _+_, _-_, _*_, _≤_, _<_}
 use native.Mathlib.Omega.{arith}
-use lib.ListN.{length, take, length-map}
+use lib.ListN.{length, take, drop, length-map}
 use lib.IntN.{ℤ}
 use Rattle.lists.specs.Lists.{_∈_}
 use Rattle.lists.proofs.Membership.{map-in}
@@ -31,6 +31,10 @@ recordsOf-front {rs} t n e h =
 -- n records are read
 pub recordsOf-length : (t : List ℤ) (n : ℕ) → length (recordsOf t n) ≡ n
 recordsOf-length t n = length-map (rowsOf t n) ofRow ∙ rowsOf-length t n
+
+-- and from record i on n − i
+pub recordsFrom-length : (t : List ℤ) (i n : ℕ) → length (recordsFrom t i n) ≡ n - i
+recordsFrom-length t i n = length-map (rowsFrom t i n) ofRow ∙ rowsOf-length (drop (rowWidth * i) t) (n - i)
 
 -- the records from i on are record i and those behind it
 pub recordsFrom-more : (t : List ℤ) (i n : ℕ) → i < n → recordsFrom t i n ≡ recordAt t i ∷ recordsFrom t (i + 1) n

@@ -14,4 +14,4 @@ use Rattle.readings.specs.Batches.{AllSay, batchReadings}
 -- batches are answered so
 pub batch-readings-hold : AllSay batchReadings
 unfolding flatMap keep any all isNil nodesFrom edgesFrom graphOf node firstBit lastBit bitOffset empty whole shift clip across along leaving pathsWithin paths runs recordOf touch hull joined before place add normal listOf hasBit when _then_ firstOf checkShape isKind isUnit goodExtent goodNode checkNode isRow goodOffset goodEdge checkEdge each endingAt followed begins cyclic deep checkGraph isRoot isLeaf manyPaths checkNamed checkOutput checkSingle answer bufferAfter rowsIn batchRows batchNumbers batchOf checkBatch batchAnswer countsOf batchNumbersOf batchGives batchAfter
-batch-readings-hold = ((refl, refl), ((refl, refl), ((refl, refl), ((refl, refl), ((refl, refl), ((refl, refl), ((refl, refl), ((refl, refl), ((refl, refl), ((refl, refl), ((refl, refl), ((refl, refl), ((refl, refl), ((refl, refl), tt))))))))))))))
+batch-readings-hold = ((refl, refl), ((refl, refl), ((refl, refl), ((refl, refl), ((refl, refl), ((refl, refl), ((refl, refl), ((refl, refl), ((refl, refl), ((refl, refl), ((refl, refl), ((refl, refl), ((refl, refl), ((refl, refl), ((refl, refl), ((refl, refl), tt))))))))))))))))

@@ -1,8 +1,8 @@
 -- Readings of many addresses together (document 02, item 6), and its limits at both edges, as lists of cases. Assumes nothing.
 use mathlib.Core.Path.{_≡_}
-use mathlib.Core.List.{List, [], _∷_}
-use Prim.Native.Nat.{ℕ}
-use lib.IntN.{ℤ, pos, negsuc}
+use mathlib.Core.List.{List, [], _∷_, _++_}
+use Prim.Native.Nat.{ℕ, _-_, _^_}
+use lib.IntN.{ℤ, pos, negsuc, negℤ}
 use Rattle.model.specs.Calls.{Answer, full}
 use Rattle.batches.specs.Batch.{BatchCounts, batchGives, batchAfter}
 use Rattle.model.specs.Marked.{refusal, times}
@@ -54,12 +54,15 @@ batchReadings =
     batches twiceNodes twiceEdges (pos 0) (pos 1) (pos 63 ∷ pos 1 ∷ []) (nines 4) (counts 2 2) (pos 0 ∷ pos 63 ∷ pos 1 ∷ pos 1 ∷ []) ∷
     -- the last bit of a record has a row, and the bit past it none
     batches twiceNodes twiceEdges (pos 0) (pos 1) (pos 192 ∷ pos 191 ∷ []) (nines 2) (counts 1 2) (pos 1 ∷ pos 127 ∷ []) ∷
+    -- the lowest and the highest number of 64 bits are addresses that reach nothing
+    batches twiceNodes twiceEdges (pos 0) (pos 1) (negℤ (pos (2 ^ 63)) ∷ pos (2 ^ 63 - 1) ∷ []) (nines 1) (counts 0 2) (nines 1) ∷
     -- an empty batch has no row, and all records are read
     batches twiceNodes twiceEdges (pos 0) (pos 1) [] [] (counts 0 2) [] ∷
     -- a list without records: no row
     batches twiceNodes [] (pos 0) (pos 1) someAddresses (nines 2) (counts 0 0) (nines 2) ∷
     -- 512 addresses are taken, and 513 are not
     batches twiceNodes twiceEdges (pos 0) (pos 1) (times 512 (pos 255 ∷ [])) [] (counts 0 2) [] ∷
+    batches twiceNodes twiceEdges (pos 0) (pos 1) (times 511 (pos 255 ∷ []) ++ (pos 0 ∷ [])) (nines 2) (counts 1 2) (pos 511 ∷ pos 0 ∷ []) ∷
     batches twiceNodes twiceEdges (pos 0) (pos 1) (times 513 (pos 255 ∷ [])) (nines 1) (refusal 19 7 0) (nines 1) ∷
     -- 19 comes before the graph's checks: the node table is broken
     batches (pos 0 ∷ []) twiceEdges (pos 0) (pos 1) (times 512 (pos 255 ∷ [])) (nines 1) (refusal 1 0 0) (nines 1) ∷

@@ -20,7 +20,7 @@ use Rattle.model.proofs.Visits.{visits-in}
 use Rattle.model.proofs.GroupRows.{group-leaf}
 use Rattle.model.proofs.Taken.{shape-taken}
 use Rattle.tables.proofs.Rows.{node-own, edge-own, pair-own}
-use Rattle.refusals.specs.Small.{lastNumber, lastOfText, SmallRefusal, SmallCheck}
+use Rattle.refusals.specs.Small.{lastOfSheet, lastOfText, SmallRefusal, SmallCheck}
 
 -- ---- one check after the other
 
@@ -45,7 +45,7 @@ first-small check (x ∷ l) f =
     then-small (check x) (firstOf check l) (f x (List·Memᴰ·head refl)) (λ e. first-small check l (λ y m. f y (List·Memᴰ·tail m)))
 
 -- a refusal of the text check is small among all
-pub small-wide : {r : Refusal} → SmallRefusal lastOfText r → SmallRefusal lastNumber r
+pub small-wide : {r : Refusal} → SmallRefusal lastOfText r → SmallRefusal lastOfSheet r
 small-wide s = record { least = s .least; number = omega (arith, s .number); noCaller = s .noCaller; table = s .table; row = s .row }
 
 -- ---- rows

@@ -11,9 +11,12 @@ use Rattle.refusals.specs.declared.Refusal.{Refusal}
 abbrev pub refusalNumbers : Refusal → model.Refusal
 refusalNumbers r = record { number = r .number; table = r .table; row = r .row }
 
--- the highest number of a refusal, and of one that the text check gives
+-- the highest number of a refusal, of one that the reader of sheets gives, and of one that the text check gives
 abbrev pub lastNumber : ℕ
 lastNumber = 19
+
+abbrev pub lastOfSheet : ℕ
+lastOfSheet = 18
 
 abbrev pub lastOfText : ℕ
 lastOfText = 16

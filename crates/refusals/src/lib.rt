@@ -9,7 +9,7 @@ ghost use Rattle.model.specs.Calls.{refused};
 ghost use Rattle.model.specs.Report.{refusalReport};
 ghost use Rattle.model.specs.TextCheck.{coded};
 ghost use Rattle.report.specs.Put.{Put, refusalRoom};
-ghost use Rattle.refusals.specs.Small.{refusalNumbers, lastNumber, SmallRefusal};
+ghost use Rattle.refusals.specs.Small.{refusalNumbers, lastOfSheet, SmallRefusal};
 use model::OUTPUT;
 use model::Reason;
 use model::TEXT;
@@ -66,7 +66,7 @@ pub fn refusal_numbers(reason: Reason) -> Refusal
 
 // Writes what is printed for a refusal.
 pub fn put_reason(out: &mut [u8], reason: Reason) -> usize
-    requires { ⌜ (refusalRoom ≤ length (now out)) × SmallRefusal lastNumber (refusalOf reason) ⌝ }
+    requires { ⌜ (refusalRoom ≤ length (now out)) × SmallRefusal lastOfSheet (refusalOf reason) ⌝ }
     ensures { λ r. ⌜ Put (refusalReport (refusalOf reason)) (now (out .entry)) (now (out .exit)) r ⌝ }
 {
     let refusal = refusal_numbers(reason);
@@ -78,7 +78,7 @@ pub fn put_reason(out: &mut [u8], reason: Reason) -> usize
 
 // A refusal as one number.
 fn refusal_code(refusal: Refusal) -> usize
-    requires { ⌜ SmallRefusal lastNumber (refusalNumbers refusal) ⌝ }
+    requires { ⌜ SmallRefusal lastOfSheet (refusalNumbers refusal) ⌝ }
     ensures { λ r. ⌜ (pos r ≡ negℤ (coded (refused (refusalNumbers refusal)))) × (r < 2 ^ 63) ⌝ }
 {
     refusal.number * NUMBER_WEIGHT + refusal.table * TABLE_WEIGHT + refusal.row
@@ -86,7 +86,7 @@ fn refusal_code(refusal: Refusal) -> usize
 
 // The same below 0.
 pub fn negative_code(refusal: Refusal) -> i64
-    requires { ⌜ SmallRefusal lastNumber (refusalNumbers refusal) ⌝ }
+    requires { ⌜ SmallRefusal lastOfSheet (refusalNumbers refusal) ⌝ }
     ensures { λ r. ⌜ r ≡ coded (refused (refusalNumbers refusal)) ⌝ }
 {
     let code = refusal_code(refusal);

@@ -1,4 +1,5 @@
 // The calls under test that are about one graph, each held against what the walk by single addresses says.
+use crate::batched;
 use crate::records;
 use crate::records::List;
 use crate::records::Records;
@@ -27,9 +28,9 @@ use model::Written;
 // Addresses walked of each list, and those of them that lie outside every root.
 const ADDRESSES: usize = 10;
 
-const BELOW: i64 = -1;
+pub(crate) const BELOW: i64 = -1;
 
-const ABOVE: i64 = 36028797018963968;
+pub(crate) const ABOVE: i64 = 36028797018963968;
 
 // Bits of the smallest unit.
 const SMALLEST_UNIT: usize = 8;
@@ -277,7 +278,7 @@ fn try_list(
     tally::differs(counts, b": list\n");
 }
 
-// The list of a root and a leaf, and walks from some of its addresses. The reached set is left behind.
+// The list of a root and a leaf, and walks and batches from some of its addresses. The reached set is left behind.
 pub(crate) fn try_leaf(
     map: &Map,
     shape: Shape,
@@ -292,4 +293,5 @@ pub(crate) fn try_leaf(
     count_records(&found, count, rows::bit_count(map, leaf), counts);
     try_list(map, shape, root, leaf, &found, count, counts);
     try_walks(map, shape, root, leaf, reached, &found, count, counts);
+    batched::try_batches(map, shape, root, leaf, reached, &found, count, counts);
 }

@@ -16,7 +16,7 @@ pub(crate) const PARTIAL: usize = 1;
 pub(crate) const DIFFERENT: usize = 2;
 
 // Whether a leaf bit is among those of the root bit whose slots begin at `first`.
-fn has_bit(reached: &Reached, first: usize, bit: i64) -> bool {
+pub(crate) fn has_bit(reached: &Reached, first: usize, bit: i64) -> bool {
     for i in 0..SLOTS {
         if at(reached, sum(first, i)) == bit {
             return true;

@@ -18,82 +18,101 @@ pub(crate) const WALKS_OUTSIDE: usize = 5;
 
 pub(crate) const WALKS_TO_SEVERAL: usize = 6;
 
-pub(crate) const PAIRS: usize = 7;
+pub(crate) const BATCHES: usize = 7;
 
-pub(crate) const PAIRS_BOTH: usize = 8;
+pub(crate) const BATCH_ROWS: usize = 8;
+
+// Places of batches by their addresses.
+pub(crate) const PLACES_OUTSIDE: usize = 9;
+
+pub(crate) const PLACES_EARLIER: usize = 10;
+
+pub(crate) const PLACES_TO_SEVERAL: usize = 11;
+
+// Buffers that batches are tried with.
+pub(crate) const BUFFERS: usize = 12;
+
+pub(crate) const PAIRS: usize = 13;
+
+pub(crate) const PAIRS_BOTH: usize = 14;
 
 // Three verdicts each: pairs with records on both sides, pairs without, and maps.
-pub(crate) const VERDICTS_BOTH: usize = 9;
+pub(crate) const VERDICTS_BOTH: usize = 15;
 
-pub(crate) const VERDICTS_OTHER: usize = 12;
+pub(crate) const VERDICTS_OTHER: usize = 18;
 
-pub(crate) const VERDICTS_WHOLE: usize = 15;
+pub(crate) const VERDICTS_WHOLE: usize = 21;
 
 // Five styles of maps, and sixteen habits by which the implementation comes from the specification.
-pub(crate) const STYLES: usize = 18;
+pub(crate) const STYLES: usize = 24;
 
-pub(crate) const HABITS: usize = 23;
+pub(crate) const HABITS: usize = 29;
 
 // What maps and lists have in them.
-pub(crate) const MIXED_UNITS: usize = 39;
+pub(crate) const MIXED_UNITS: usize = 45;
 
-pub(crate) const SEVERAL_ROOTS: usize = 40;
+pub(crate) const SEVERAL_ROOTS: usize = 46;
 
-pub(crate) const SEVERAL_LEAVES: usize = 41;
+pub(crate) const SEVERAL_LEAVES: usize = 47;
 
-pub(crate) const LEAVES_WITH_BASE: usize = 42;
+pub(crate) const LEAVES_WITH_BASE: usize = 48;
 
-pub(crate) const DEAD_ENDS: usize = 43;
+pub(crate) const DEAD_ENDS: usize = 49;
 
-pub(crate) const NEGATIVE_OFFSETS: usize = 44;
+pub(crate) const NEGATIVE_OFFSETS: usize = 50;
 
-pub(crate) const PARALLEL_EDGES: usize = 45;
+pub(crate) const PARALLEL_EDGES: usize = 51;
 
-pub(crate) const ORDERS: usize = 46;
+pub(crate) const ORDERS: usize = 52;
 
-pub(crate) const NEGATIVE_DISPLACEMENTS: usize = 49;
+pub(crate) const NEGATIVE_DISPLACEMENTS: usize = 55;
 
-pub(crate) const LIKE_UNIT_OPEN: usize = 50;
+pub(crate) const LIKE_UNIT_OPEN: usize = 56;
 
-pub(crate) const UNLIKE_TOUCHING: usize = 51;
+pub(crate) const UNLIKE_TOUCHING: usize = 57;
 
-pub(crate) const UNLIKE_OVERLAPPING: usize = 52;
+pub(crate) const UNLIKE_OVERLAPPING: usize = 58;
 
-pub(crate) const CLIPPED_LOW: usize = 53;
+pub(crate) const CLIPPED_LOW: usize = 59;
 
-pub(crate) const CLIPPED_HIGH: usize = 54;
+pub(crate) const CLIPPED_HIGH: usize = 60;
 
-pub(crate) const CLIPPED_BOTH: usize = 55;
+pub(crate) const CLIPPED_BOTH: usize = 61;
 
 // Pairs by the banks of their groups: one at leaf bit 0, one moved, two, three, four or more.
-pub(crate) const ONE_BANK: usize = 56;
+pub(crate) const ONE_BANK: usize = 62;
 
-pub(crate) const ONE_MOVED: usize = 57;
+pub(crate) const ONE_MOVED: usize = 63;
 
-pub(crate) const TWO_BANKS: usize = 58;
+pub(crate) const TWO_BANKS: usize = 64;
 
-pub(crate) const THREE_BANKS: usize = 59;
+pub(crate) const THREE_BANKS: usize = 65;
 
-pub(crate) const MANY_BANKS: usize = 60;
+pub(crate) const MANY_BANKS: usize = 66;
 
 // Pairs of a group between whose leaf rows others stand.
-pub(crate) const ROWS_APART: usize = 61;
+pub(crate) const ROWS_APART: usize = 67;
 
 // Three verdicts on pairs of several banks with records on both sides, and ten arrangements of banks.
-pub(crate) const VERDICTS_BANKS: usize = 62;
+pub(crate) const VERDICTS_BANKS: usize = 68;
 
-pub(crate) const ARRANGEMENTS: usize = 65;
+pub(crate) const ARRANGEMENTS: usize = 71;
 
 // Pairings with faults, by the refusal.
-pub(crate) const REFUSED_NODES: usize = 75;
+pub(crate) const REFUSED_NODES: usize = 81;
 
-pub(crate) const REFUSED_AT: usize = 76;
+pub(crate) const REFUSED_AT: usize = 82;
 
-pub(crate) const REFUSED_TWICE: usize = 77;
+pub(crate) const REFUSED_TWICE: usize = 83;
 
-pub(crate) const DIFFERENCES: usize = 78;
+// Batches, by the refusal.
+pub(crate) const REFUSED_OUTPUT: usize = 84;
 
-pub(crate) const COUNTS: usize = 79;
+pub(crate) const REFUSED_BATCH: usize = 85;
+
+pub(crate) const DIFFERENCES: usize = 86;
+
+pub(crate) const COUNTS: usize = 87;
 
 pub(crate) type Counts = [usize; COUNTS];
 
@@ -195,6 +214,14 @@ fn print_calls(counts: &Counts) {
     );
 }
 
+fn print_batches(counts: &Counts) {
+    print_lines(
+        counts,
+        BATCHES,
+        b"batches\nrows of batches\nplaces of batches with an address outside the root\nplaces of batches with an address given earlier in the batch\nplaces of batches with several rows\nbuffers tried with batches\n",
+    );
+}
+
 fn print_verdicts(counts: &Counts) {
     print_lines(
         counts,
@@ -255,12 +282,13 @@ fn print_refusals(counts: &Counts) {
     print_lines(
         counts,
         REFUSED_NODES,
-        b"pairings refused with 7\npairings refused with 16\npairings refused with 8\ndifferences\n",
+        b"pairings refused with 7\npairings refused with 16\npairings refused with 8\nbuffers of batches refused with 11\nbatches refused with 19\ndifferences\n",
     );
 }
 
 pub(crate) fn print(counts: &Counts) {
     print_calls(counts);
+    print_batches(counts);
     print_verdicts(counts);
     print_styles(counts);
     print_habits(counts);

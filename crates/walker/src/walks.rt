@@ -57,7 +57,7 @@ fn moved(address: usize, offset: i64, unit: usize) -> usize {
 }
 
 // Whether an address lies between the first and the last bit of a node.
-fn lives(map: &Map, v: usize, address: usize) -> bool {
+pub(crate) fn lives(map: &Map, v: usize, address: usize) -> bool {
     if address < rows::first_bit(map, v) {
         return false;
     }

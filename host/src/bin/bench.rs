@@ -1,8 +1,8 @@
 //! Times the verified code beside the reference and the engine that propagates lists on
-//! the named maps and prints tables in markdown: the calls on one graph, the text check,
-//! the comparison on tables, the text check on texts made to be slow, the reading of address
-//! sheets, and the whole program with its start. The answers must agree. A last table has the
-//! stack that the text check takes.
+//! the named maps and prints tables in markdown: the calls on one graph, batches of addresses,
+//! the text check, the comparison on tables, the text check on texts made to be slow, the
+//! reading of address sheets, and the whole program with its start. The answers must agree.
+//! The last tables have the stack that the text check and a batch take.
 //!
 //! ```text
 //! bench [--long] [part of a map's name or of a table's title]
@@ -14,10 +14,10 @@
 //! where it is of one run.
 
 use host::hostile::{texts, Hostile};
-use host::large::{deep_maps, maps, singles, Call, Map, Single};
+use host::large::{batches, deep_maps, maps, singles, Batch, Call, Map, Single};
 use host::propagate;
-use host::reference::{check, compare_by, list, printed, text_check_by, walk, Listing, Refusal};
-use host::reference::{text_check, MAX_EDGES, MAX_NODES, REPORT_ROOM};
+use host::reference::{batch, check, compare_by, list, printed, text_check, text_check_by, walk};
+use host::reference::{BatchRows, Listing, Refusal, MAX_EDGES, MAX_NODES, REPORT_ROOM};
 use host::sheet::read_sheet;
 use host::sheet_texts::{sheets, Sheet};
 use std::ffi::c_long;
@@ -30,8 +30,8 @@ use std::time::Instant;
 /// In milliseconds. A run that takes longer than the first is not repeated.
 const ONE_RUN: f64 = 2_000.0;
 const ENOUGH: f64 = 700.0;
-const SHORTEST_BATCH: f64 = 2.0;
-const FEWEST_BATCHES: usize = 3;
+const SHORTEST_SERIES: f64 = 2.0;
+const FEWEST_SERIES: usize = 3;
 
 /// Maps whose text check is timed; the comparison on tables is timed on the others
 /// and on the first two.
@@ -50,12 +50,14 @@ const ALSO_AS_TABLES: usize = 2;
 
 /// The titles of the tables.
 const ONE_GRAPH: &str = "One graph";
+const BATCHES: &str = "Batches";
 const TEXT_CHECK: &str = "Text check";
 const COMPARISON: &str = "Comparison on tables";
 const HOSTILE: &str = "Texts made to be slow, one run each";
 const SHEETS: &str = "Sheets";
 const PROGRAM: &str = "Whole program, its start included";
 const STACK: &str = "Stack of the text check";
+const BATCH_STACK: &str = "Stack of a batch";
 
 /// Starts of the whole program for one figure, at least and at most.
 const FEWEST_STARTS: usize = 5;
@@ -72,8 +74,8 @@ fn now() -> f64 {
     unsafe { clock() as f64 / 1_000.0 }
 }
 
-/// Milliseconds for a batch of runs.
-fn batch<T>(runs: usize, run: &mut impl FnMut() -> T) -> f64 {
+/// Milliseconds for a series of runs.
+fn series<T>(runs: usize, run: &mut impl FnMut() -> T) -> f64 {
     let start = now();
     for _ in 0..runs {
         black_box(run());
@@ -84,21 +86,21 @@ fn batch<T>(runs: usize, run: &mut impl FnMut() -> T) -> f64 {
 /// Milliseconds for one run, the lowest of several.
 fn time<T>(mut run: impl FnMut() -> T) -> f64 {
     let begin = now();
-    let first = batch(1, &mut run);
+    let first = series(1, &mut run);
     if first > ONE_RUN {
         return first;
     }
-    // A run too short for the clock is timed in batches.
+    // A run too short for the clock is timed in series.
     let (mut runs, mut millis) = (1, first);
-    while millis < SHORTEST_BATCH {
+    while millis < SHORTEST_SERIES {
         runs *= 2;
-        millis = batch(runs, &mut run);
+        millis = series(runs, &mut run);
     }
     let mut lowest = millis;
-    let mut batches = 1;
-    while now() - begin < ENOUGH || batches < FEWEST_BATCHES {
-        lowest = lowest.min(batch(runs, &mut run));
-        batches += 1;
+    let mut timed = 1;
+    while now() - begin < ENOUGH || timed < FEWEST_SERIES {
+        lowest = lowest.min(series(runs, &mut run));
+        timed += 1;
     }
     lowest / runs as f64
 }
@@ -222,6 +224,55 @@ fn print_singles(graphs: &[Single]) {
         }
     }
     print_table(ONE_GRAPH, &["Call", "Map", "Proved", "Rust", "Proved / Rust"], &rows);
+}
+
+/// A batch by the reference, with room for all rows.
+fn rust_batch(batched: &Batch) -> BatchRows {
+    let Batch { graph: Single { nodes, edges, root, leaf, .. }, addresses } = batched;
+    batch(nodes, edges, *root, *leaf, addresses, usize::MAX).expect("the batch is taken")
+}
+
+/// A batch by the verified code, and a walk for each of its addresses.
+#[cfg(benchcalls_library)]
+fn time_batch(batched: &Batch, expected: BatchRows) -> [Option<f64>; 2] {
+    use host::library;
+    let Batch { graph: Single { nodes, edges, root, leaf, .. }, addresses } = batched;
+    let numbers = expected.rows.concat();
+    let mut out = vec![0; numbers.len()];
+    let mut answer = 0;
+    let together =
+        time(|| answer = library::batch(nodes, edges, *root, *leaf, addresses, &mut out));
+    assert!(out == numbers, "the rows differ");
+    let mut bits = vec![0; expected.records];
+    let mut walk = |&address| library::walk(nodes, edges, *root, *leaf, address, &mut bits);
+    let mut count = 0;
+    let singly = time(|| count = addresses.iter().map(&mut walk).sum());
+    assert_eq!(count, expected.rows.len() as i64, "the walks give other bits");
+    assert_eq!(answer, library::counts(&Ok(expected)), "the answers differ");
+    [Some(together), Some(singly)]
+}
+
+#[cfg(not(benchcalls_library))]
+fn time_batch(_batched: &Batch, _expected: BatchRows) -> [Option<f64>; 2] {
+    [None; 2]
+}
+
+/// Batches beside walks of the same addresses, and beside the reference.
+fn print_batches(batches: &[Batch]) {
+    let mut rows = Vec::new();
+    for batched in batches {
+        let expected = rust_batch(batched);
+        let counts = [batched.addresses.len(), expected.rows.len()].map(|count| count.to_string());
+        let mut row = vec![batched.graph.name.to_string()];
+        row.extend(counts);
+        let [together, singly] = time_batch(batched, expected);
+        let rust = Some(time(|| rust_batch(batched)));
+        row.extend([together, singly, rust].map(shown));
+        row.extend([ratio(singly, together), ratio(together, rust)]);
+        rows.push(row);
+    }
+    let names = ["List", "Addresses", "Rows", "Proved", "Proved by walks", "Rust"];
+    print_table(BATCHES, &[&names[..], &["By walks / proved", "Proved / Rust"]].concat(), &rows);
 }
 
 const COLUMNS: [&str; 7] = [
@@ -412,6 +463,29 @@ fn print_stack(maps: &[Map]) {
     print_table(STACK, &["Map", "Pairs", "Bytes of stack"], &rows);
 }
 
+/// Bytes of stack that the verified code takes for a batch.
+#[cfg(benchcalls_library)]
+fn stack_of_batch(batched: &Batch) -> Option<usize> {
+    let room = 2 * rust_batch(batched).rows.len();
+    Some(host::stack::of_batch(batched, &mut vec![0; room]))
+}
+
+#[cfg(not(benchcalls_library))]
+fn stack_of_batch(_batched: &Batch) -> Option<usize> {
+    None
+}
+
+/// The stack that batches take, which grows with the records of the list.
+fn print_batch_stack(batches: &[Batch]) {
+    let mut rows = Vec::new();
+    for batched in batches {
+        let stack = stack_of_batch(batched).map_or("-".to_string(), |bytes| bytes.to_string());
+        let count = batched.addresses.len().to_string();
+        rows.push(vec![batched.graph.name.to_string(), count, stack]);
+    }
+    print_table(BATCH_STACK, &["List", "Addresses", "Bytes of stack"], &rows);
+}
+
 /// Which maps are asked for, by a part of their names or of a table's title.
 struct Wanted {
     part: String,
@@ -421,6 +495,11 @@ struct Wanted {
 impl Wanted {
     fn has(&self, title: &str, name: &str) -> bool {
         title.contains(&self.part) || name.contains(&self.part)
+    }
+
+    /// Those of the batches that the table of that title has.
+    fn batches(&self, title: &str) -> Vec<Batch> {
+        batches().into_iter().filter(|batched| self.has(title, batched.graph.name)).collect()
     }
 
     /// Those of the maps that the table of that title has.
@@ -455,6 +534,7 @@ fn main() {
     );
     let graphs = singles().into_iter().filter(|graph| wanted.has(ONE_GRAPH, graph.name));
     print_singles(&graphs.collect::<Vec<_>>());
+    print_batches(&wanted.batches(BATCHES));
     print_texts(&wanted.among(TEXT_CHECK, maps()));
     print_tables(&wanted.among(COMPARISON, maps()));
     let slow = texts().into_iter().filter(|text| wanted.has(HOSTILE, &text.name));
@@ -463,4 +543,5 @@ fn main() {
     print_sheets(&sheets.collect::<Vec<_>>());
     print_programs(&wanted.among(PROGRAM, maps()));
     print_stack(&wanted.among(STACK, deep_maps()));
+    print_batch_stack(&wanted.batches(BATCH_STACK));
 }

@@ -5,18 +5,19 @@ use mathlib.Core.Logic.{inl, inr}
 use Prim.Native.Nat.{ℕ, _+_, _-_, _*_, _≤_, _<_}
 use native.Mathlib.Omega.{arith}
 use borrow.Author.Needs.{needs}
+use borrow.Author.Tests.{leb-true, leb-false}
 use lib.ListN.{length}
 use Rattle.model.specs.Limits.{maxPaths, maxBatch, batchWidth}
 use Rattle.model.specs.Bitmapping.{Record}
 use Rattle.batches.specs.Batch.{rowsIn, countsResult}
 use Rattle.normalisation.specs.Records.{recordAt, recordsFrom}
-use Rattle.normalisation.proofs.Records.{recordsFrom-more, recordsFrom-none, recordAt-in}
+use Rattle.normalisation.proofs.Records.{recordsFrom-length, recordsFrom-more, recordsFrom-none, recordAt-in}
 use Rattle.sorting.proofs.Halves.{part-length}
 use Rattle.verdicts.specs.Records.{asRecord}
 use Rattle.batches.proofs.Rows.{rows-few, batch-few}
 use Rattle.batchrows.specs.LeafBits.{LeafBitsFit}
 use Rattle.batchpass.specs.Passing.{PassedBehind}
-use Rattle.batchpass.proofs.Passing.{fit-true, fit-false, recordsFrom-length, passed-none, passed-length, passed-written, passed-short}
+use Rattle.batchpass.proofs.Passing.{passed-none, passed-length, passed-written, passed-short}
 use borrow.Fn.Kinds.{In}
 use borrow.Fn.PlainCycle.{Measures, is, falls, and}
 use Rattle.batchpass.proofs.pass_from.Reads as reads
@@ -130,7 +131,7 @@ module _ (t : ℕ) where
   room : (c : lts.Then2 (claims t) (at t) reads.Post) → let a = c .before .before .before in batchWidth * a .pass-from .result .rows ≤ length (start a .args .out .now)
   room c =
       let a = c .before .before .before in
-      omega (arith, fit-true _ (batchWidth * a .pass-from .result .rows) (sym (c .before .fit .ensures) ∙ c .if2 .taken), kept a)
+      omega (arith, leb-true (batchWidth * a .pass-from .result .rows) _ (sym (c .before .fit .ensures) ∙ c .if2 .taken), kept a)
 
   -- and so do those before and those of the record
   room-behind : (c : lts.Then2 (claims t) (at t) reads.Post) → let a = c .before .before .before in
@@ -175,7 +176,7 @@ module _ (t : ℕ) where
             let fits = room (record { before = j .before; if2 = w .0 }) in
             rw (list, w .4) (passed-written (read a) (s .args .before) (rest-passed a) fits (w .2 .ensures))
         | inr w ↦
-            let short = fit-false _ (batchWidth * a .pass-from .result .rows) (sym (j .before .fit .ensures) ∙ w .0 .left) in
+            let short = leb-false (batchWidth * a .pass-from .result .rows) _ (sym (j .before .fit .ensures) ∙ w .0 .left) in
             rw (list, w .1) (passed-short (read a) (s .args .before) (rest-passed a) (omega (arith, short, kept a)))
       ]
 
@@ -183,7 +184,7 @@ module _ (t : ℕ) where
   add-t11 c =
       let a = c .before .before .before .before in
       let s = start a in
-      omega (arith, a .pass-from .ensures .count, recordsFrom-length (s .args .list .now) (s .args .i + 1) (s .args .n), s .pre .1 .0 .few)
+      omega (arith, a .pass-from .ensures .records, recordsFrom-length (s .args .list .now) (s .args .i + 1) (s .args .n), s .pre .1 .0 .few)
 
   same-length : lts.Need-same-length (claims t) (at t) reads.Post
   same-length c = passed-length (passed (c .before))

@@ -3,13 +3,14 @@ use mathlib.Core.Path.{sym, _∙_}
 use Prim.Native.Nat.{_*_}
 use native.Mathlib.Omega.{arith}
 use borrow.Author.Needs.{needs}
+use borrow.Author.Tests.{leb-true, leb-false}
 use Rattle.model.specs.Limits.{batchWidth}
 use Rattle.batches.specs.Batch.{countsResult}
 use Rattle.normalisation.specs.Records.{recordsOf}
 use Rattle.normalisation.proofs.Records.{recordsOf-length, recordsFrom-start}
 use Rattle.batches.proofs.Rows.{batch-few}
 use Rattle.batchpass.specs.Passing.{PassedBehind}
-use Rattle.batchpass.proofs.Passing.{fit-true, fit-false, passed-length, passed-counts, passed-refused}
+use Rattle.batchpass.proofs.Passing.{passed-length, passed-counts, passed-refused}
 use Rattle.batchpass.proofs.pass.Statement.{statement}
 use Rattle.batchpass.proofs.pass.Tie as tie
 
@@ -28,13 +29,13 @@ fit-requires c κs =
 returns : tie.Need-returns
 returns c =
     let a = c .before .before .before in
-    let fits = fit-true _ (batchWidth * a .pass-from .result .rows) (sym (c .before .fit .ensures) ∙ c .if1 .taken) in
+    let fits = leb-true (batchWidth * a .pass-from .result .rows) _ (sym (c .before .fit .ensures) ∙ c .if1 .taken) in
     passed-counts (passed a) (omega (arith, fits, passed-length (passed a)))
 
 returns-2 : tie.Need-returns-2
 returns-2 c =
     let a = c .before .before .before in
-    let short = fit-false _ (batchWidth * a .pass-from .result .rows) (sym (c .before .fit .ensures) ∙ c .if1 .left) in
+    let short = leb-false (batchWidth * a .pass-from .result .rows) _ (sym (c .before .fit .ensures) ∙ c .if1 .left) in
     passed-refused (passed a) (omega (arith, short, passed-length (passed a)))
 
 pub pass-spec : {M : Type 1} → statement M

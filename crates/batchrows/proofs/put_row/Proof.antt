@@ -9,8 +9,8 @@ use borrow.Author.Needs.{needs}
 use Rattle.batchrows.proofs.put_row.Statement.{statement}
 use Rattle.batchrows.proofs.put_row.Tie as tie
 
-slice-set-from-leaf-bit : tie.Need-slice-set-from-leaf-bit
-slice-set-from-leaf-bit c = simp length-set (omega arith)
+slice-set-from-bit-number : tie.Need-slice-set-from-bit-number
+slice-set-from-bit-number c = simp length-set (omega arith)
 
 returns : tie.Need-returns
 returns c =
@@ -29,6 +29,6 @@ put-row-spec =
     (λ c. search needs)
     (λ c. search needs)
     (λ c. search needs)
-    slice-set-from-leaf-bit
+    slice-set-from-bit-number
     (λ c. search needs)
     returns)

@@ -13,9 +13,10 @@ use mir.Facts.{toZ-ofZ}
 use Rattle.model.specs.Limits.{batchWidth}
 use Rattle.model.specs.Verdicts.{hasBit}
 use Rattle.batches.specs.Batch.{batchNumbers}
+use Rattle.batches.specs.Buffers.{rowsOver}
 use Rattle.verdicts.specs.Records.{asRecord}
 use Rattle.batches.proofs.Rows.{rowOf, hasBit-true}
-use Rattle.batches.proofs.Turns.{rowsTo, rows-none, rows-all, rows-to-few, rows-hit, rows-miss, rows-hit-few, rows-part-few, rowsOver, over-length, over-more}
+use Rattle.batches.proofs.Turns.{rowsTo, rows-none, rows-all, rows-to-few, rows-hit, rows-miss, rows-hit-few, rows-part-few, over-length, over-more}
 use Rattle.batchrows.proofs.put_rows.Statement.{statement}
 use Rattle.batchrows.proofs.put_rows.Tie as tie
 

@@ -9,7 +9,7 @@ use Rattle.model.specs.Calls.{refused}
 use Rattle.model.specs.TextCheck.{coded}
 use Rattle.model.specs.Answers.{sheetReadAnswer}
 use Rattle.model.specs.declared.SheetRead.{SheetRead}
-use Rattle.refusals.specs.Small.{lastNumber, SmallAnswer}
+use Rattle.refusals.specs.Small.{lastOfSheet, SmallAnswer}
 use Rattle.benchcalls.specs.Summary.{tables}
 use Rattle.benchcalls.proofs.read_number.Statement.{statement}
 use Rattle.benchcalls.proofs.read_number.Tie as tie
@@ -17,7 +17,7 @@ use Rattle.benchcalls.proofs.read_number.Tie as tie
 negative-code-requires : tie.Need-negative-code-requires
 negative-code-requires c κs =
     let k = c .before .before in
-    rw (c .refusal-numbers .ensures) (subst (λ (x : SheetRead). SmallAnswer lastNumber (sheetReadAnswer x)) (k .read2 .given .1) (k .before .before .pre))
+    rw (c .refusal-numbers .ensures) (subst (λ (x : SheetRead). SmallAnswer lastOfSheet (sheetReadAnswer x)) (k .read2 .given .1) (k .before .before .pre))
 
 returns : tie.Need-returns
 unfolding tables

@@ -1,4 +1,4 @@
--- The number is at most 15, so that it fits, and its negation too.
+-- No number is above that of the last refusal, so that it fits, and its negation too.
 use mathlib.Core.Path.{ap, _∙_}
 use Prim.Native.Nat.{_<_, _^_}
 use native.Mathlib.Omega.{arith}

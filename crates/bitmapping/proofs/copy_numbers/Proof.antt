@@ -9,7 +9,7 @@ use lib.ListN.{length, getD, drop}
 use mir.Syntax.{w64}
 use mir.Facts.{toZ-ofZ}
 use Rattle.reach.specs.Counting.{valuesOf}
-use Rattle.bitmapping.specs.Checking.{spaced}
+use Rattle.bitmapping.specs.Copying.{spaced}
 use Rattle.bitmapping.proofs.Copying.{values-more, values-over}
 use Rattle.bitmapping.proofs.copy_numbers.Statement.{statement}
 use Rattle.bitmapping.proofs.copy_numbers.Tie as tie

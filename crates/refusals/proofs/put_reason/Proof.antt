@@ -2,12 +2,12 @@
 use mathlib.Core.Path.{sym, subst}
 use native.Mathlib.Omega.{arith}
 use borrow.Author.Needs.{needs}
-use Rattle.refusals.specs.Small.{refusalNumbers, lastNumber, SmallRefusal}
+use Rattle.refusals.specs.Small.{refusalNumbers, lastOfSheet, SmallRefusal}
 use Rattle.refusals.proofs.put_reason.Statement.{statement}
 use Rattle.refusals.proofs.put_reason.Tie as tie
 
-small : (n : tie.After-refusal-numbers) → SmallRefusal lastNumber (refusalNumbers (n .refusal-numbers .result))
-small n = subst (SmallRefusal lastNumber) (sym (n .refusal-numbers .ensures)) (n .before .before .pre .1)
+small : (n : tie.After-refusal-numbers) → SmallRefusal lastOfSheet (refusalNumbers (n .refusal-numbers .result))
+small n = subst (SmallRefusal lastOfSheet) (sym (n .refusal-numbers .ensures)) (n .before .before .pre .1)
 
 put-refusal-requires : tie.Need-put-refusal-requires
 put-refusal-requires c κs =

@@ -12,6 +12,7 @@ use Rattle.integers.proofs.Linear.{ints}
 use Rattle.lists.specs.Lists.{_∈_, keep, Distinct, none, more}
 use Rattle.lists.proofs.Membership.{keep-in, keep-out, map-in, map-out}
 use Rattle.lists.proofs.Distinct.{distinct-length, keep-distinct, map-distinct, flatMap-distinct}
+use Rattle.model.specs.declared.WalkKind.{WalkKind}
 use Rattle.model.specs.Graph.{Graph}
 use Rattle.model.specs.Walk.{Reached}
 use Rattle.model.specs.Bitmapping.{Record, Has, Ordered}
@@ -36,20 +37,20 @@ ascending-distinct : {l : List ℤ} → Ascending l → Distinct l
 ascending-distinct nil = none
 ascending-distinct (cons {x = x} low rest) = more (λ m. let h = low x m in omega (arith, ints)) (ascending-distinct rest)
 
-module _ {g : Graph} (r l : ℤ) (f : Fit g l) (xs : List ℤ) where
+module _ (kind : WalkKind) {g : Graph} (r l : ℤ) (f : Fit g l) (xs : List ℤ) where
   -- a row stands there for precisely the leaf bits that the single walk gives
-  pub batch-reached : (t : BatchRow) → t ∈ batchOf g r l xs ↔ ((t .place < length xs) × Reached g r l (getD xs (t .place) (pos 0)) (t .bit))
+  pub batch-reached : (t : BatchRow) → t ∈ batchOf kind g r l xs ↔ ((t .place < length xs) × Reached kind g r l (getD xs (t .place) (pos 0)) (t .bit))
   unfolding batchOf
   batch-reached t =
-      let have = batch-has (listOf g r l) xs t in
-      let same = list-reached {r = r} f (getD xs (t .place) (pos 0)) (t .bit) in
+      let have = batch-has (listOf kind g r l) xs t in
+      let same = list-reached {kind = kind} {r = r} f (getD xs (t .place) (pos 0)) (t .bit) in
       (λ m. let (h, k) = have .0 m in (h, same .1 k), λ (h, k). have .1 (h, same .0 k))
 
   -- each row stands there once: two records of a list that have a root bit with one leaf bit are one
-  pub batch-once : Distinct (batchOf g r l xs)
+  pub batch-once : Distinct (batchOf kind g r l xs)
   unfolding batchOf batchRows
   batch-once =
-      let list = list-of-reached {r = r} f in
+      let list = list-of-reached {kind = kind} {r = r} f in
       flatMap-distinct (λ s. rowsIn s 0 xs) (λ s. rows-distinct s 0 xs)
       (λ s u m n t i j.
       let v = rows-in s 0 xs t .0 i in
@@ -61,39 +62,39 @@ module _ {g : Graph} (r l : ℤ) (f : Fit g l) (xs : List ℤ) where
   -- the rows of one place
   module _ (p : ℕ) (h : p < length xs) where
     -- they have precisely the leaf bits that the address there reaches
-    bits-reached : (y : ℤ) → y ∈ bitsAt p (batchOf g r l xs) ↔ Reached g r l (getD xs p (pos 0)) y
+    bits-reached : (y : ℤ) → y ∈ bitsAt p (batchOf kind g r l xs) ↔ Reached kind g r l (getD xs p (pos 0)) y
     unfolding bitsAt
     bits-reached y = (
       λ m.
-          let (t, k, e) = map-out (λ (t : BatchRow). t .bit) (keep (λ t. eqb (t .place) p) (batchOf g r l xs)) m in
-          let (i, q) = keep-out (λ t. eqb (t .place) p) (batchOf g r l xs) k in
+          let (t, k, e) = map-out (λ (t : BatchRow). t .bit) (keep (λ t. eqb (t .place) p) (batchOf kind g r l xs)) m in
+          let (i, q) = keep-out (λ t. eqb (t .place) p) (batchOf kind g r l xs) k in
           let w = batch-reached t .0 i .1 in
-          subst (λ (z : ℤ). Reached g r l (getD xs p (pos 0)) z) (sym e) (subst (λ (k : ℕ). Reached g r l (getD xs k (pos 0)) (t .bit)) (eqb→eq (t .place) p q) w),
+          subst (λ (z : ℤ). Reached kind g r l (getD xs p (pos 0)) z) (sym e) (subst (λ (k : ℕ). Reached kind g r l (getD xs k (pos 0)) (t .bit)) (eqb→eq (t .place) p q) w),
       λ w. map-in (λ (t : BatchRow). t .bit) (keep-in (λ t. eqb (t .place) p) (eqb-refl p) (batch-reached (record { place = p; bit = y }) .1 (h, w))),
     )
 
     -- each once
-    bits-once : Distinct (bitsAt p (batchOf g r l xs))
+    bits-once : Distinct (bitsAt p (batchOf kind g r l xs))
     unfolding bitsAt
     bits-once =
-        let at : (t : BatchRow) → t ∈ keep (λ t. eqb (t .place) p) (batchOf g r l xs) → t .place ≡ p =
-        λ t m. eqb→eq (t .place) p (keep-out (λ t. eqb (t .place) p) (batchOf g r l xs) m .1) in
+        let at : (t : BatchRow) → t ∈ keep (λ t. eqb (t .place) p) (batchOf kind g r l xs) → t .place ≡ p =
+        λ t m. eqb→eq (t .place) p (keep-out (λ t. eqb (t .place) p) (batchOf kind g r l xs) m .1) in
         map-distinct (λ (t : BatchRow). t .bit) (λ t u m n e. row-same (at t m ∙ sym (at u n)) e) (keep-distinct (λ t. eqb (t .place) p) batch-once)
 
     -- in ascending order they are the leaf bits that walk writes
-    pub batch-walk : ascending (bitsAt p (batchOf g r l xs)) ≡ leafBits g r l (getD xs p (pos 0))
+    pub batch-walk : ascending (bitsAt p (batchOf kind g r l xs)) ≡ leafBits kind g r l (getD xs p (pos 0))
     batch-walk =
-        ascending-unique (ascending-ordered (bitsAt p (batchOf g r l xs))) (leafBits-ascending g r l (getD xs p (pos 0)))
-        (λ y. Iff·trans (ascending-members (bitsAt p (batchOf g r l xs))) (Iff·trans (bits-reached y) (Iff·symm (leafBits-reached f))))
+        ascending-unique (ascending-ordered (bitsAt p (batchOf kind g r l xs))) (leafBits-ascending kind g r l (getD xs p (pos 0)))
+        (λ y. Iff·trans (ascending-members (bitsAt p (batchOf kind g r l xs))) (Iff·trans (bits-reached y) (Iff·symm (leafBits-reached f))))
 
     -- and as many: the order loses none
-    pub batch-walk-length : length (bitsAt p (batchOf g r l xs)) ≡ length (leafBits g r l (getD xs p (pos 0)))
+    pub batch-walk-length : length (bitsAt p (batchOf kind g r l xs)) ≡ length (leafBits kind g r l (getD xs p (pos 0)))
     batch-walk-length =
-        let bits = bitsAt p (batchOf g r l xs) in
-        let walk = leafBits g r l (getD xs p (pos 0)) in
+        let bits = bitsAt p (batchOf kind g r l xs) in
+        let walk = leafBits kind g r l (getD xs p (pos 0)) in
         let same : (y : ℤ) → y ∈ bits ↔ y ∈ walk = λ y. Iff·trans (bits-reached y) (Iff·symm (leafBits-reached f)) in
         omega (
           arith,
           distinct-length bits-once walk (λ y m. same y .0 m),
-          distinct-length (ascending-distinct (leafBits-ascending g r l (getD xs p (pos 0)))) bits (λ y m. same y .1 m),
+          distinct-length (ascending-distinct (leafBits-ascending kind g r l (getD xs p (pos 0)))) bits (λ y m. same y .1 m),
         )

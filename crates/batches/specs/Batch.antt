@@ -8,6 +8,7 @@ use lib.Dec.{eqb, ltb}
 use lib.IntN.{ℤ, pos, _-ℤ_}
 use lib.ListN.{length}
 use Rattle.lists.specs.Lists.{keep}
+use Rattle.model.specs.declared.WalkKind.{WalkKind}
 use Rattle.model.specs.Limits.{maxBatch}
 use Rattle.model.specs.Graph.{Graph, graphOf}
 use Rattle.model.specs.Bitmapping.{Record}
@@ -46,9 +47,9 @@ batchNumbers (t ∷ ts) = pos (t .place) ∷ t .bit ∷ batchNumbers ts
 unfoldable pub bitsAt : ℕ → List BatchRow → List ℤ
 bitsAt p ts = map (λ t. t .bit) (keep (λ t. eqb (t .place) p) ts)
 
--- the rows of a root and a leaf, for a batch
-unfoldable pub batchOf : Graph → ℤ → ℤ → List ℤ → List BatchRow
-batchOf g r l xs = batchRows (listOf g r l) xs
+-- the rows of a root and a leaf for walks of this kind, for a batch
+unfoldable pub batchOf : WalkKind → Graph → ℤ → ℤ → List ℤ → List BatchRow
+batchOf kind g r l xs = batchRows (listOf kind g r l) xs
 
 -- ---- refusals: 19 for more than 512 addresses, before the graph's checks; then those of list, for the length of the rows' numbers
 
@@ -61,10 +62,10 @@ checkBatch ns es r l xs output room = when (ltb maxBatch (length xs)) 19 7 0 the
 
 -- ---- the call
 
--- the rows of batch xs from root r to leaf l, whose numbers fit into a buffer with room for so many numbers
-unfoldable pub batchAnswer : List ℤ → List ℤ → ℤ → ℤ → List ℤ → ℕ → Answer (List BatchRow)
-batchAnswer ns es r l xs room =
-    answer (checkBatch ns es r l xs (length (batchNumbers (batchOf (graphOf ns es) r l xs))) room) (batchOf (graphOf ns es) r l xs)
+-- the rows of batch xs from root r to leaf l for walks of this kind, whose numbers fit into a buffer with room for so many numbers
+unfoldable pub batchAnswer : WalkKind → List ℤ → List ℤ → ℤ → ℤ → List ℤ → ℕ → Answer (List BatchRow)
+batchAnswer kind ns es r l xs room =
+    answer (checkBatch ns es r l xs (length (batchNumbers (batchOf kind (graphOf ns es) r l xs))) room) (batchOf kind (graphOf ns es) r l xs)
 
 -- how many rows there are, and how many records were read for them
 pub record BatchCounts : Type 0 where
@@ -81,13 +82,13 @@ unfoldable pub batchNumbersOf : Answer (List BatchRow) → Answer (List ℤ)
 batchNumbersOf (refused r) = refused r
 batchNumbersOf (full ts) = full (batchNumbers ts)
 
--- what the call returns: how many rows there are, and as many records as the list has
-unfoldable pub batchGives : List ℤ → List ℤ → ℤ → ℤ → List ℤ → List ℤ → Answer BatchCounts
-batchGives ns es r l xs buffer = countsOf (length (listOf (graphOf ns es) r l)) (batchAnswer ns es r l xs (length buffer))
+-- what the call for walks of this kind returns: how many rows there are, and as many records as the list has
+unfoldable pub batchGives : WalkKind → List ℤ → List ℤ → ℤ → ℤ → List ℤ → List ℤ → Answer BatchCounts
+batchGives kind ns es r l xs buffer = countsOf (length (listOf kind (graphOf ns es) r l)) (batchAnswer kind ns es r l xs (length buffer))
 
 -- what its buffer holds afterwards
-unfoldable pub batchAfter : List ℤ → List ℤ → ℤ → ℤ → List ℤ → List ℤ → List ℤ
-batchAfter ns es r l xs buffer = bufferAfter (batchNumbersOf (batchAnswer ns es r l xs (length buffer))) buffer
+unfoldable pub batchAfter : WalkKind → List ℤ → List ℤ → ℤ → ℤ → List ℤ → List ℤ → List ℤ
+batchAfter kind ns es r l xs buffer = bufferAfter (batchNumbersOf (batchAnswer kind ns es r l xs (length buffer))) buffer
 
 -- ---- the cases of the answer that the code gives
 

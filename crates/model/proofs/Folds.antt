@@ -11,7 +11,8 @@ use lib.ListN.{length}
 use Rattle.integers.proofs.Tests.{Test, passed, failed, eq?}
 use Rattle.lists.specs.Lists.{_∈_}
 use Rattle.lists.proofs.Membership.{map-in, map-out}
-use Rattle.model.specs.Compare.{Finding, verdictOf, count, largest, firstUnequal, placeOf, nowhere, resultOf}
+use Rattle.model.specs.declared.WalkKind.the-variants.{Reading, Writing}
+use Rattle.model.specs.Compare.{Finding, kindVerdict, verdictOf, count, largest, firstUnequal, placeOf, nowhere, resultOf}
 use Rattle.model.proofs.Verdicts.{verdict-range}
 
 -- four counts together are as many as the numbers, where none is above 3
@@ -45,8 +46,8 @@ counts-total vs h =
 
 -- no verdict is above 2
 pub verdict-low : (f : Finding) → verdictOf f ≤ 2
-unfolding verdictOf
-verdict-low f = verdict-range (f .spec) (f .impl)
+unfolding verdictOf kindVerdict
+verdict-low f = omega (arith, verdict-range (f .spec Reading) (f .impl Reading), verdict-range (f .spec Writing) (f .impl Writing))
 
 largest-low : (vs : List ℕ) → ((v : ℕ) → v ∈ vs → v ≤ 2) → largest vs ≤ 2
 unfolding largest

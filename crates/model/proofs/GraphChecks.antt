@@ -16,10 +16,10 @@ use Rattle.integers.proofs.Tests.{Test, le?, lt?, eqZ?, eq?}
 use Rattle.lists.specs.Lists.{_∈_}
 use Rattle.model.specs.Limits.{nodeWidth, edgeWidth, maxNodes, maxEdges, maxUnits}
 use Rattle.model.specs.Rows.{Node, Edge, nodeRows, edgeRows}
-use Rattle.model.specs.Graph.{Graph, graphOf, NodeRow, node, space, segment, block}
+use Rattle.model.specs.Graph.{Graph, graphOf, NodeRow, node, space, segment, block, readWrite, readOnly, writeOnly}
 use Rattle.model.specs.Paths.{Root, Leaf, Cycle, LongChain}
-use Rattle.model.specs.Refusals.{Condition, NoneHolds, refuse, _next_, BadShape, broken, tooMany, Kind, AddressUnit, HighEnd, LowOffset, HighOffset, BadNode, unknownKind, unknownUnit, lowBase, lowRange, highEnd, BadEdge, noFrom, noTo, lowOffset, highOffset, shapeConditions, nodeConditions, edgeConditions, rowConditions, graphConditions, checkConditions}
-use Rattle.model.specs.Checks.{when, _then_, firstOf, checkShape, isKind, isUnit, goodExtent, goodNode, checkNode, isRow, goodOffset, goodEdge, checkEdge, cyclic, deep, checkGraph, isRoot, isLeaf}
+use Rattle.model.specs.Refusals.{Condition, NoneHolds, refuse, _next_, BadShape, broken, tooMany, Kind, AddressUnit, Access, HighEnd, LowOffset, HighOffset, BadNode, unknownKind, unknownUnit, unknownAccess, lowBase, lowRange, highEnd, BadEdge, noFrom, noTo, lowOffset, highOffset, shapeConditions, nodeConditions, edgeConditions, rowConditions, graphConditions, checkConditions}
+use Rattle.model.specs.Checks.{when, _then_, firstOf, checkShape, isKind, isUnit, isAccess, goodExtent, goodNode, checkNode, isRow, goodOffset, goodEdge, checkEdge, cyclic, deep, checkGraph, isRoot, isLeaf}
 use Rattle.model.specs.Calls.{checkAnswer}
 use Rattle.lists.proofs.Decisions.{Decides, test-map, not?, and?, decides-as, decides-and, decides-le, any?, test-stable, decides-not, decides-or, or-regroup, decides-lt}
 use Rattle.model.proofs.Settled.{Settled, settled-next, settled-when, settled-each, none-flatMap, Exact, answer-exact}
@@ -64,6 +64,12 @@ isUnit? u =
     (decides-or (eqZ? u (pos 8))
     (decides-or (eqZ? u (pos 16)) (decides-or (eqZ? u (pos 32)) (decides-or (eqZ? u (pos 64)) (eqZ? u (pos 128))))))))
 
+-- the test on an access
+pub isAccess? : (a : ℤ) → Decides (Access a) (isAccess a)
+unfolding isAccess
+isAccess? a =
+    or-regroup (eqZ a readWrite) (eqZ a readOnly) (eqZ a writeOnly) (decides-or (eqZ? a readWrite) (decides-or (eqZ? a readOnly) (eqZ? a writeOnly)))
+
 -- base and range keep their limits
 abbrev pub GoodExtent : Node → Type 0
 GoodExtent n = ((pos 0 ≤ℤ n .base) × (pos 1 ≤ℤ n .range)) × ((n .base +ℤ n .range) ≤ℤ pos maxUnits)
@@ -81,19 +87,21 @@ extent? n = and? (and? (le? (pos 0) (n .base)) (le? (pos 1) (n .range))) (le? (n
 pub node? : (n : Node) → Decides (BadNode n) (not (goodNode n))
 unfolding goodNode
 node? n =
-    let named = and? (isKind? (n .kind)) (isUnit? (n .unit)) in
+    let named = and? (and? (isKind? (n .kind)) (isUnit? (n .unit))) (isAccess? (n .access)) in
     test-map bad good (not? (and? named (extent? n)))
   where
-    bad : ((Kind (n .kind) → ⊥) ⊎ (AddressUnit (n .unit) → ⊥)) ⊎ BadExtent n → BadNode n
-    bad (inl (inl k)) = unknownKind k
-    bad (inl (inr u)) = unknownUnit u
+    bad : (((Kind (n .kind) → ⊥) ⊎ (AddressUnit (n .unit) → ⊥)) ⊎ (Access (n .access) → ⊥)) ⊎ BadExtent n → BadNode n
+    bad (inl (inl (inl k))) = unknownKind k
+    bad (inl (inl (inr u))) = unknownUnit u
+    bad (inl (inr a)) = unknownAccess a
     bad (inr (inl (inl h))) = lowBase h
     bad (inr (inl (inr h))) = lowRange h
     bad (inr (inr h)) = highEnd h
 
-    good : (Kind (n .kind) × AddressUnit (n .unit)) × GoodExtent n → BadNode n → ⊥
-    good p (unknownKind k) = k (p .0 .0)
-    good p (unknownUnit u) = u (p .0 .1)
+    good : ((Kind (n .kind) × AddressUnit (n .unit)) × Access (n .access)) × GoodExtent n → BadNode n → ⊥
+    good p (unknownKind k) = k (p .0 .0 .0)
+    good p (unknownUnit u) = u (p .0 .0 .1)
+    good p (unknownAccess a) = a (p .0 .1)
     good p (lowBase h) = omega (arith, ints, p .1 .0 .0)
     good p (lowRange h) = omega (arith, ints, p .1 .0 .1)
     good p (highEnd h) = omega (arith, ints, p .1 .1)

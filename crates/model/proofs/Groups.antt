@@ -11,15 +11,17 @@ use lib.ListN.{length, length-append, length-map}
 use Rattle.integers.proofs.Linear.{ints, sum, diff}
 use Rattle.lists.specs.Lists.{_∈_}
 use Rattle.lists.proofs.Membership.{map-in, map-out, flatMap-in, flatMap-out}
+use Rattle.model.specs.declared.WalkKind.{WalkKind}
 use Rattle.model.specs.Rows.{Edge}
 use Rattle.model.specs.Graph.{Graph, node}
 use Rattle.model.specs.Walk.{Reached}
 use Rattle.model.specs.Bitmapping.{Record, Has, IsListOf}
 use Rattle.model.specs.Runs.{paths, runs, recordOf, normal, listOf}
 use Rattle.model.specs.Groups.{Bank, BankReached, GroupReached, raisedBy, bankRecords, groupList, groupPaths}
+use Rattle.model.specs.Taken.{AllOpen}
 use Rattle.model.proofs.Paths.{Fit}
 use Rattle.model.proofs.Records.{record-path}
-use Rattle.model.proofs.Walks.{runs-reached, runs-full, runs-within-paths}
+use Rattle.model.proofs.Walks.{reached-any, runs-reached, runs-full, runs-within-paths}
 use Rattle.model.proofs.Uniqueness.{list-of-same, list-unique}
 use Rattle.model.proofs.Normalisation.{normal-list, normal-length}
 use Rattle.model.proofs.Lowest.{HasSome}
@@ -67,60 +69,68 @@ raised-none (s ∷ l) = ap₂ (λ (x : Record) (z : List Record). x ∷ z) (rais
 -- ---- what is reached
 
 -- a leaf bit of the group is reached in a bank exactly where the bank's leaf bit that much lower is
-pub bank-lower : {g : Graph} {r : ℤ} (b : Bank) (x y : ℤ) → Reached g r (b .leaf) x (y -ℤ b .at) ↔ BankReached g r b x y
-bank-lower {g} {r} b x y = (
+pub bank-lower : {kind : WalkKind} {g : Graph} {r : ℤ} (b : Bank) (x y : ℤ) → Reached kind g r (b .leaf) x (y -ℤ b .at) ↔ BankReached kind g r b x y
+bank-lower {kind} {g} {r} b x y = (
   λ h. record { bit = y -ℤ b .at; reached = h; raised = omega (arith, ints, diff y (b .at), sum (y -ℤ b .at) (b .at)) },
   λ h.
       let e : h .bit ≡ y -ℤ b .at = omega (arith, ints, h .raised, sum (h .bit) (b .at), diff y (b .at)) in
-      subst (λ (z : ℤ). Reached g r (b .leaf) x z) e (h .reached),
+      subst (λ (z : ℤ). Reached kind g r (b .leaf) x z) e (h .reached),
 )
 
 -- with one more bank, what is reached in the banks so far and what is reached in it
-pub group-more : {g : Graph} {r : ℤ} (bs : List Bank) (b : Bank) (x y : ℤ) → (GroupReached g r bs x y ⊎ BankReached g r b x y) ↔ GroupReached g r (bs ++ (b ∷ [])) x y
-group-more {g} {r} bs b x y = (
+pub group-more : {kind : WalkKind} {g : Graph} {r : ℤ} (bs : List Bank) (b : Bank) (x y : ℤ) → (GroupReached kind g r bs x y ⊎ BankReached kind g r b x y) ↔ GroupReached kind g r (bs ++ (b ∷ [])) x y
+group-more {kind} {g} {r} bs b x y = (
   ⊎-elim (λ (c, m, h). (c, Memᴰ·append-left (b ∷ []) m, h)) (λ h. (b, Memᴰ·append-right bs (List·Memᴰ·head refl), h)),
-  λ (c, m, h). ⊎-elim (λ k. inl (c, k, h)) (λ k. inr (subst (λ (d : Bank). BankReached g r d x y) (List·Memᴰ·eq-of-singleton k) h)) (List·Memᴰ·append-cases bs m),
+  λ (c, m, h). ⊎-elim (λ k. inl (c, k, h)) (λ k. inr (subst (λ (d : Bank). BankReached kind g r d x y) (List·Memᴰ·eq-of-singleton k) h)) (List·Memᴰ·append-cases bs m),
 )
 
 -- the records of a bank have exactly what is reached there
-bank-reached : {g : Graph} {r : ℤ} (b : Bank) → Fit g (b .leaf) → (x y : ℤ) → HasSome (bankRecords g r b) x y ↔ BankReached g r b x y
+bank-reached : {kind : WalkKind} {g : Graph} {r : ℤ} (b : Bank) → Fit g (b .leaf) → (x y : ℤ) → HasSome (bankRecords kind g r b) x y ↔ BankReached kind g r b x y
 unfolding bankRecords
-bank-reached {g} {r} b f x y =
-    Iff·trans (raised-some (b .at) (map (recordOf (node g (b .leaf))) (runs g r (b .leaf))) x y)
+bank-reached {kind} {g} {r} b f x y =
+    Iff·trans (raised-some (b .at) (map (recordOf (node g (b .leaf))) (runs kind g r (b .leaf))) x y)
     (Iff·trans (Iff·symm (runs-reached f x (y -ℤ b .at))) (bank-lower b x y))
 
 -- those of the banks have exactly what is reached in the group
-group-reached : {g : Graph} {r : ℤ} (bs : List Bank) → ((b : Bank) → b ∈ bs → Fit g (b .leaf)) → (x y : ℤ)
-    → HasSome (flatMap (bankRecords g r) bs) x y ↔ GroupReached g r bs x y
-group-reached {g} {r} bs f x y = (
-  λ (s, m, h). let (b, n, k) = flatMap-out (bankRecords g r) bs m in (b, n, bank-reached b (f b n) x y .0 (s, k, h)),
-  λ (b, m, h). let (s, n, k) = bank-reached b (f b m) x y .1 h in (s, flatMap-in (bankRecords g r) m n, k),
+group-reached : {kind : WalkKind} {g : Graph} {r : ℤ} (bs : List Bank) → ((b : Bank) → b ∈ bs → Fit g (b .leaf)) → (x y : ℤ)
+    → HasSome (flatMap (bankRecords kind g r) bs) x y ↔ GroupReached kind g r bs x y
+group-reached {kind} {g} {r} bs f x y = (
+  λ (s, m, h). let (b, n, k) = flatMap-out (bankRecords kind g r) bs m in (b, n, bank-reached b (f b n) x y .0 (s, k, h)),
+  λ (b, m, h). let (s, n, k) = bank-reached b (f b m) x y .1 h in (s, flatMap-in (bankRecords kind g r) m n, k),
 )
 
 -- none of them is empty
-banks-full : (g : Graph) (r : ℤ) (bs : List Bank) (s : Record) → s ∈ flatMap (bankRecords g r) bs → s .first ≤ℤ s .last
+banks-full : (kind : WalkKind) (g : Graph) (r : ℤ) (bs : List Bank) (s : Record) → s ∈ flatMap (bankRecords kind g r) bs → s .first ≤ℤ s .last
 unfolding bankRecords
-banks-full g r bs s m =
-    let (b, n, k) = flatMap-out (bankRecords g r) bs m in
-    raised-full (b .at) (map (recordOf (node g (b .leaf))) (runs g r (b .leaf))) (runs-full g r (b .leaf)) s k
+banks-full kind g r bs s m =
+    let (b, n, k) = flatMap-out (bankRecords kind g r) bs m in
+    raised-full (b .at) (map (recordOf (node g (b .leaf))) (runs kind g r (b .leaf))) (runs-full kind g r (b .leaf)) s k
 
 -- ---- the list of a group
 
 -- it is the list of the joined sets
-pub group-list : {g : Graph} {r : ℤ} (bs : List Bank) → ((b : Bank) → b ∈ bs → Fit g (b .leaf)) → IsListOf (GroupReached g r bs) (groupList g r bs)
+pub group-list : {kind : WalkKind} {g : Graph} {r : ℤ} (bs : List Bank) → ((b : Bank) → b ∈ bs → Fit g (b .leaf)) → IsListOf (GroupReached kind g r bs) (groupList kind g r bs)
 unfolding groupList
-group-list {g} {r} bs f = list-of-same (group-reached bs f) (normal-list (flatMap (bankRecords g r) bs) (banks-full g r bs))
+group-list {kind} {g} {r} bs f = list-of-same (group-reached bs f) (normal-list (flatMap (bankRecords kind g r) bs) (banks-full kind g r bs))
 
 -- there is no other
-pub group-only : {g : Graph} {r : ℤ} (bs : List Bank) → ((b : Bank) → b ∈ bs → Fit g (b .leaf)) → {l : List Record} → IsListOf (GroupReached g r bs) l
-    → l ≡ groupList g r bs
+pub group-only : {kind : WalkKind} {g : Graph} {r : ℤ} (bs : List Bank) → ((b : Bank) → b ∈ bs → Fit g (b .leaf)) → {l : List Record} → IsListOf (GroupReached kind g r bs) l
+    → l ≡ groupList kind g r bs
 group-only bs f h = list-unique h (group-list bs f)
 
+-- where every node may be read and written, both kinds have one list
+pub group-any : (kind other : WalkKind) {g : Graph} (r : ℤ) (bs : List Bank) → ((b : Bank) → b ∈ bs → Fit g (b .leaf)) → AllOpen g
+    → groupList kind g r bs ≡ groupList other g r bs
+group-any kind other {g} r bs f all = list-unique (list-of-same (λ x y. (over other x y, over kind x y)) (group-list bs f)) (group-list bs f)
+  where
+    over : {from : WalkKind} (to : WalkKind) (x y : ℤ) → GroupReached from g r bs x y → GroupReached to g r bs x y
+    over to x y (b, m, h) = (b, m, record { bit = h .bit; reached = reached-any to all (h .reached); raised = h .raised })
+
 -- that of one bank which begins at 0 is the list of its leaf
-pub group-one : (g : Graph) (r l : ℤ) → groupList g r (record { leaf = l; at = pos 0 } ∷ []) ≡ listOf g r l
+pub group-one : (kind : WalkKind) (g : Graph) (r l : ℤ) → groupList kind g r (record { leaf = l; at = pos 0 } ∷ []) ≡ listOf kind g r l
 unfolding groupList bankRecords flatMap listOf
-group-one g r l =
-    let records = map (recordOf (node g l)) (runs g r l) in
+group-one kind g r l =
+    let records = map (recordOf (node g l)) (runs kind g r l) in
     ap normal (append-nil (map (raisedBy (pos 0)) records) ∙ raised-none records)
 
 -- ---- paths
@@ -139,22 +149,22 @@ group-paths-more g r (c ∷ bs) b =
     omega (arith, length-append (paths g r (c .leaf)) (to (bs ++ (b ∷ []))), length-append (paths g r (c .leaf)) (to bs), group-paths-more g r bs b)
 
 -- the banks have no more records than paths lead to them
-banks-within-paths : (g : Graph) (r : ℤ) (bs : List Bank) → length (flatMap (bankRecords g r) bs) ≤ groupPaths g r bs
+banks-within-paths : (kind : WalkKind) (g : Graph) (r : ℤ) (bs : List Bank) → length (flatMap (bankRecords kind g r) bs) ≤ groupPaths g r bs
 unfolding groupPaths flatMap bankRecords
-banks-within-paths g r [] = omega arith
-banks-within-paths g r (b ∷ bs) =
-    let records = map (recordOf (node g (b .leaf))) (runs g r (b .leaf)) in
+banks-within-paths kind g r [] = omega arith
+banks-within-paths kind g r (b ∷ bs) =
+    let records = map (recordOf (node g (b .leaf))) (runs kind g r (b .leaf)) in
     omega (
       arith,
-      length-append (bankRecords g r b) (flatMap (bankRecords g r) bs),
+      length-append (bankRecords kind g r b) (flatMap (bankRecords kind g r) bs),
       length-append (paths g r (b .leaf)) (flatMap (paths g r) (map (λ (d : Bank). d .leaf) bs)),
       length-map records (raisedBy (b .at)),
-      length-map (runs g r (b .leaf)) (recordOf (node g (b .leaf))),
-      runs-within-paths g r (b .leaf),
-      banks-within-paths g r bs,
+      length-map (runs kind g r (b .leaf)) (recordOf (node g (b .leaf))),
+      runs-within-paths kind g r (b .leaf),
+      banks-within-paths kind g r bs,
     )
 
 -- the list of a group has no more records than paths lead to its banks
-pub group-list-few : (g : Graph) (r : ℤ) (bs : List Bank) → length (groupList g r bs) ≤ groupPaths g r bs
+pub group-list-few : (kind : WalkKind) (g : Graph) (r : ℤ) (bs : List Bank) → length (groupList kind g r bs) ≤ groupPaths g r bs
 unfolding groupList
-group-list-few g r bs = omega (arith, normal-length (flatMap (bankRecords g r) bs), banks-within-paths g r bs)
+group-list-few kind g r bs = omega (arith, normal-length (flatMap (bankRecords kind g r) bs), banks-within-paths kind g r bs)

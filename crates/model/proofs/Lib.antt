@@ -7,6 +7,7 @@ pub mod Records
 pub mod Uniqueness
 pub mod Normalisation
 pub mod Verdicts
+pub mod BothKinds
 pub mod Lowest
 pub mod Containment
 pub mod ListLaw

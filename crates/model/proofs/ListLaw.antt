@@ -5,14 +5,16 @@ use mathlib.Core.List.{List, map, List·Memᴰ·head, List·Memᴰ·tail}
 use mathlib.Core.Logic.{_↔_, Iff·trans, Iff·symm}
 use lib.IntN.{ℤ, _-ℤ_, _*ℤ_}
 use Rattle.lists.specs.Lists.{_∈_}
+use Rattle.model.specs.declared.WalkKind.{WalkKind}
 use Rattle.model.specs.Rows.{Node, Edge}
 use Rattle.model.specs.Graph.{Graph, node, firstBit, bitOffset}
 use Rattle.model.specs.Walk.{StandsOn, Reached}
 use Rattle.model.specs.Paths.{Way, stay, over}
 use Rattle.model.specs.Bitmapping.{Record, IsListOf, IsBitmappingList}
 use Rattle.model.specs.Runs.{runs, recordOf, listOf}
+use Rattle.model.specs.Taken.{AllOpen}
 use Rattle.model.proofs.Paths.{Fit}
-use Rattle.model.proofs.Walks.{Along, halt, pass, walk-route, route-walk, runs-reached, runs-full}
+use Rattle.model.proofs.Walks.{Along, halt, pass, walk-route, route-walk, reached-any, runs-reached, runs-full}
 use Rattle.model.proofs.Uniqueness.{list-of-same, list-unique}
 use Rattle.model.proofs.Normalisation.{normal-list}
 use Rattle.model.proofs.Lowest.{HasSome}
@@ -33,23 +35,27 @@ lists-same {S} {S′} {l} {m} h k = (
 -- ---- the list of a root and a leaf
 
 -- the computed list is the bitmapping list
-pub list-of-reached : {g : Graph} {r l : ℤ} → Fit g l → IsBitmappingList g r l (listOf g r l)
+pub list-of-reached : {kind : WalkKind} {g : Graph} {r l : ℤ} → Fit g l → IsBitmappingList kind g r l (listOf kind g r l)
 unfolding listOf
-list-of-reached {g} {r} {l} f =
-    list-of-same (λ x y. Iff·symm (runs-reached f x y)) (normal-list (map (recordOf (node g l)) (runs g r l)) (runs-full g r l))
+list-of-reached {kind} {g} {r} {l} f =
+    list-of-same (λ x y. Iff·symm (runs-reached f x y)) (normal-list (map (recordOf (node g l)) (runs kind g r l)) (runs-full kind g r l))
 
 -- there is no other
-pub list-only : {g : Graph} {r l : ℤ} {m : List Record} → Fit g l → IsBitmappingList g r l m → m ≡ listOf g r l
+pub list-only : {kind : WalkKind} {g : Graph} {r l : ℤ} {m : List Record} → Fit g l → IsBitmappingList kind g r l m → m ≡ listOf kind g r l
 list-only f h = list-unique h (list-of-reached f)
 
 -- its records have exactly what is reached
-pub list-reached : {g : Graph} {r l : ℤ} → Fit g l → (x y : ℤ) → Reached g r l x y ↔ HasSome (listOf g r l) x y
+pub list-reached : {kind : WalkKind} {g : Graph} {r l : ℤ} → Fit g l → (x y : ℤ) → Reached kind g r l x y ↔ HasSome (listOf kind g r l) x y
 list-reached f = list-has (list-of-reached f)
 
 -- two lists are equal exactly where the same is reached
-pub list-same : {g h : Graph} {r s l m : ℤ} → Fit g l → Fit h m
-    → (listOf g r l ≡ listOf h s m) ↔ ((x y : ℤ) → Reached g r l x y ↔ Reached h s m x y)
+pub list-same : {kind other : WalkKind} {g h : Graph} {r s l m : ℤ} → Fit g l → Fit h m
+    → (listOf kind g r l ≡ listOf other h s m) ↔ ((x y : ℤ) → Reached kind g r l x y ↔ Reached other h s m x y)
 list-same f k = lists-same (list-of-reached f) (list-of-reached k)
+
+-- where every node may be read and written, both kinds have one list: the second need not be made
+pub list-any : (kind other : WalkKind) {g : Graph} (r : ℤ) {l : ℤ} → Fit g l → AllOpen g → listOf kind g r l ≡ listOf other g r l
+list-any kind other r f all = list-same f f .1 (λ x y. (reached-any other all, reached-any kind all))
 
 -- ---- the rows that it depends on
 
@@ -70,14 +76,14 @@ same-paths-sym s =
 
 module _ {g : Graph} (h : Graph) where
   -- what walks along a path in one graph does so in another that has the same node rows on the path
-  along-same : {v a b : ℤ} {p : List Edge} → node g v ≡ node h v → ((e : Edge) → e ∈ p → node g (e .to) ≡ node h (e .to)) → Along g v p a b
-      → Along h v p a b
+  along-same : {kind : WalkKind} {v a b : ℤ} {p : List Edge} → node g v ≡ node h v → ((e : Edge) → e ∈ p → node g (e .to) ≡ node h (e .to)) → Along kind g v p a b
+      → Along kind h v p a b
   unfolding bitOffset
-  along-same {a} q k (halt s) = halt (subst (λ (n : Node). StandsOn n a) q s)
-  along-same {a} {b} q k (pass {p} e s w) =
+  along-same {kind} {a} q k (halt s) = halt (subst (λ (n : Node). StandsOn kind n a) q s)
+  along-same {kind} {a} {b} q k (pass {p} e s w) =
       let n = k e (List·Memᴰ·head refl) in
       let t = along-same n (λ d m. k d (List·Memᴰ·tail m)) w in
-      pass e (subst (λ (n : Node). StandsOn n a) q s) (subst (λ (n : Node). Along h (e .to) p (a -ℤ (e .offset *ℤ n .unit)) b) n t)
+      pass e (subst (λ (n : Node). StandsOn kind n a) q s) (subst (λ (n : Node). Along kind h (e .to) p (a -ℤ (e .offset *ℤ n .unit)) b) n t)
 
   -- the end of a path has the same node row where all its node rows are the same
   end-same : {v w : ℤ} {p : List Edge} → node g v ≡ node h v → ((e : Edge) → e ∈ p → node g (e .to) ≡ node h (e .to)) → Way g v p w
@@ -86,7 +92,7 @@ module _ {g : Graph} (h : Graph) where
   end-same q k (over e m f w) = end-same (k e (List·Memᴰ·head refl)) (λ d n. k d (List·Memᴰ·tail n)) w
 
   -- the same is reached over the same paths
-  reached-same : {r l x y : ℤ} → SamePaths g h r l → Reached g r l x y → Reached h r l x y
+  reached-same : {kind : WalkKind} {r l x y : ℤ} → SamePaths g h r l → Reached kind g r l x y → Reached kind h r l x y
   reached-same {y} s w =
       let t = walk-route (w .walk) in
       let start = s .root (t .path) (t .way) in
@@ -98,5 +104,5 @@ module _ {g : Graph} (h : Graph) where
       }
 
 -- graphs with the same paths from r to l and the same node rows on them have the same list: no other row counts
-pub list-frame : {g h : Graph} {r l : ℤ} → Fit g l → Fit h l → SamePaths g h r l → listOf g r l ≡ listOf h r l
-list-frame {g} {h} f k s = list-same f k .1 (λ x y. (reached-same h s, reached-same g (same-paths-sym s)))
+pub list-frame : (kind : WalkKind) {g h : Graph} {r l : ℤ} → Fit g l → Fit h l → SamePaths g h r l → listOf kind g r l ≡ listOf kind h r l
+list-frame kind {g} {h} f k s = list-same f k .1 (λ x y. (reached-same h s, reached-same g (same-paths-sym s)))

@@ -272,3 +272,7 @@ lowest? l m = test-map (differs-at l m (lowest l m) .0) (λ n x. agree-at l m x 
 pub lowest-nowhere : (l m : List Record) → ((x : ℤ) → T (not (differsAt l m x))) → lowest l m ≡ negsuc 0
 unfolding lowest leastOf
 lowest-nowhere l m h = ap leastOf (keep-nil (differsAt l m) (places l m) (λ x k. h x))
+
+-- so it is of a list and itself
+pub lowest-same : (l : List Record) → lowest l l ≡ negsuc 0
+lowest-same l = lowest-nowhere l l (λ x. agree-at l l x .1 (λ y. (λ w. w, λ w. w)))

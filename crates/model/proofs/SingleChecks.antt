@@ -6,6 +6,7 @@ use mathlib.Core.List.{List, [], _∷_, flatMap, List·Memᴰ·not-nil, List·Me
 use Prim.Native.Nat.{ℕ}
 use lib.IntN.{ℤ}
 use lib.ListN.{length}
+use Rattle.model.specs.declared.WalkKind.{WalkKind}
 use Rattle.model.specs.Limits.{maxPaths}
 use Rattle.model.specs.Graph.{Graph, graphOf}
 use Rattle.model.specs.Paths.{Root, Leaf, ManyPaths}
@@ -69,21 +70,21 @@ single-settled ns es r l output room =
     (λ h. asked-settled r l output room (graph-taken 0 ns es h))
 
 -- walk refuses exactly with the refusal of the first condition that holds, and gives the leaf bits exactly when none holds
-pub walk-exact : (ns es : List ℤ) (r l x : ℤ) (room : ℕ)
-    → Exact (walkAnswer ns es r l x room) (leafBits (graphOf ns es) r l x)
-    (singleConditions ns es r l (length (leafBits (graphOf ns es) r l x)) room)
+pub walk-exact : (kind : WalkKind) (ns es : List ℤ) (r l x : ℤ) (room : ℕ)
+    → Exact (walkAnswer kind ns es r l x room) (leafBits kind (graphOf ns es) r l x)
+    (singleConditions ns es r l (length (leafBits kind (graphOf ns es) r l x)) room)
 unfolding walkAnswer
-walk-exact ns es r l x room =
-    let out = leafBits (graphOf ns es) r l x in
+walk-exact kind ns es r l x room =
+    let out = leafBits kind (graphOf ns es) r l x in
     let size = length out in
     answer-exact out (checkSingle ns es r l size room) (singleConditions ns es r l size room) (single-settled ns es r l size room)
 
 -- list refuses exactly with the refusal of the first condition that holds, and gives the bitmapping list exactly when none holds
-pub list-exact : (ns es : List ℤ) (r l : ℤ) (room : ℕ)
-    → Exact (listAnswer ns es r l room) (listOf (graphOf ns es) r l)
-    (singleConditions ns es r l (length (numbersOf (listOf (graphOf ns es) r l))) room)
+pub list-exact : (kind : WalkKind) (ns es : List ℤ) (r l : ℤ) (room : ℕ)
+    → Exact (listAnswer kind ns es r l room) (listOf kind (graphOf ns es) r l)
+    (singleConditions ns es r l (length (numbersOf (listOf kind (graphOf ns es) r l))) room)
 unfolding listAnswer
-list-exact ns es r l room =
-    let out = listOf (graphOf ns es) r l in
+list-exact kind ns es r l room =
+    let out = listOf kind (graphOf ns es) r l in
     let size = length (numbersOf out) in
     answer-exact out (checkSingle ns es r l size room) (singleConditions ns es r l size room) (single-settled ns es r l size room)

@@ -1,6 +1,6 @@
 -- Where no specification leaf is named twice and every leaf row begins at 0, each leaf row is a group by itself, and what is found is the list of its specification leaf
 -- and that of its implementation leaf.
-use mathlib.Core.Path.{_≡_, refl, sym, ap, ap₂, _∙_, subst}
+use mathlib.Core.Path.{_≡_, refl, sym, ap, ap₂, _∙_, subst, fun-ext}
 use mathlib.Core.Bool.{Bool, true, false, not, cond}
 use mathlib.Core.List.{List, [], _∷_, map, List·Memᴰ·head, List·Memᴰ·tail, List·Memᴰ·not-nil, List·Memᴰ·cases-cons}
 use mathlib.Core.Logic.{_⊎_, inl, inr, ⊎-elim}
@@ -12,10 +12,12 @@ use Rattle.lists.specs.Lists.{_∈_, keep}
 use Rattle.lists.proofs.Membership.{keep-nil}
 use Rattle.lists.proofs.Decisions.{Decides, decides-iff, decides-not}
 use Rattle.lists.proofs.Places.{map-same}
+use Rattle.model.specs.declared.WalkKind.{WalkKind}
 use Rattle.model.specs.Rows.{Pair}
+use Rattle.model.specs.Bitmapping.{Record}
 use Rattle.model.specs.Runs.{listOf}
 use Rattle.model.specs.Groups.{Bank, groupList}
-use Rattle.model.specs.Compare.{Tables, specGraph, implGraph, rootRows, leafRows, sameSpec, group, bankOf, banks, isLowest, lowestRows, groups, Visit, visits, Finding, findingOf, findings}
+use Rattle.model.specs.Compare.{Tables, implGraph, rootRows, leafRows, sameSpec, group, bankOf, banks, isLowest, lowestRows, groups, Visit, visits, Finding, specList, findingOf, findings}
 use Rattle.model.proofs.Groups.{group-one}
 use Rattle.model.proofs.Visits.{Ascends, none, more, RowBefore, pairs-ascending, visits-in}
 use Rattle.model.proofs.GroupRows.{sameSpec?, isLowest?}
@@ -23,7 +25,7 @@ use Rattle.model.proofs.GroupRows.{sameSpec?, isLowest?}
 -- what a pair of one leaf on each side finds
 abbrev pub pairFinding : Tables → Visit → Finding
 pairFinding t v =
-    record { visit = v; spec = listOf (specGraph t) (v .root .spec) (v .leaf .spec); impl = listOf (implGraph t) (v .root .impl) (v .leaf .impl) }
+    record { visit = v; spec = specList t v; impl = λ kind. listOf kind (implGraph t) (v .root .impl) (v .leaf .impl) }
 
 -- no specification leaf is named twice
 abbrev pub SpecOnce : List Pair → Type 0
@@ -85,6 +87,6 @@ module _ (t : Tables) (once : SpecOnce (leafRows t)) where
       ∙ map-same (findingOf t) (pairFinding t) (visits (rootRows t) (leafRows t)) (λ v m.
       let n = visits-in (rootRows t) (leafRows t) .0 m .1 in
       let bank : bankOf (v .leaf) ≡ record { leaf = v .leaf .impl; at = pos 0 } = ap (λ (a : ℤ). record { leaf = v .leaf .impl; at = a }) (zero (v .leaf) n) in
-      let list : groupList (implGraph t) (v .root .impl) (banks t (v .leaf)) ≡ listOf (implGraph t) (v .root .impl) (v .leaf .impl) =
-      ap (groupList (implGraph t) (v .root .impl)) (banks-single (v .leaf) n ∙ ap (λ (b : Bank). b ∷ []) bank) ∙ group-one (implGraph t) (v .root .impl) (v .leaf .impl) in
-      rw list refl)
+      let list : (kind : WalkKind) → groupList kind (implGraph t) (v .root .impl) (banks t (v .leaf)) ≡ listOf kind (implGraph t) (v .root .impl) (v .leaf .impl) =
+      λ kind. ap (groupList kind (implGraph t) (v .root .impl)) (banks-single (v .leaf) n ∙ ap (λ (b : Bank). b ∷ []) bank) ∙ group-one kind (implGraph t) (v .root .impl) (v .leaf .impl) in
+      ap (λ (lists : WalkKind → List Record). record { visit = v; spec = specList t v; impl = lists }) (fun-ext list))

@@ -1,20 +1,23 @@
 -- Shift, clip and a step over an edge: which bits a run has after them, and which root bit it joins to each.
 use mathlib.Core.Path.{_≡_}
-use mathlib.Core.Bool.{not}
+use mathlib.Core.Bool.{Bool, not, cond}
 use mathlib.Core.List.{List, [], _∷_}
 use mathlib.Core.Logic.{_↔_}
 use native.Mathlib.Omega.{arith}
 use lib.Dec.{T, T-not, not-T}
-use lib.IntN.{ℤ, _+ℤ_, _-ℤ_}
+use lib.IntN.{ℤ, pos, _+ℤ_, _-ℤ_}
 use lib.Signed.{_≤ℤ_, _<ℤ_, ltZ-yes, ltZ-no}
 use Rattle.integers.specs.Integers.{maxZ}
 use Rattle.integers.proofs.Linear.{ints, sum, diff}
-use Rattle.integers.proofs.Tests.{lt?, of-test, min-le, max-le, min-is, max-is}
+use Rattle.lists.proofs.Decisions.{Decides, decides-not}
+use Rattle.integers.proofs.Tests.{Test, passed, failed, eqZ?, lt?, of-test, min-le, max-le, min-is, max-is}
+use Rattle.model.specs.declared.WalkKind.{WalkKind}
+use Rattle.model.specs.declared.WalkKind.the-variants.{Reading, Writing}
 use Rattle.model.specs.Rows.{Node, Edge}
-use Rattle.model.specs.Graph.{Graph, node, firstBit, lastBit, bitOffset}
-use Rattle.model.specs.Walk.{StandsOn}
+use Rattle.model.specs.Graph.{Graph, node, readOnly, writeOnly, firstBit, lastBit, bitOffset}
+use Rattle.model.specs.Walk.{Open, StandsOn}
 use Rattle.model.specs.Bitmapping.{Has}
-use Rattle.model.specs.Runs.{Run, InRun, Joins, Between, empty, whole, shift, clip, across, along, recordOf}
+use Rattle.model.specs.Runs.{Run, InRun, Joins, Between, empty, isOpen, lastOpen, whole, shift, clip, across, along, recordOf}
 
 -- ---- shift
 
@@ -128,55 +131,75 @@ clip-empty first last r t =
     let k : r .high <ℤ r .low = ltZ-yes t in
     empty-in (clip first last r) (omega (arith, ints, max-is first (r .low) .1, min-is last (r .high) .1))
 
+-- ---- the bits on which a walk may stand
+
+-- a node is open to walks of a kind exactly where the test passes
+pub open? : (kind : WalkKind) (n : Node) → Decides (Open kind (n .access)) (isOpen kind n)
+unfolding isOpen
+open? Reading n = decides-not (eqZ? (n .access) writeOnly)
+open? Writing n = decides-not (eqZ? (n .access) readOnly)
+
+-- a walk may stand exactly on the bits from the first to the last that is open to it
+pub stands-between : (kind : WalkKind) (n : Node) (a : ℤ) → StandsOn kind n a ↔ Between (firstBit n) (lastOpen kind n) a
+unfolding lastOpen
+stands-between kind n a = go (isOpen kind n) (open? kind n)
+  where
+    go : (b : Bool) → Decides (Open kind (n .access)) b → StandsOn kind n a ↔ Between (firstBit n) (cond b (lastBit n) (firstBit n -ℤ pos 1)) a
+    go b (passed o) = (λ h. record { above = h .above; below = h .below }, λ h. record { access = o; above = h .above; below = h .below })
+    go b (failed n′) = (λ h. absurd (n′ (h .access)), λ h. absurd (omega (arith, ints, diff (firstBit n) (pos 1), h .above, h .below)))
+
 -- the run of a root joins each of its bits to itself
-pub whole-joins : (n : Node) (x b : ℤ) → Joins (whole n) x b ↔ ((x ≡ b) × StandsOn n b)
+pub whole-joins : {kind : WalkKind} (n : Node) (x b : ℤ) → Joins (whole kind n) x b ↔ ((x ≡ b) × StandsOn kind n b)
 unfolding whole
-whole-joins n x b =
+whole-joins {kind} n x b =
     let over = diff x (firstBit n) in
-    let under = diff b (firstBit n) in (
-      λ j. (omega (arith, ints), record { above = j .inside .above; below = j .inside .below }),
-      λ h. record { inside = record { above = h .1 .above; below = h .1 .below }; level = omega (arith, ints) },
+    let under = diff b (firstBit n) in
+    let stands = stands-between kind n b in (
+      λ j. (omega (arith, ints), stands .1 (record { above = j .inside .above; below = j .inside .below })),
+      λ h. let i = stands .0 (h .1) in record { inside = record { above = i .above; below = i .below }; level = omega (arith, ints) },
     )
 
 -- ---- over an edge
 
 -- the run over an edge has exactly those bits that a walk may enter the node with, from a bit of the run
-pub across-bits : (g : Graph) (e : Edge) (r : Run) (b : ℤ)
-    → InRun (across g e r) b ↔ (InRun r (b +ℤ bitOffset g e) × StandsOn (node g (e .to)) b)
+pub across-bits : {kind : WalkKind} (g : Graph) (e : Edge) (r : Run) (b : ℤ)
+    → InRun (across kind g e r) b ↔ (InRun r (b +ℤ bitOffset g e) × StandsOn kind (node g (e .to)) b)
 unfolding across
-across-bits g e r b =
+across-bits {kind} g e r b =
     let n = node g (e .to) in
     let o = bitOffset g e in
-    let bits = clip-bits (firstBit n) (lastBit n) (shift o r) b in (
-      λ i. let h = bits .0 i in (shift-bits o r b .0 (h .0), record { above = h .1 .above; below = h .1 .below }),
-      λ h. bits .1 (shift-bits o r b .1 (h .0), record { above = h .1 .above; below = h .1 .below }),
+    let bits = clip-bits (firstBit n) (lastOpen kind n) (shift o r) b in
+    let stands = stands-between kind n b in (
+      λ i. let h = bits .0 i in (shift-bits o r b .0 (h .0), stands .1 (h .1)),
+      λ h. bits .1 (shift-bits o r b .1 (h .0), stands .0 (h .1)),
     )
 
 -- the run over an edge joins those root bits that the run joined to an address which the walk may take over the edge
-pub across-joins : (g : Graph) (e : Edge) (r : Run) (x b : ℤ)
-    → Joins (across g e r) x b ↔ (Joins r x (b +ℤ bitOffset g e) × StandsOn (node g (e .to)) b)
+pub across-joins : {kind : WalkKind} (g : Graph) (e : Edge) (r : Run) (x b : ℤ)
+    → Joins (across kind g e r) x b ↔ (Joins r x (b +ℤ bitOffset g e) × StandsOn kind (node g (e .to)) b)
 unfolding across
-across-joins g e r x b =
+across-joins {kind} g e r x b =
     let n = node g (e .to) in
     let o = bitOffset g e in
-    let joins = clip-joins (firstBit n) (lastBit n) (shift o r) x b in (
-      λ j. let h = joins .0 j in (shift-joins o r x b .0 (h .0), record { above = h .1 .above; below = h .1 .below }),
-      λ h. joins .1 (shift-joins o r x b .1 (h .0), record { above = h .1 .above; below = h .1 .below }),
+    let joins = clip-joins (firstBit n) (lastOpen kind n) (shift o r) x b in
+    let stands = stands-between kind n b in (
+      λ j. let h = joins .0 j in (shift-joins o r x b .0 (h .0), stands .1 (h .1)),
+      λ h. joins .1 (shift-joins o r x b .1 (h .0), stands .0 (h .1)),
     )
 
 -- an empty run stays empty over an edge
-pub across-empty : (g : Graph) (e : Edge) (r : Run) → T (empty r) → T (empty (across g e r))
+pub across-empty : (kind : WalkKind) (g : Graph) (e : Edge) (r : Run) → T (empty r) → T (empty (across kind g e r))
 unfolding across
-across-empty g e r t =
+across-empty kind g e r t =
     let n = node g (e .to) in
     let o = bitOffset g e in
-    clip-empty (firstBit n) (lastBit n) (shift o r) (shift-empty o r t)
+    clip-empty (firstBit n) (lastOpen kind n) (shift o r) (shift-empty o r t)
 
 -- and so along a path
-pub along-empty : (g : Graph) (p : List Edge) (r : Run) → T (empty r) → T (empty (along g p r))
+pub along-empty : (kind : WalkKind) (g : Graph) (p : List Edge) (r : Run) → T (empty r) → T (empty (along kind g p r))
 unfolding along
-along-empty g [] r t = t
-along-empty g (e ∷ p) r t = along-empty g p (across g e r) (across-empty g e r t)
+along-empty kind g [] r t = t
+along-empty kind g (e ∷ p) r t = along-empty kind g p (across kind g e r) (across-empty kind g e r t)
 
 -- ---- at the leaf
 

@@ -15,17 +15,19 @@ use Rattle.integers.proofs.Tests.{le?, eq?, leb?}
 use Rattle.lists.proofs.Decisions.{test-stable}
 use Rattle.lists.specs.Lists.{_∈_}
 use Rattle.lists.proofs.Places.{getD-in}
+use Rattle.model.specs.declared.WalkKind.{WalkKind}
 use Rattle.model.specs.Limits.{nodeWidth, edgeWidth, maxNodes, maxEdges, maxUnits, maxBits, lastAddress}
 use Rattle.model.specs.Rows.{Node, Edge, nodeRows, edgeRows}
 use Rattle.model.specs.Graph.{Graph, graphOf, NodeRow, noNode, node, block, firstBit, lastBit, bitOffset}
+use Rattle.model.specs.Runs.{Between}
 use Rattle.model.specs.Walk.{StandsOn}
 use Rattle.model.specs.Paths.{Leaf, Cycle, LongChain}
-use Rattle.model.specs.Refusals.{NoneHolds, refuse, _next_, Kind, AddressUnit, BadNode, unknownKind, unknownUnit, lowBase, lowRange, highEnd, LowOffset, HighOffset, lowOffset, highOffset, BadShape, broken, tooMany, shapeConditions, nodeConditions, edgeConditions, rowConditions, graphConditions}
+use Rattle.model.specs.Refusals.{NoneHolds, refuse, _next_, Kind, AddressUnit, Access, BadNode, unknownKind, unknownUnit, unknownAccess, lowBase, lowRange, highEnd, LowOffset, HighOffset, lowOffset, highOffset, BadShape, broken, tooMany, shapeConditions, nodeConditions, edgeConditions, rowConditions, graphConditions}
 use Rattle.model.specs.Checks.{checkShape}
 use Rattle.model.specs.Taken.{Taken, GoodShape, TakenTables}
 use Rattle.model.proofs.Settled.{Settled, none-next, none-flatMap}
 use Rattle.model.proofs.Paths.{Fit, edges-distinct}
-use Rattle.model.proofs.GraphChecks.{shape-settled, isKind?, isUnit?, GoodOffset, offset?, edges-good, edges-end}
+use Rattle.model.proofs.GraphChecks.{shape-settled, isKind?, isUnit?, isAccess?, GoodOffset, offset?, edges-good, edges-end}
 
 -- ---- a graph that meets no condition is taken
 
@@ -108,6 +110,7 @@ taken-fit k f = record { short = k .short; ends = taken-leaf-ends k f }
 pub record Bounds (n : Node) : Type 0 where
   pub kind : Kind (n .kind)
   pub unit : AddressUnit (n .unit)
+  pub access : Access (n .access)
   pub base : pos 0 ≤ℤ n .base
   pub range : pos 1 ≤ℤ n .range
   pub end : (n .base +ℤ n .range) ≤ℤ pos maxUnits
@@ -117,6 +120,7 @@ pub node-bounds : {n : Node} → (BadNode n → ⊥) → Bounds n
 node-bounds {n} f = record {
   kind = test-stable (isKind? (n .kind)) (λ k. f (unknownKind k));
   unit = test-stable (isUnit? (n .unit)) (λ k. f (unknownUnit k));
+  access = test-stable (isAccess? (n .access)) (λ k. f (unknownAccess k));
   base = test-stable (le? (pos 0) (n .base)) (λ k. f (lowBase k));
   range = test-stable (le? (pos 1) (n .range)) (λ k. f (lowRange k));
   end = test-stable (le? (n .base +ℤ n .range) (pos maxUnits)) (λ k. f (highEnd k));
@@ -180,8 +184,8 @@ bounds-full {n} b =
       ap (λ (k : ℕ). k * plus (n .unit)) high,
     )
 
--- the bit addresses with which a walk may stand on a node within its bounds lie in 0 .. lastAddress
-pub bounds-address : {n : Node} {a : ℤ} → Bounds n → StandsOn n a → (pos 0 ≤ℤ a) × (a ≤ℤ lastAddress)
+-- the bits of a node within its bounds lie in 0 .. lastAddress
+pub bounds-address : {n : Node} {a : ℤ} → Bounds n → Between (firstBit n) (lastBit n) a → (pos 0 ≤ℤ a) × (a ≤ℤ lastAddress)
 unfolding firstBit lastBit
 bounds-address {n} {a} b s =
     let u = unit-size (b .unit) in
@@ -194,8 +198,8 @@ bounds-address {n} {a} b s =
     )
 
 -- every bit address of a taken graph lies in 0 .. lastAddress
-pub taken-address : {g : Graph} {v a : ℤ} → Taken g → NodeRow g v → StandsOn (node g v) a → (pos 0 ≤ℤ a) × (a ≤ℤ lastAddress)
-taken-address k r s = bounds-address (taken-bounds k r) s
+pub taken-address : {kind : WalkKind} {g : Graph} {v a : ℤ} → Taken g → NodeRow g v → StandsOn kind (node g v) a → (pos 0 ≤ℤ a) × (a ≤ℤ lastAddress)
+taken-address k r s = bounds-address (taken-bounds k r) (record { above = s .above; below = s .below })
 
 -- every offset of a taken graph lies within ±maxUnits
 pub taken-units : {g : Graph} {e : Edge} → Taken g → e ∈ g .edges → GoodOffset g e

@@ -15,83 +15,87 @@ use Rattle.integers.proofs.Linear.{ints}
 use Rattle.integers.proofs.Tests.{Test, passed, failed, le?, lt?, eqZ?}
 use Rattle.lists.specs.Lists.{_∈_}
 use Rattle.lists.proofs.Membership.{map-in, map-out, flatMap-in, flatMap-out, cond-out, cond-true, cond-false}
+use Rattle.model.specs.declared.WalkKind.{WalkKind}
 use Rattle.model.specs.Limits.{maxChain}
 use Rattle.model.specs.Rows.{Node, Edge}
-use Rattle.model.specs.Graph.{Graph, node, firstBit, lastBit, bitOffset}
+use Rattle.model.specs.Graph.{Graph, node, firstBit, bitOffset}
 use Rattle.model.specs.Walk.{StandsOn, Walk, stand, step, Reached}
 use Rattle.model.specs.Paths.{Way, stay, over}
-use Rattle.model.specs.Runs.{leaving}
+use Rattle.model.specs.Runs.{leaving, lastOpen}
 use Rattle.model.specs.Calls.{standsOn, arrivals, among, ascending, leafBits}
 use Rattle.lists.proofs.Decisions.{decides-as, decides-and, decides-le}
 use Rattle.model.proofs.Paths.{Fit, leaving-in, leaving-out}
+use Rattle.model.proofs.Steps.{stands-between}
 use Rattle.model.proofs.Walks.{Along, halt, pass, walk-route, walk-short}
 
 -- ---- where a walk may stand
 
 -- the test of a bit address against a node passes exactly where a walk may stand on it
-pub standsOn? : (n : Node) (a : ℤ) → Test (StandsOn n a) (StandsOn n a → ⊥) (standsOn n a)
+pub standsOn? : {kind : WalkKind} (n : Node) (a : ℤ) → Test (StandsOn kind n a) (StandsOn kind n a → ⊥) (standsOn kind n a)
 unfolding standsOn
-standsOn? n a =
-    decides-as (λ h. record { above = h .0; below = h .1 }, λ h. (h .above, h .below)) (decides-and (decides-le (firstBit n) a) (decides-le a (lastBit n)))
+standsOn? {kind} n a =
+    let stands = stands-between kind n a in
+    decides-as (λ h. stands .1 (record { above = h .0; below = h .1 }), λ h. let i = stands .0 h in (i .above, i .below))
+    (decides-and (decides-le (firstBit n) a) (decides-le a (lastOpen kind n)))
 
 -- ---- arrivals
 
 -- what is computed over at most k more edges past an edge
-abbrev beyond : ℕ → Graph → ℤ → ℤ → Edge → List ℤ
-beyond k g l a e = arrivals k g (e .to) l (a -ℤ bitOffset g e)
+abbrev beyond : WalkKind → ℕ → Graph → ℤ → ℤ → Edge → List ℤ
+beyond kind k g l a e = arrivals kind k g (e .to) l (a -ℤ bitOffset g e)
 
 -- what is computed at node v with address a: a itself at the leaf, elsewhere what is computed past its edges, and nothing where no walk may stand
 module _ (g : Graph) (v l a : ℤ) where
-  arriving-out : {b : ℤ} (onward : List ℤ) → b ∈ cond (standsOn (node g v) a) (cond (eqZ v l) (a ∷ []) onward) []
-      → StandsOn (node g v) a × (((v ≡ l) × (b ≡ a)) ⊎ (b ∈ onward))
-  arriving-out onward m =
+  arriving-out : {kind : WalkKind} {b : ℤ} (onward : List ℤ) → b ∈ cond (standsOn kind (node g v) a) (cond (eqZ v l) (a ∷ []) onward) []
+      → StandsOn kind (node g v) a × (((v ≡ l) × (b ≡ a)) ⊎ (b ∈ onward))
+  arriving-out {kind} onward m =
       ⊎-elim (λ c. (c .0, ⊎-elim (λ d. inl (d .0, List·Memᴰ·eq-of-singleton (d .1))) (λ d. inr (d .1)) (cond-out (eqZ v l) (eqZ? v l) (c .1))))
       (λ c. absurd (List·Memᴰ·not-nil (c .1)))
-      (cond-out (standsOn (node g v) a) (standsOn? (node g v) a) m)
+      (cond-out (standsOn kind (node g v) a) (standsOn? (node g v) a) m)
 
-  arriving-in : {b : ℤ} {alive : List ℤ} → StandsOn (node g v) a → b ∈ alive → b ∈ cond (standsOn (node g v) a) alive []
-  arriving-in h m = cond-true [] (standsOn (node g v) a) (standsOn? (node g v) a) (λ n. n h) m
+  arriving-in : {kind : WalkKind} {b : ℤ} {alive : List ℤ} → StandsOn kind (node g v) a → b ∈ alive → b ∈ cond (standsOn kind (node g v) a) alive []
+  arriving-in {kind} h m = cond-true [] (standsOn kind (node g v) a) (standsOn? (node g v) a) (λ n. n h) m
 
-  arriving-walk : {b : ℤ} → StandsOn (node g v) a → (v ≡ l) × (b ≡ a) → Walk g v a l b
-  arriving-walk {b} h c = subst (λ (w : ℤ). Walk g v a w b) (c .0) (subst (λ (z : ℤ). Walk g v a v z) (sym (c .1)) (stand h))
+  arriving-walk : {kind : WalkKind} {b : ℤ} → StandsOn kind (node g v) a → (v ≡ l) × (b ≡ a) → Walk kind g v a l b
+  arriving-walk {kind} {b} h c = subst (λ (w : ℤ). Walk kind g v a w b) (c .0) (subst (λ (z : ℤ). Walk kind g v a v z) (sym (c .1)) (stand h))
 
-  arriving-step : {b : ℤ} (onward : Edge → List ℤ) → StandsOn (node g v) a → ((e : Edge) → b ∈ onward e → Walk g (e .to) (a -ℤ bitOffset g e) l b)
-      → b ∈ flatMap onward (leaving g v) → Walk g v a l b
+  arriving-step : {kind : WalkKind} {b : ℤ} (onward : Edge → List ℤ) → StandsOn kind (node g v) a → ((e : Edge) → b ∈ onward e → Walk kind g (e .to) (a -ℤ bitOffset g e) l b)
+      → b ∈ flatMap onward (leaving g v) → Walk kind g v a l b
   arriving-step onward h walks m =
       let w = flatMap-out onward (leaving g v) m in
       let e = leaving-out g v (w .1) in
       step (w .0) (e .0) (e .1) h (walks (w .0) (w .2))
 
 -- a walk arrives with every address that is computed
-pub arrivals-sound : (k : ℕ) {g : Graph} {v l a b : ℤ} → b ∈ arrivals k g v l a → Walk g v a l b
+pub arrivals-sound : {kind : WalkKind} (k : ℕ) {g : Graph} {v l a b : ℤ} → b ∈ arrivals kind k g v l a → Walk kind g v a l b
 unfolding arrivals
 arrivals-sound zero {g} {v} {l} {a} m =
     let c = arriving-out g v l a [] m in ⊎-elim (arriving-walk g v l a (c .0)) (λ n. absurd (List·Memᴰ·not-nil n)) (c .1)
-arrivals-sound (suc k) {g} {v} {l} {a} m =
-    let c = arriving-out g v l a (flatMap (beyond k g l a) (leaving g v)) m in
-    ⊎-elim (arriving-walk g v l a (c .0)) (arriving-step g v l a (beyond k g l a) (c .0) (λ e n. arrivals-sound k n)) (c .1)
+arrivals-sound {kind} (suc k) {g} {v} {l} {a} m =
+    let c = arriving-out g v l a (flatMap (beyond kind k g l a) (leaving g v)) m in
+    ⊎-elim (arriving-walk g v l a (c .0)) (arriving-step g v l a (beyond kind k g l a) (c .0) (λ e n. arrivals-sound k n)) (c .1)
 
 -- at the leaf the address itself is computed
-arrivals-here : (k : ℕ) (g : Graph) (l a : ℤ) → StandsOn (node g l) a → a ∈ arrivals k g l l a
+arrivals-here : {kind : WalkKind} (k : ℕ) (g : Graph) (l a : ℤ) → StandsOn kind (node g l) a → a ∈ arrivals kind k g l l a
 unfolding arrivals
 arrivals-here zero g l a h = arriving-in g l l a h (cond-true [] (eqZ l l) (eqZ? l l) (λ n. n refl) (List·Memᴰ·head refl))
-arrivals-here (suc k) g l a h =
+arrivals-here {kind} (suc k) g l a h =
     arriving-in g l l a h
-    (cond-true (flatMap (beyond k g l a) (leaving g l)) (eqZ l l) (eqZ? l l) (λ n. n refl) (List·Memᴰ·head refl))
+    (cond-true (flatMap (beyond kind k g l a) (leaving g l)) (eqZ l l) (eqZ? l l) (λ n. n refl) (List·Memᴰ·head refl))
 
 -- every address with which a walk over at most k edges arrives at a node that no edge leaves is computed
-pub arrivals-within : (k : ℕ) {g : Graph} {v l a b : ℤ} {p : List Edge} → ((e : Edge) → e ∈ g .edges → e .from ≢ l)
-    → Way g v p l → Along g v p a b → length p ≤ k → b ∈ arrivals k g v l a
+pub arrivals-within : {kind : WalkKind} (k : ℕ) {g : Graph} {v l a b : ℤ} {p : List Edge} → ((e : Edge) → e ∈ g .edges → e .from ≢ l)
+    → Way g v p l → Along kind g v p a b → length p ≤ k → b ∈ arrivals kind k g v l a
 unfolding arrivals
 arrivals-within k {g} {l} {a} ends stay (halt h) le = arrivals-here k g l a h
 arrivals-within zero ends (over e m q w) t le = absurd (omega arith)
-arrivals-within (suc k) {g} {v} {l} {a} ends (over e m q w) (pass d h t) le =
+arrivals-within {kind} (suc k) {g} {v} {l} {a} ends (over e m q w) (pass d h t) le =
     arriving-in g v l a h
     (cond-false (a ∷ []) (eqZ v l) (eqZ? v l) (λ z. ends e m (q ∙ z))
-    (flatMap-in (beyond k g l a) (leaving-in g m q) (arrivals-within k ends w t (omega arith))))
+    (flatMap-in (beyond kind k g l a) (leaving-in g m q) (arrivals-within k ends w t (omega arith))))
 
 -- every address with which a walk arrives is computed
-pub arrivals-complete : {g : Graph} {v l a b : ℤ} → Fit g l → Walk g v a l b → b ∈ arrivals maxChain g v l a
+pub arrivals-complete : {kind : WalkKind} {g : Graph} {v l a b : ℤ} → Fit g l → Walk kind g v a l b → b ∈ arrivals kind maxChain g v l a
 arrivals-complete f x = let t = walk-route x in arrivals-within maxChain (f .ends) (t .way) (t .along) (walk-short (f .short) x)
 
 -- ---- ascending lists
@@ -181,25 +185,25 @@ ascending-unique (cons {x = x} low c) (cons {x = z} high d) same =
 -- ---- the answer
 
 -- the numbers of the walk call are exactly the leaf bits that the address reaches
-pub leafBits-reached : {g : Graph} {r l x y : ℤ} → Fit g l → (y ∈ leafBits g r l x) ↔ Reached g r l x y
+pub leafBits-reached : {kind : WalkKind} {g : Graph} {r l x y : ℤ} → Fit g l → (y ∈ leafBits kind g r l x) ↔ Reached kind g r l x y
 unfolding leafBits
-leafBits-reached {g} {r} {l} {x} {y} f = (sound, complete)
+leafBits-reached {kind} {g} {r} {l} {x} {y} f = (sound, complete)
   where
     bit : ℤ → ℤ
     bit b = b -ℤ firstBit (node g l)
 
     found : List ℤ
-    found = arrivals maxChain g r l x
+    found = arrivals kind maxChain g r l x
 
-    sound : y ∈ ascending (map bit found) → Reached g r l x y
+    sound : y ∈ ascending (map bit found) → Reached kind g r l x y
     sound m =
         let w = map-out bit found (ascending-members (map bit found) .0 m) in
         record { arrival = w .0; walk = arrivals-sound maxChain (w .1); leafBit = w .2 }
 
-    complete : Reached g r l x y → y ∈ ascending (map bit found)
+    complete : Reached kind g r l x y → y ∈ ascending (map bit found)
     complete h = ascending-members (map bit found) .1 (Memᴰ·cast (h .leafBit) (map-in bit (arrivals-complete f (h .walk))))
 
 -- and they are ascending, so each stands there once
-pub leafBits-ascending : (g : Graph) (r l x : ℤ) → Ascending (leafBits g r l x)
+pub leafBits-ascending : (kind : WalkKind) (g : Graph) (r l x : ℤ) → Ascending (leafBits kind g r l x)
 unfolding leafBits
-leafBits-ascending g r l x = ascending-ordered (map (λ b. b -ℤ firstBit (node g l)) (arrivals maxChain g r l x))
+leafBits-ascending kind g r l x = ascending-ordered (map (λ b. b -ℤ firstBit (node g l)) (arrivals kind maxChain g r l x))

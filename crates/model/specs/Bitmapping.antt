@@ -4,6 +4,7 @@ use mathlib.Core.List.{List, [], _∷_}
 use lib.IntN.{ℤ, pos, _+ℤ_, _-ℤ_}
 use lib.Signed.{_≤ℤ_, _<ℤ_}
 use Rattle.lists.specs.Lists.{_∈_}
+use Rattle.model.specs.declared.WalkKind.{WalkKind}
 use Rattle.model.specs.Graph.{Graph}
 use Rattle.model.specs.Walk.{Reached}
 
@@ -43,6 +44,6 @@ pub record IsListOf (Set : ℤ → ℤ → Type 0) (l : List Record) : Type 0 wh
       → ((s .first -ℤ pos 1) -ℤ y ≡ s .displacement → Set (s .first -ℤ pos 1) y → ⊥) × ((s .last +ℤ pos 1) -ℤ y ≡ s .displacement → Set (s .last +ℤ pos 1) y → ⊥)
   pub ordered : Ordered l
 
--- the bitmapping list of root r and leaf l
-abbrev pub IsBitmappingList : Graph → ℤ → ℤ → List Record → Type 0
-IsBitmappingList g r l = IsListOf (Reached g r l)
+-- the bitmapping list of root r and leaf l, for walks of this kind
+abbrev pub IsBitmappingList : WalkKind → Graph → ℤ → ℤ → List Record → Type 0
+IsBitmappingList kind g r l = IsListOf (Reached kind g r l)

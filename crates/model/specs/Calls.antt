@@ -7,11 +7,12 @@ use lib.IntN.{ℤ, _-ℤ_}
 use lib.Signed.{leZ, ltZ}
 use lib.ListN.{length, drop}
 use Rattle.integers.specs.Integers.{eqZ}
+use Rattle.model.specs.declared.WalkKind.{WalkKind}
 use Rattle.model.specs.Limits.{recordWidth, maxChain}
 use Rattle.model.specs.Rows.{Node}
-use Rattle.model.specs.Graph.{Graph, graphOf, node, firstBit, lastBit, bitOffset}
+use Rattle.model.specs.Graph.{Graph, graphOf, node, firstBit, bitOffset}
 use Rattle.model.specs.Bitmapping.{Record}
-use Rattle.model.specs.Runs.{leaving, listOf}
+use Rattle.model.specs.Runs.{leaving, lastOpen, listOf}
 use Rattle.model.specs.Compare.{Tables, Result, findings, resultOf}
 use Rattle.model.specs.Refusals.{Refusal}
 use Rattle.model.specs.Checks.{checkGraph, checkSingle, checkTables}
@@ -44,17 +45,17 @@ checkAnswer ns es = answer (checkGraph 0 ns es) tt
 
 -- ---- walk
 
--- a walk may stand on the node with bit address a
-unfoldable pub standsOn : Node → ℤ → Bool
-standsOn n a = leZ (firstBit n) a && leZ a (lastBit n)
+-- a walk of this kind may stand on the node with bit address a
+unfoldable pub standsOn : WalkKind → Node → ℤ → Bool
+standsOn kind n a = leZ (firstBit n) a && leZ a (lastOpen kind n)
 
--- the bit addresses at the leaf l that a at node v becomes, over at most k edges
-unfoldable pub arrivals : ℕ → Graph → ℤ → ℤ → ℤ → List ℤ
-arrivals zero g v l a = cond (standsOn (node g v) a) (cond (eqZ v l) (a ∷ []) []) []
-arrivals (suc k) g v l a =
-    let onward = flatMap (λ e. arrivals k g (e .to) l (a -ℤ bitOffset g e)) (leaving g v) in
+-- the bit addresses at the leaf l that a at node v becomes by walks of this kind, over at most k edges
+unfoldable pub arrivals : WalkKind → ℕ → Graph → ℤ → ℤ → ℤ → List ℤ
+arrivals kind zero g v l a = cond (standsOn kind (node g v) a) (cond (eqZ v l) (a ∷ []) []) []
+arrivals kind (suc k) g v l a =
+    let onward = flatMap (λ e. arrivals kind k g (e .to) l (a -ℤ bitOffset g e)) (leaving g v) in
     let alive = cond (eqZ v l) (a ∷ []) onward in
-    cond (standsOn (node g v) a) alive []
+    cond (standsOn kind (node g v) a) alive []
 
 -- a number in its place in an ascending list that has each number once
 unfoldable pub among : ℤ → List ℤ → List ℤ
@@ -66,20 +67,20 @@ unfoldable pub ascending : List ℤ → List ℤ
 ascending [] = []
 ascending (a ∷ t) = among a (ascending t)
 
--- the distinct leaf bits that a root bit reaches, ascending
-unfoldable pub leafBits : Graph → ℤ → ℤ → ℤ → List ℤ
-leafBits g r l x = ascending (map (λ b. b -ℤ firstBit (node g l)) (arrivals maxChain g r l x))
+-- the distinct leaf bits that a root bit reaches by walks of this kind, ascending
+unfoldable pub leafBits : WalkKind → Graph → ℤ → ℤ → ℤ → List ℤ
+leafBits kind g r l x = ascending (map (λ b. b -ℤ firstBit (node g l)) (arrivals kind maxChain g r l x))
 
--- the walk of bit address x from root r to leaf l, into a buffer with room for so many numbers
-unfoldable pub walkAnswer : List ℤ → List ℤ → ℤ → ℤ → ℤ → ℕ → Answer (List ℤ)
-walkAnswer ns es r l x room = answer (checkSingle ns es r l (length (leafBits (graphOf ns es) r l x)) room) (leafBits (graphOf ns es) r l x)
+-- the walks of this kind of bit address x from root r to leaf l, into a buffer with room for so many numbers
+unfoldable pub walkAnswer : WalkKind → List ℤ → List ℤ → ℤ → ℤ → ℤ → ℕ → Answer (List ℤ)
+walkAnswer kind ns es r l x room = answer (checkSingle ns es r l (length (leafBits kind (graphOf ns es) r l x)) room) (leafBits kind (graphOf ns es) r l x)
 
 -- what the call of walk returns, and what its buffer holds afterwards
-unfoldable pub walkGives : List ℤ → List ℤ → ℤ → ℤ → ℤ → List ℤ → Answer ℕ
-walkGives ns es r l x buffer = lengthOf (walkAnswer ns es r l x (length buffer))
+unfoldable pub walkGives : WalkKind → List ℤ → List ℤ → ℤ → ℤ → ℤ → List ℤ → Answer ℕ
+walkGives kind ns es r l x buffer = lengthOf (walkAnswer kind ns es r l x (length buffer))
 
-unfoldable pub walkAfter : List ℤ → List ℤ → ℤ → ℤ → ℤ → List ℤ → List ℤ
-walkAfter ns es r l x buffer = bufferAfter (walkAnswer ns es r l x (length buffer)) buffer
+unfoldable pub walkAfter : WalkKind → List ℤ → List ℤ → ℤ → ℤ → ℤ → List ℤ → List ℤ
+walkAfter kind ns es r l x buffer = bufferAfter (walkAnswer kind ns es r l x (length buffer)) buffer
 
 -- ---- list
 
@@ -88,9 +89,9 @@ unfoldable pub numbersOf : List Record → List ℤ
 numbersOf [] = []
 numbersOf (r ∷ t) = r .first ∷ r .last ∷ r .displacement ∷ numbersOf t
 
--- the bitmapping list of root r and leaf l, whose numbers fit into a buffer with room for so many numbers
-unfoldable pub listAnswer : List ℤ → List ℤ → ℤ → ℤ → ℕ → Answer (List Record)
-listAnswer ns es r l room = answer (checkSingle ns es r l (length (numbersOf (listOf (graphOf ns es) r l))) room) (listOf (graphOf ns es) r l)
+-- the bitmapping list of root r and leaf l for walks of this kind, whose numbers fit into a buffer with room for so many numbers
+unfoldable pub listAnswer : WalkKind → List ℤ → List ℤ → ℤ → ℤ → ℕ → Answer (List Record)
+listAnswer kind ns es r l room = answer (checkSingle ns es r l (length (numbersOf (listOf kind (graphOf ns es) r l))) room) (listOf kind (graphOf ns es) r l)
 
 -- the numbers that are written into a buffer of numbers
 unfoldable pub numbersAnswer : Answer (List Record) → Answer (List ℤ)
@@ -98,18 +99,18 @@ numbersAnswer (refused r) = refused r
 numbersAnswer (full records) = full (numbersOf records)
 
 -- what the call of list returns, how many records, and what its buffer of numbers holds afterwards
-unfoldable pub listGives : List ℤ → List ℤ → ℤ → ℤ → List ℤ → Answer ℕ
-listGives ns es r l buffer = lengthOf (listAnswer ns es r l (length buffer))
+unfoldable pub listGives : WalkKind → List ℤ → List ℤ → ℤ → ℤ → List ℤ → Answer ℕ
+listGives kind ns es r l buffer = lengthOf (listAnswer kind ns es r l (length buffer))
 
-unfoldable pub listAfter : List ℤ → List ℤ → ℤ → ℤ → List ℤ → List ℤ
-listAfter ns es r l buffer = bufferAfter (numbersAnswer (listAnswer ns es r l (length buffer))) buffer
+unfoldable pub listAfter : WalkKind → List ℤ → List ℤ → ℤ → ℤ → List ℤ → List ℤ
+listAfter kind ns es r l buffer = bufferAfter (numbersAnswer (listAnswer kind ns es r l (length buffer))) buffer
 
 -- the same for a buffer of records, each of which is room for three numbers
-unfoldable pub recordsGives : List ℤ → List ℤ → ℤ → ℤ → List Record → Answer ℕ
-recordsGives ns es r l buffer = lengthOf (listAnswer ns es r l (recordWidth * length buffer))
+unfoldable pub recordsGives : WalkKind → List ℤ → List ℤ → ℤ → ℤ → List Record → Answer ℕ
+recordsGives kind ns es r l buffer = lengthOf (listAnswer kind ns es r l (recordWidth * length buffer))
 
-unfoldable pub recordsAfter : List ℤ → List ℤ → ℤ → ℤ → List Record → List Record
-recordsAfter ns es r l buffer = bufferAfter (listAnswer ns es r l (recordWidth * length buffer)) buffer
+unfoldable pub recordsAfter : WalkKind → List ℤ → List ℤ → ℤ → ℤ → List Record → List Record
+recordsAfter kind ns es r l buffer = bufferAfter (listAnswer kind ns es r l (recordWidth * length buffer)) buffer
 
 -- ---- compare
 

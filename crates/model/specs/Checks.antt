@@ -12,7 +12,7 @@ use Rattle.integers.specs.Integers.{eqZ}
 use Rattle.lists.specs.Lists.{keep, any, isNil}
 use Rattle.model.specs.Limits.{nodeWidth, edgeWidth, pairWidth, maxNodes, maxEdges, maxPairs, maxUnits, lastAt, maxChain, maxPaths, rootStride}
 use Rattle.model.specs.Rows.{Node, Edge, Pair, nodeRows, edgeRows}
-use Rattle.model.specs.Graph.{Graph, graphOf, node, space, segment, block}
+use Rattle.model.specs.Graph.{Graph, graphOf, node, space, segment, block, readWrite, readOnly, writeOnly}
 use Rattle.model.specs.Runs.{paths}
 use Rattle.model.specs.Groups.{leavesOf}
 use Rattle.model.specs.Compare.{Tables, specGraph, implGraph, rootRows, leafRows, banks, Visit, allVisits}
@@ -40,7 +40,7 @@ firstOf check (x ∷ xs) = let later = firstOf check xs in check x then later
 unfoldable pub checkShape : ℕ → ℕ → ℕ → List ℤ → Option Refusal
 checkShape t width most xs = when (not (eqb (length xs % width) 0) || ltb (width * most) (length xs)) 1 t 0
 
--- ---- 2: unknown kind or unit; base < 0; range < 1; base + range > 2^48
+-- ---- 2: unknown kind, unit or access; base < 0; range < 1; base + range > 2^48
 
 -- space, segment or block
 unfoldable pub isKind : ℤ → Bool
@@ -50,13 +50,17 @@ isKind k = eqZ k space || eqZ k segment || eqZ k block
 unfoldable pub isUnit : ℤ → Bool
 isUnit u = eqZ u (pos 8) || eqZ u (pos 16) || eqZ u (pos 32) || eqZ u (pos 64) || eqZ u (pos 128)
 
+-- read and write, read only or write only
+unfoldable pub isAccess : ℤ → Bool
+isAccess a = eqZ a readWrite || eqZ a readOnly || eqZ a writeOnly
+
 -- base and range of a node row keep their limits
 unfoldable pub goodExtent : Node → Bool
 goodExtent n = leZ (pos 0) (n .base) && leZ (pos 1) (n .range) && leZ (n .base +ℤ n .range) (pos maxUnits)
 
 -- a node row with nothing of that
 unfoldable pub goodNode : Node → Bool
-goodNode n = isKind (n .kind) && isUnit (n .unit) && goodExtent n
+goodNode n = isKind (n .kind) && isUnit (n .unit) && isAccess (n .access) && goodExtent n
 
 -- 2 for one row
 unfoldable pub checkNode : ℕ → Node → Option Refusal

@@ -5,8 +5,11 @@ use mathlib.Core.Option.{Option, none, some}
 use Prim.Native.Nat.{ℕ, suc, max}
 use lib.Dec.{eqb, ltb}
 use lib.IntN.{ℤ, pos, negsuc}
-use Rattle.integers.specs.Integers.{eqZ}
+use lib.Signed.{ltZ}
+use Rattle.integers.specs.Integers.{eqZ, minZ}
 use Rattle.lists.specs.Lists.{keep, any}
+use Rattle.model.specs.declared.WalkKind.{WalkKind}
+use Rattle.model.specs.declared.WalkKind.the-variants.{Reading, Writing}
 use Rattle.model.specs.Rows.{Pair, pairRows}
 use Rattle.model.specs.Graph.{Graph, graphOf}
 use Rattle.model.specs.Bitmapping.{Record}
@@ -81,24 +84,42 @@ visits roots leaves = flatMap (λ r. map (λ l. record { root = r; leaf = l }) l
 abbrev pub allVisits : Tables → List Visit
 allVisits t = visits (rootRows t) (groups t)
 
--- what a visit finds: the bitmapping list of the specification leaf and the list of the group
+-- what a visit finds: for each kind of walk the bitmapping list of the specification leaf and the list of the group
 pub record Finding : Type 0 where
   pub visit : Visit
-  pub spec : List Record
-  pub impl : List Record
+  pub spec : WalkKind → List Record
+  pub impl : WalkKind → List Record
+
+-- the two lists of a visit for a kind of walk
+abbrev pub specList : Tables → Visit → WalkKind → List Record
+specList t v kind = listOf kind (specGraph t) (v .root .spec) (v .leaf .spec)
+
+abbrev pub implList : Tables → Visit → WalkKind → List Record
+implList t v kind = groupList kind (implGraph t) (v .root .impl) (banks t (v .leaf))
 
 -- the finding of a visit
 unfoldable pub findingOf : Tables → Visit → Finding
-findingOf t v =
-    record { visit = v; spec = listOf (specGraph t) (v .root .spec) (v .leaf .spec); impl = groupList (implGraph t) (v .root .impl) (banks t (v .leaf)) }
+findingOf t v = record { visit = v; spec = specList t v; impl = implList t v }
 
 -- what all visits find, in visiting order
 unfoldable pub findings : Tables → List Finding
 findings t = map (findingOf t) (allVisits t)
 
--- the verdict on a pair
+-- the verdict on a pair for one kind of walk
+unfoldable pub kindVerdict : Finding → WalkKind → ℕ
+kindVerdict f kind = verdict (f .spec kind) (f .impl kind)
+
+-- the verdict on a pair: the worse of the two kinds' (document 02, item 7)
 unfoldable pub verdictOf : Finding → ℕ
-verdictOf f = verdict (f .spec) (f .impl)
+verdictOf f = max (kindVerdict f Reading) (kindVerdict f Writing)
+
+-- the lower of two addresses that are there: each is −1 where there is none
+unfoldable pub lowerOf : ℤ → ℤ → ℤ
+lowerOf a b = cond (ltZ a (pos 0)) b (cond (ltZ b (pos 0)) a (minZ a b))
+
+-- the lowest bit address at which the leaf bits of either kind differ; −1 where they differ nowhere
+unfoldable pub lowestOf : Finding → ℤ
+lowestOf f = lowerOf (lowest (f .spec Reading) (f .impl Reading)) (lowest (f .spec Writing) (f .impl Writing))
 
 -- how often a number stands in a list; of verdicts, how often one was given
 unfoldable pub count : ℕ → List ℕ → ℕ
@@ -128,7 +149,7 @@ nowhere = record { root = negsuc 0; leaf = negsuc 0; address = negsuc 0 }
 -- the place of the first unequal pair
 unfoldable pub placeOf : Option Finding → Place
 placeOf none = nowhere
-placeOf (some f) = record { root = pos (f .visit .root .row); leaf = pos (f .visit .leaf .row); address = lowest (f .spec) (f .impl) }
+placeOf (some f) = record { root = pos (f .visit .root .row); leaf = pos (f .visit .leaf .row); address = lowestOf f }
 
 -- the full result: the counts of equal, partial and different pairs, the whole verdict, and the place of the first unequal pair
 pub record Result : Type 0 where

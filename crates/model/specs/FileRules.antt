@@ -42,7 +42,7 @@ unfoldable pub numbersUnder : Bytes → ℤ → List Bytes → List Values → L
 numbersUnder key k names rows = flatMap (λ value. map value names) (keep (λ value. eqZ (value key) k) rows)
 
 unfoldable pub nodeNumbers : ℤ → List Values → List ℤ
-nodeNumbers side rows = numbersUnder (bytes "side") side (bytes "kind" ∷ bytes "base" ∷ bytes "range" ∷ bytes "unit" ∷ []) rows
+nodeNumbers side rows = numbersUnder (bytes "side") side (bytes "kind" ∷ bytes "base" ∷ bytes "range" ∷ bytes "unit" ∷ bytes "access" ∷ []) rows
 
 unfoldable pub edgeNumbers : ℤ → List Values → List ℤ
 edgeNumbers side rows = numbersUnder (bytes "side") side (bytes "from" ∷ bytes "to" ∷ bytes "offset" ∷ []) rows

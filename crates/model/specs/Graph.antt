@@ -15,6 +15,16 @@ segment = pos 1
 abbrev pub block : ℤ
 block = pos 2
 
+-- access of nodes: read and write, read only, write only (document 02, item 7)
+abbrev pub readWrite : ℤ
+readWrite = pos 0
+
+abbrev pub readOnly : ℤ
+readOnly = pos 1
+
+abbrev pub writeOnly : ℤ
+writeOnly = pos 2
+
 -- a graph is two tables
 pub record Graph : Type 0 where
   pub nodes : List Node
@@ -31,7 +41,7 @@ pub record NodeRow (g : Graph) (v : ℤ) : Type 0 where
 
 -- what stands for a row that is not there
 abbrev pub noNode : Node
-noNode = record { row = 0; kind = pos 0; base = pos 0; range = pos 0; unit = pos 0 }
+noNode = record { row = 0; kind = pos 0; base = pos 0; range = pos 0; unit = pos 0; access = pos 0 }
 
 -- node row v of the graph
 unfoldable pub node : Graph → ℤ → Node

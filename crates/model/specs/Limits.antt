@@ -4,7 +4,7 @@ use lib.IntN.{ℤ, pos}
 
 -- numbers of a node row, an edge row and a pair row
 abbrev pub nodeWidth : ℕ
-nodeWidth = 4
+nodeWidth = 5
 
 abbrev pub edgeWidth : ℕ
 edgeWidth = 3

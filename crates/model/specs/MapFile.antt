@@ -38,7 +38,7 @@ notZeroOrOne key = record { number = 14; holds = λ before value. (value key ≢
 -- the three tables
 unfoldable pub nodeTable : Table
 nodeTable =
-    record { names = bytes "side" ∷ bytes "kind" ∷ bytes "base" ∷ bytes "range" ∷ bytes "unit" ∷ []; optional = []; conditions = notZeroOrOne (bytes "side") ∷ [] }
+    record { names = bytes "side" ∷ bytes "kind" ∷ bytes "base" ∷ bytes "range" ∷ bytes "unit" ∷ []; optional = bytes "access" ∷ []; conditions = notZeroOrOne (bytes "side") ∷ [] }
 
 unfoldable pub edgeTable : Table
 edgeTable = record { names = bytes "side" ∷ bytes "from" ∷ bytes "to" ∷ bytes "offset" ∷ []; optional = []; conditions = notZeroOrOne (bytes "side") ∷ [] }

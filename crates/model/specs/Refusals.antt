@@ -9,7 +9,7 @@ use lib.ListN.{length}
 use Rattle.lists.specs.Lists.{_∈_}
 use Rattle.model.specs.Limits.{nodeWidth, edgeWidth, pairWidth, maxNodes, maxEdges, maxPairs, maxUnits, lastAt, rootStride}
 use Rattle.model.specs.Rows.{Node, Edge, Pair, nodeRows, edgeRows}
-use Rattle.model.specs.Graph.{Graph, graphOf, NodeRow, node, space, segment, block}
+use Rattle.model.specs.Graph.{Graph, graphOf, NodeRow, node, space, segment, block, readWrite, readOnly, writeOnly}
 use Rattle.model.specs.Paths.{Root, Leaf, Cycle, LongChain, ManyPaths}
 use Rattle.model.specs.Groups.{leavesOf}
 use Rattle.model.specs.Compare.{Tables, specGraph, implGraph, rootRows, leafRows, banks, Visit, allVisits}
@@ -53,13 +53,16 @@ pub data BadShape (width most : ℕ) (xs : List ℤ) : Type 0 where
 unfoldable pub shapeConditions : ℕ → ℕ → ℕ → List ℤ → List Condition
 shapeConditions t width most xs = refuse 1 t 0 (BadShape width most xs)
 
--- ---- 2: unknown kind or unit; base < 0; range < 1; base + range > 2^48
+-- ---- 2: unknown kind, unit or access; base < 0; range < 1; base + range > 2^48
 
 abbrev pub Kind : ℤ → Type 0
 Kind k = (k ≡ space) ⊎ (k ≡ segment) ⊎ (k ≡ block)
 
 abbrev pub AddressUnit : ℤ → Type 0
 AddressUnit u = (u ≡ pos 8) ⊎ (u ≡ pos 16) ⊎ (u ≡ pos 32) ⊎ (u ≡ pos 64) ⊎ (u ≡ pos 128)
+
+abbrev pub Access : ℤ → Type 0
+Access a = (a ≡ readWrite) ⊎ (a ≡ readOnly) ⊎ (a ≡ writeOnly)
 
 -- the node ends too high
 abbrev pub HighEnd : Node → Type 0
@@ -68,6 +71,7 @@ HighEnd n = pos maxUnits <ℤ (n .base +ℤ n .range)
 pub data BadNode (n : Node) : Type 0 where
   unknownKind : (Kind (n .kind) → ⊥) → BadNode n
   unknownUnit : (AddressUnit (n .unit) → ⊥) → BadNode n
+  unknownAccess : (Access (n .access) → ⊥) → BadNode n
   lowBase : n .base <ℤ pos 0 → BadNode n
   lowRange : n .range <ℤ pos 1 → BadNode n
   highEnd : HighEnd n → BadNode n

@@ -4,13 +4,14 @@ use mathlib.Core.List.{List, [], _∷_}
 use Prim.Native.Nat.{ℕ, suc}
 use lib.IntN.{ℤ}
 
--- a node row: base and range count address units, unit is the bits of one address unit
+-- a node row: base and range count address units, unit is the bits of one address unit; access says which walks may stand on the node
 pub record Node : Type 0 where
   pub row : ℕ
   pub kind : ℤ
   pub base : ℤ
   pub range : ℤ
   pub unit : ℤ
+  pub access : ℤ
 
 -- an edge row: two node rows, and an offset in address units of the node `to` (000, equation 2.10)
 pub record Edge : Type 0 where
@@ -33,7 +34,8 @@ nodesFrom i [] = []
 nodesFrom i (k ∷ []) = []
 nodesFrom i (k ∷ b ∷ []) = []
 nodesFrom i (k ∷ b ∷ r ∷ []) = []
-nodesFrom i (k ∷ b ∷ r ∷ u ∷ rest) = record { row = i; kind = k; base = b; range = r; unit = u } ∷ nodesFrom (suc i) rest
+nodesFrom i (k ∷ b ∷ r ∷ u ∷ []) = []
+nodesFrom i (k ∷ b ∷ r ∷ u ∷ a ∷ rest) = record { row = i; kind = k; base = b; range = r; unit = u; access = a } ∷ nodesFrom (suc i) rest
 
 -- the edge rows, the first of them row i
 unfoldable pub edgesFrom : ℕ → List ℤ → List Edge

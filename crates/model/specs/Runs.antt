@@ -7,9 +7,11 @@ use lib.IntN.{ℤ, pos, _+ℤ_, _-ℤ_}
 use lib.Signed.{leZ, ltZ, _≤ℤ_}
 use Rattle.integers.specs.Integers.{eqZ, minZ, maxZ}
 use Rattle.lists.specs.Lists.{keep}
+use Rattle.model.specs.declared.WalkKind.{WalkKind}
+use Rattle.model.specs.declared.WalkKind.the-variants.{Reading, Writing}
 use Rattle.model.specs.Limits.{maxChain}
 use Rattle.model.specs.Rows.{Node, Edge}
-use Rattle.model.specs.Graph.{Graph, node, firstBit, lastBit, bitOffset}
+use Rattle.model.specs.Graph.{Graph, node, readOnly, writeOnly, firstBit, lastBit, bitOffset}
 use Rattle.model.specs.Bitmapping.{Record}
 
 -- ---- runs (000, 2.19)
@@ -39,9 +41,20 @@ pub record Between (first last b : ℤ) : Type 0 where
 unfoldable pub empty : Run → Bool
 empty r = ltZ (r .high) (r .low)
 
--- all bits of a root
-unfoldable pub whole : Node → Run
-whole n = record { root = firstBit n; low = firstBit n; high = lastBit n }
+-- ---- the bits of a node for a kind of walk
+
+-- the node is open to walks of this kind
+unfoldable pub isOpen : WalkKind → Node → Bool
+isOpen Reading n = not (eqZ (n .access) writeOnly)
+isOpen Writing n = not (eqZ (n .access) readOnly)
+
+-- the last bit on which a walk of this kind may stand; the bit before the first where the node is closed: then there is none
+unfoldable pub lastOpen : WalkKind → Node → ℤ
+lastOpen kind n = cond (isOpen kind n) (lastBit n) (firstBit n -ℤ pos 1)
+
+-- all bits of a root on which a walk of this kind may stand
+unfoldable pub whole : WalkKind → Node → Run
+whole kind n = record { root = firstBit n; low = firstBit n; high = lastOpen kind n }
 
 -- ---- the step over an edge: bits are clipped after they are shifted (000, 2.5.1)
 
@@ -54,14 +67,14 @@ shift o r = record { root = r .root; low = r .low -ℤ o; high = r .high -ℤ o 
 unfoldable pub clip : ℤ → ℤ → Run → Run
 clip first last r = record { root = r .root +ℤ (maxZ first (r .low) -ℤ r .low); low = maxZ first (r .low); high = minZ last (r .high) }
 
--- over an edge: shift by the bit offset, then clip at the node entered, by its first and last bit (000, 2.17 and 2.18)
-unfoldable pub across : Graph → Edge → Run → Run
-across g e r = clip (firstBit (node g (e .to))) (lastBit (node g (e .to))) (shift (bitOffset g e) r)
+-- over an edge: shift by the bit offset, then clip at the node entered, by the first and the last bit on which the walk may stand (000, 2.17 and 2.18)
+unfoldable pub across : WalkKind → Graph → Edge → Run → Run
+across kind g e r = clip (firstBit (node g (e .to))) (lastOpen kind (node g (e .to))) (shift (bitOffset g e) r)
 
 -- the run of a path: over its edges, one after the other
-unfoldable pub along : Graph → List Edge → Run → Run
-along g [] r = r
-along g (e ∷ p) r = along g p (across g e r)
+unfoldable pub along : WalkKind → Graph → List Edge → Run → Run
+along kind g [] r = r
+along kind g (e ∷ p) r = along kind g p (across kind g e r)
 
 -- ---- paths (000, Algorithm 3)
 
@@ -82,8 +95,8 @@ paths g r l = pathsWithin maxChain g r l
 -- ---- the runs of all paths
 
 -- the runs of all paths from a root to a leaf, but for the empty ones
-unfoldable pub runs : Graph → ℤ → ℤ → List Run
-runs g r l = keep (λ s. not (empty s)) (map (λ p. along g p (whole (node g r))) (paths g r l))
+unfoldable pub runs : WalkKind → Graph → ℤ → ℤ → List Run
+runs kind g r l = keep (λ s. not (empty s)) (map (λ p. along kind g p (whole kind (node g r))) (paths g r l))
 
 -- ---- records
 
@@ -123,6 +136,6 @@ unfoldable pub normal : List Record → List Record
 normal [] = []
 normal (r ∷ t) = add r (normal t)
 
--- the bitmapping list of root r and leaf l
-unfoldable pub listOf : Graph → ℤ → ℤ → List Record
-listOf g r l = normal (map (recordOf (node g l)) (runs g r l))
+-- the bitmapping list of root r and leaf l, for walks of this kind
+unfoldable pub listOf : WalkKind → Graph → ℤ → ℤ → List Record
+listOf kind g r l = normal (map (recordOf (node g l)) (runs kind g r l))

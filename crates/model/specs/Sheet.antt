@@ -9,8 +9,9 @@ use lib.Signed.{_≤ℤ_, _<ℤ_}
 use lib.ListN.{length}
 use Rattle.integers.specs.Integers.{eqZ}
 use Rattle.lists.specs.Lists.{_∈_}
+use Rattle.model.specs.declared.WalkKind.{WalkKind}
 use Rattle.model.specs.Limits.{sheetNumbers, sheetBytes, byteBits}
-use Rattle.model.specs.Graph.{Graph, graphOf, space, block}
+use Rattle.model.specs.Graph.{Graph, graphOf, space, block, readWrite}
 use Rattle.model.specs.Walk.{Reached}
 use Rattle.model.specs.Paths.{Root, Leaf}
 use Rattle.model.specs.Calls.{ascending}
@@ -71,9 +72,9 @@ unfoldable pub sizeOf : List SheetLine → ℤ → ℤ
 sizeOf [] m = pos 0
 sizeOf (s ∷ ls) m = let later = sizeOf ls m in cond (eqZ (s .block) m) (s .size) later
 
--- the four numbers of a node of base 0 and unit 8 (document 01: kind, base, range, unit)
+-- the five numbers of a node of base 0 and unit 8 that may be read and written (document 01: kind, base, range, unit; document 02, item 7: access)
 unfoldable pub byteNode : ℤ → ℤ → List ℤ
-byteNode kind range = kind ∷ pos 0 ∷ range ∷ pos byteBits ∷ []
+byteNode kind range = kind ∷ pos 0 ∷ range ∷ pos byteBits ∷ readWrite ∷ []
 
 -- the node table: a space of 2^48 bytes for each initiator, then a block of its size for each block
 unfoldable pub sheetNodes : List SheetLine → List ℤ
@@ -113,11 +114,11 @@ pub record Given (ls : List SheetLine) (n m x y : ℤ) : Type 0 where
   pub leafBit : y ≡ bitOf (pos i) c
 
 -- the graph has a root for each initiator and a leaf for each block and no other, and a root bit of an initiator reaches a leaf bit of a block
--- exactly where some line gives the two
+-- exactly where some line gives the two, by either kind of walk
 pub record AsGiven (ls : List SheetLine) (g : Graph) : Type 0 where
   pub roots : (v : ℤ) → Root g v ↔ ((n : ℤ) × (n ∈ initiators ls) × (v ≡ pos (initiatorRow ls n)))
   pub leaves : (v : ℤ) → Leaf g v ↔ ((m : ℤ) × (m ∈ blocks ls) × (v ≡ pos (blockRow ls m)))
   pub ownRoot : (n k : ℤ) → n ∈ initiators ls → k ∈ initiators ls → initiatorRow ls n ≡ initiatorRow ls k → n ≡ k
   pub ownLeaf : (m k : ℤ) → m ∈ blocks ls → k ∈ blocks ls → blockRow ls m ≡ blockRow ls k → m ≡ k
-  pub walks : (n m : ℤ) → n ∈ initiators ls → m ∈ blocks ls → (x y : ℤ)
-      → Reached g (pos (initiatorRow ls n)) (pos (blockRow ls m)) x y ↔ Given ls n m x y
+  pub walks : (kind : WalkKind) (n m : ℤ) → n ∈ initiators ls → m ∈ blocks ls → (x y : ℤ)
+      → Reached kind g (pos (initiatorRow ls n)) (pos (blockRow ls m)) x y ↔ Given ls n m x y

@@ -77,7 +77,7 @@ sheetEdgesAfter text nodes edges = bufferAfter (tableIn sheetEdges (sheetAnswer 
 
 -- ---- what is printed for a sheet
 
--- the lines of a node row and of an edge row of side 0, the specification
+-- the lines of a node row and of an edge row of side 0, the specification. A node row is written without its access, and absent means 0
 unfoldable pub nodeLine : Node → Bytes
 nodeLine n = lineOf (pos 0 ∷ n .kind ∷ n .base ∷ n .range ∷ n .unit ∷ [])
 

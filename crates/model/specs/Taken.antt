@@ -1,4 +1,5 @@
--- What a graph and a pair row that meet no condition for a refusal have: the contracts of what runs after a check ask for it. Assumes nothing.
+-- What a graph and a pair row that meet no condition for a refusal have, and what it is that all nodes of a graph are open to both kinds of walk: the contracts of what runs after a check ask for it.
+-- Assumes nothing.
 use mathlib.Core.Path.{_≡_}
 use mathlib.Core.Logic.{_≢_}
 use mathlib.Core.List.{List}
@@ -9,7 +10,7 @@ use lib.ListN.{length}
 use Rattle.lists.specs.Lists.{_∈_, Distinct}
 use Rattle.model.specs.Limits.{nodeWidth, edgeWidth, maxNodes, maxEdges}
 use Rattle.model.specs.Rows.{Edge, Pair}
-use Rattle.model.specs.Graph.{Graph, graphOf, NodeRow, node, block}
+use Rattle.model.specs.Graph.{Graph, graphOf, NodeRow, node, block, readWrite}
 use Rattle.model.specs.Paths.{Cycle, LongChain}
 use Rattle.model.specs.Refusals.{BadNode, LowOffset, HighOffset, PairedBefore}
 
@@ -22,6 +23,10 @@ pub record Taken (g : Graph) : Type 0 where
   pub offsets : (e : Edge) → e ∈ g .edges → (LowOffset g e → ⊥) × (HighOffset g e → ⊥)
   pub fromNoBlock : (e : Edge) → e ∈ g .edges → node g (e .from) .kind ≢ block
   pub distinct : Distinct (g .edges)
+
+-- every node may be read and written: no walk of either kind ends at an access
+abbrev pub AllOpen : Graph → Type 0
+AllOpen g = (v : ℤ) → node g v .access ≡ readWrite
 
 -- whole rows, and no more of them than the limit
 pub record GoodShape (width most : ℕ) (xs : List ℤ) : Type 0 where

@@ -7,7 +7,7 @@ ghost use Rattle.model.specs.Answers.{verdictNumber};
 ghost use Rattle.model.specs.Quantities.{Addable, Scalable, Movable, Subtractable};
 
 // Numbers of a node row, of an edge row and of a pair row.
-pub const NODE_WIDTH: usize = 4;
+pub const NODE_WIDTH: usize = 5;
 
 pub const EDGE_WIDTH: usize = 3;
 
@@ -85,6 +85,19 @@ pub const SPACE: i64 = 0;
 pub const SEGMENT: i64 = 1;
 
 pub const BLOCK: i64 = 2;
+
+// Access of nodes: read and write, read only, write only.
+pub const READ_WRITE: i64 = 0;
+
+pub const READ_ONLY: i64 = 1;
+
+pub const WRITE_ONLY: i64 = 2;
+
+// The kinds of walks: those that read, and those that write.
+pub enum WalkKind {
+    Reading,
+    Writing,
+}
 
 // A count of address units.
 pub struct Units(pub i64);

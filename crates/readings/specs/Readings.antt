@@ -4,6 +4,8 @@ use mathlib.Core.List.{List, [], _∷_, _++_}
 use Prim.Native.Nat.{ℕ, _*_, _-_, _^_}
 use Prim.Native.String.{String}
 use lib.IntN.{ℤ, pos, negsuc, negℤ}
+use Rattle.model.specs.declared.WalkKind.{WalkKind}
+use Rattle.model.specs.declared.WalkKind.the-variants as kinds
 use Rattle.model.specs.Compare.{Tables, nowhere, Result}
 use Rattle.model.specs.Calls.{Answer, full, checkAnswer, walkGives, walkAfter, listGives, listAfter, compareAnswer}
 use Rattle.model.specs.Bytes.{Bytes, bytes}
@@ -14,13 +16,13 @@ use Rattle.model.specs.Marked.{specNodes, specEdges, refusal, times, text1, rep
 -- two specified memories of 16 bytes, blocks 1 and 2, of which the second lies behind the first; blocks 1 and 2 of the implementation are the halves of the
 -- first, blocks 3 and 4 those of the second
 abbrev pub memoryNodes : List ℤ
-memoryNodes = pos 0 ∷ pos 0 ∷ pos 32 ∷ pos 8 ∷ times 2 (pos 2 ∷ pos 0 ∷ pos 16 ∷ pos 8 ∷ [])
+memoryNodes = pos 0 ∷ pos 0 ∷ pos 32 ∷ pos 8 ∷ pos 0 ∷ times 2 (pos 2 ∷ pos 0 ∷ pos 16 ∷ pos 8 ∷ pos 0 ∷ [])
 
 abbrev pub memoryEdges : List ℤ
 memoryEdges = pos 0 ∷ pos 1 ∷ pos 0 ∷ pos 0 ∷ pos 2 ∷ pos 16 ∷ []
 
 abbrev pub bankNodes : List ℤ
-bankNodes = pos 0 ∷ pos 0 ∷ pos 32 ∷ pos 8 ∷ times 4 (pos 2 ∷ pos 0 ∷ pos 8 ∷ pos 8 ∷ [])
+bankNodes = pos 0 ∷ pos 0 ∷ pos 32 ∷ pos 8 ∷ pos 0 ∷ times 4 (pos 2 ∷ pos 0 ∷ pos 8 ∷ pos 8 ∷ pos 0 ∷ [])
 
 abbrev pub bankEdges : List ℤ
 bankEdges = pos 0 ∷ pos 1 ∷ pos 0 ∷ pos 0 ∷ pos 2 ∷ pos 8 ∷ pos 0 ∷ pos 3 ∷ pos 16 ∷ pos 0 ∷ pos 4 ∷ pos 24 ∷ []
@@ -35,17 +37,23 @@ abbrev pub memoriesText : String
 memoriesText =
     "side kind base range unit\n0 0 0 32 8\n0 2 0 16 8\n0 2 0 16 8\n1 0 0 32 8\n1 2 0 8 8\n1 2 0 8 8\n1 2 0 8 8\n1 2 0 8 8\n\nside from to offset\n0 0 1 0\n0 0 2 16\n1 0 1 0\n1 0 2 8\n1 0 3 16\n1 0 4 24\n\n"
 
+-- what stands below the node table of a map file with one root and one leaf on each side: rows 0 and 1, the leaf from byte 4 of the root on
+abbrev pub oneLeafText : String
+oneLeafText = "\nside from to offset\n0 0 1 4\n1 0 1 4\n\nrole spec impl\n0 0 0\n1 1 1\n"
+
 pub data Reading : Type 0 where
   -- a map file, and what mapcheck prints for it
   prints : String → String → Reading
+  -- the first table of a map file with one root and one leaf on each side, and what mapcheck prints for it
+  printsNodes : String → String → Reading
   -- the third table of a map file of the memories, and what mapcheck prints for it
   printsPairs : String → String → Reading
   -- node table and edge table, and the answer of the check
   checks : List ℤ → List ℤ → Answer (Unit {0}) → Reading
-  -- tables, root, leaf, address and buffer; what walk returns, and the buffer afterwards
-  walks : List ℤ → List ℤ → ℤ → ℤ → ℤ → List ℤ → Answer ℕ → List ℤ → Reading
-  -- tables, root, leaf and buffer; what list returns, and the buffer afterwards
-  listed : List ℤ → List ℤ → ℤ → ℤ → List ℤ → Answer ℕ → List ℤ → Reading
+  -- kind of walk, tables, root, leaf, address and buffer; what walk returns, and the buffer afterwards
+  walks : WalkKind → List ℤ → List ℤ → ℤ → ℤ → ℤ → List ℤ → Answer ℕ → List ℤ → Reading
+  -- kind of walk, tables, root, leaf and buffer; what list returns, and the buffer afterwards
+  listed : WalkKind → List ℤ → List ℤ → ℤ → ℤ → List ℤ → Answer ℕ → List ℤ → Reading
   -- two graphs with their pairing, and the answer of the comparison
   compares : Tables → Answer Result → Reading
   -- a text and a report buffer, and what the call through C linkage returns
@@ -60,10 +68,11 @@ pub data Reading : Type 0 where
 -- what a reading says
 abbrev pub Says : Reading → Type 0
 Says (prints text out) = printed (bytes text) ≡ bytes out
+Says (printsNodes nodes out) = printed (bytes nodes ++ bytes oneLeafText) ≡ bytes out
 Says (printsPairs pairs out) = printed (bytes memoriesText ++ bytes pairs) ≡ bytes out
 Says (checks ns es a) = checkAnswer ns es ≡ a
-Says (walks ns es r l x b n after) = (walkGives ns es r l x b ≡ n) × (walkAfter ns es r l x b ≡ after)
-Says (listed ns es r l b n after) = (listGives ns es r l b ≡ n) × (listAfter ns es r l b ≡ after)
+Says (walks kind ns es r l x b n after) = (walkGives kind ns es r l x b ≡ n) × (walkAfter kind ns es r l x b ≡ after)
+Says (listed kind ns es r l b n after) = (listGives kind ns es r l b ≡ n) × (listAfter kind ns es r l b ≡ after)
 Says (compares t a) = compareAnswer t ≡ a
 Says (codes text b n) = coded (textGives text b) ≡ n
 Says (tallies c counts n report counted) = (tallyGives c ≡ n) × (tallyAfter c ≡ report) × (countsAfter c counts ≡ counted)
@@ -85,7 +94,7 @@ textReadings =
     -- names alone: no root pair
     prints "side kind base range unit\n\nside from to offset\n\nrole spec impl\n" "refusal table row\n9 4 0\n" ∷
     -- names in any order: P1 with its columns turned round
-    prints "unit range base kind side\n8 4096 0 0 0\n8 64 256 2 0\n8 4096 0 0 1\n32 12 0 0 1\n32 16 0 2 1\n\noffset to side from\n0 1 0 0\n64 1 1 0\n0 2 1 1\n\nimpl role spec\n0 0 0\n2 1 1\n" "root leaf verdict spec impl\n0 0 1 1 1\n\nverdict equal partial different root leaf address\n1 0 1 0 0 0 2432\n" ∷
+    prints "unit range base kind side\n8 4096 0 0 0\n8 64 256 2 0\n8 4096 0 0 1\n32 12 0 0 1\n32 16 0 2 1\n\noffset to side from\n0 1 0 0\n64 1 1 0\n0 2 1 1\n\nimpl role spec\n0 0 0\n2 1 1\n" "root leaf verdict rspec rimpl wspec wimpl\n0 0 1 1 1 1 1\n\nverdict equal partial different root leaf address\n1 0 1 0 0 0 2432\n" ∷
     -- a name twice
     prints "side side base range unit\n\n" "refusal table row\n13 6 1\n" ∷
     -- a name too many
@@ -129,9 +138,9 @@ textReadings =
     -- rows count per side: row 1 of the implementation is bad
     prints "side kind base range unit\n1 0 0 1 8\n0 0 0 1 8\n1 0 0 0 8\n\nside from to offset\n\nrole spec impl\n" "refusal table row\n2 2 1\n" ∷
     -- a pair with records on one side only has a line: different
-    prints "side kind base range unit\n0 0 0 4 8\n0 2 0 4 8\n1 0 0 4 8\n1 2 0 4 8\n\nside from to offset\n0 0 1 0\n\nrole spec impl\n0 0 0\n1 1 1\n" "root leaf verdict spec impl\n0 0 2 1 0\n\nverdict equal partial different root leaf address\n2 0 0 1 0 0 0\n" ∷
+    prints "side kind base range unit\n0 0 0 4 8\n0 2 0 4 8\n1 0 0 4 8\n1 2 0 4 8\n\nside from to offset\n0 0 1 0\n\nrole spec impl\n0 0 0\n1 1 1\n" "root leaf verdict rspec rimpl wspec wimpl\n0 0 2 1 0 1 0\n\nverdict equal partial different root leaf address\n2 0 0 1 0 0 0\n" ∷
     -- a pair with no record has none: equal
-    prints "side kind base range unit\n0 0 0 4 8\n0 2 0 4 8\n1 0 0 4 8\n1 2 0 4 8\n\nside from to offset\n\nrole spec impl\n0 0 0\n1 1 1\n" "root leaf verdict spec impl\n\nverdict equal partial different root leaf address\n0 1 0 0 -1 -1 -1\n" ∷
+    prints "side kind base range unit\n0 0 0 4 8\n0 2 0 4 8\n1 0 0 4 8\n1 2 0 4 8\n\nside from to offset\n\nrole spec impl\n0 0 0\n1 1 1\n" "root leaf verdict rspec rimpl wspec wimpl\n\nverdict equal partial different root leaf address\n0 1 0 0 -1 -1 -1\n" ∷
     []
 
 -- one graph
@@ -139,83 +148,83 @@ abbrev pub graphReadings : List Reading
 graphReadings =
     -- no nodes and no edges
     checks [] [] (full tt) ∷
-    -- a node table of five numbers
-    checks (pos 0 ∷ pos 0 ∷ pos 16 ∷ pos 8 ∷ pos 0 ∷ []) [] (refusal 1 0 0) ∷
+    -- a node table of six numbers
+    checks (pos 0 ∷ pos 0 ∷ pos 16 ∷ pos 8 ∷ pos 0 ∷ pos 0 ∷ []) [] (refusal 1 0 0) ∷
     -- 2,000 nodes, and one more
-    checks (times 2000 (pos 0 ∷ pos 0 ∷ pos 16 ∷ pos 8 ∷ [])) [] (full tt) ∷
-    checks (times 2001 (pos 0 ∷ pos 0 ∷ pos 16 ∷ pos 8 ∷ [])) [] (refusal 1 0 0) ∷
+    checks (times 2000 (pos 0 ∷ pos 0 ∷ pos 16 ∷ pos 8 ∷ pos 0 ∷ [])) [] (full tt) ∷
+    checks (times 2001 (pos 0 ∷ pos 0 ∷ pos 16 ∷ pos 8 ∷ pos 0 ∷ [])) [] (refusal 1 0 0) ∷
     -- 2,600 edges, and one more
-    checks (pos 0 ∷ pos 0 ∷ pos 16 ∷ pos 8 ∷ pos 2 ∷ pos 0 ∷ pos 16 ∷ pos 8 ∷ []) (times 2600 (pos 0 ∷ pos 1 ∷ pos 0 ∷ [])) (full tt) ∷
-    checks (pos 0 ∷ pos 0 ∷ pos 16 ∷ pos 8 ∷ pos 2 ∷ pos 0 ∷ pos 16 ∷ pos 8 ∷ []) (times 2601 (pos 0 ∷ pos 1 ∷ pos 0 ∷ [])) (refusal 1 1 0) ∷
+    checks (pos 0 ∷ pos 0 ∷ pos 16 ∷ pos 8 ∷ pos 0 ∷ pos 2 ∷ pos 0 ∷ pos 16 ∷ pos 8 ∷ pos 0 ∷ []) (times 2600 (pos 0 ∷ pos 1 ∷ pos 0 ∷ [])) (full tt) ∷
+    checks (pos 0 ∷ pos 0 ∷ pos 16 ∷ pos 8 ∷ pos 0 ∷ pos 2 ∷ pos 0 ∷ pos 16 ∷ pos 8 ∷ pos 0 ∷ []) (times 2601 (pos 0 ∷ pos 1 ∷ pos 0 ∷ [])) (refusal 1 1 0) ∷
     -- the least and the largest number
-    checks (pos 0 ∷ negsuc 9223372036854775807 ∷ pos 9223372036854775807 ∷ pos 8 ∷ []) [] (refusal 2 0 0) ∷
-    checks (pos 0 ∷ pos 9223372036854775807 ∷ pos 9223372036854775807 ∷ pos 8 ∷ []) [] (refusal 2 0 0) ∷
+    checks (pos 0 ∷ negsuc 9223372036854775807 ∷ pos 9223372036854775807 ∷ pos 8 ∷ pos 0 ∷ []) [] (refusal 2 0 0) ∷
+    checks (pos 0 ∷ pos 9223372036854775807 ∷ pos 9223372036854775807 ∷ pos 8 ∷ pos 0 ∷ []) [] (refusal 2 0 0) ∷
     -- unknown kind, unknown unit, no range
-    checks (pos 0 ∷ pos 0 ∷ pos 16 ∷ pos 8 ∷ pos 3 ∷ pos 0 ∷ pos 1 ∷ pos 8 ∷ []) [] (refusal 2 0 1) ∷
-    checks (pos 0 ∷ pos 0 ∷ pos 1 ∷ pos 24 ∷ []) [] (refusal 2 0 0) ∷
-    checks (pos 0 ∷ pos 0 ∷ pos 0 ∷ pos 8 ∷ []) [] (refusal 2 0 0) ∷
+    checks (pos 0 ∷ pos 0 ∷ pos 16 ∷ pos 8 ∷ pos 0 ∷ pos 3 ∷ pos 0 ∷ pos 1 ∷ pos 8 ∷ pos 0 ∷ []) [] (refusal 2 0 1) ∷
+    checks (pos 0 ∷ pos 0 ∷ pos 1 ∷ pos 24 ∷ pos 0 ∷ []) [] (refusal 2 0 0) ∷
+    checks (pos 0 ∷ pos 0 ∷ pos 0 ∷ pos 8 ∷ pos 0 ∷ []) [] (refusal 2 0 0) ∷
     -- an end that is no node row
-    checks (pos 0 ∷ pos 0 ∷ pos 16 ∷ pos 8 ∷ pos 2 ∷ pos 0 ∷ pos 16 ∷ pos 8 ∷ []) (pos 0 ∷ pos 2 ∷ pos 0 ∷ []) (refusal 3 1 0) ∷
-    checks (pos 0 ∷ pos 0 ∷ pos 16 ∷ pos 8 ∷ pos 2 ∷ pos 0 ∷ pos 16 ∷ pos 8 ∷ []) (negsuc 0 ∷ pos 1 ∷ pos 0 ∷ []) (refusal 3 1 0) ∷
+    checks (pos 0 ∷ pos 0 ∷ pos 16 ∷ pos 8 ∷ pos 0 ∷ pos 2 ∷ pos 0 ∷ pos 16 ∷ pos 8 ∷ pos 0 ∷ []) (pos 0 ∷ pos 2 ∷ pos 0 ∷ []) (refusal 3 1 0) ∷
+    checks (pos 0 ∷ pos 0 ∷ pos 16 ∷ pos 8 ∷ pos 0 ∷ pos 2 ∷ pos 0 ∷ pos 16 ∷ pos 8 ∷ pos 0 ∷ []) (negsuc 0 ∷ pos 1 ∷ pos 0 ∷ []) (refusal 3 1 0) ∷
     -- from a block, in a lower row than a bad end
-    checks (pos 0 ∷ pos 0 ∷ pos 16 ∷ pos 8 ∷ pos 2 ∷ pos 0 ∷ pos 16 ∷ pos 8 ∷ []) (pos 0 ∷ pos 1 ∷ pos 0 ∷ pos 1 ∷ pos 0 ∷ pos 0 ∷ pos 0 ∷ pos 5 ∷ pos 0 ∷ []) (refusal 4 1 1) ∷
+    checks (pos 0 ∷ pos 0 ∷ pos 16 ∷ pos 8 ∷ pos 0 ∷ pos 2 ∷ pos 0 ∷ pos 16 ∷ pos 8 ∷ pos 0 ∷ []) (pos 0 ∷ pos 1 ∷ pos 0 ∷ pos 1 ∷ pos 0 ∷ pos 0 ∷ pos 0 ∷ pos 5 ∷ pos 0 ∷ []) (refusal 4 1 1) ∷
     -- an edge from a block to no node row: 3 before 4
-    checks (pos 0 ∷ pos 0 ∷ pos 16 ∷ pos 8 ∷ pos 2 ∷ pos 0 ∷ pos 16 ∷ pos 8 ∷ []) (pos 1 ∷ pos 9 ∷ pos 0 ∷ []) (refusal 3 1 0) ∷
+    checks (pos 0 ∷ pos 0 ∷ pos 16 ∷ pos 8 ∷ pos 0 ∷ pos 2 ∷ pos 0 ∷ pos 16 ∷ pos 8 ∷ pos 0 ∷ []) (pos 1 ∷ pos 9 ∷ pos 0 ∷ []) (refusal 3 1 0) ∷
     -- a self-loop of a space, and of a block
-    checks (pos 0 ∷ pos 0 ∷ pos 16 ∷ pos 8 ∷ []) (pos 0 ∷ pos 0 ∷ pos 0 ∷ []) (refusal 5 0 0) ∷
-    checks (pos 2 ∷ pos 0 ∷ pos 16 ∷ pos 8 ∷ []) (pos 0 ∷ pos 0 ∷ pos 0 ∷ []) (refusal 4 1 0) ∷
+    checks (pos 0 ∷ pos 0 ∷ pos 16 ∷ pos 8 ∷ pos 0 ∷ []) (pos 0 ∷ pos 0 ∷ pos 0 ∷ []) (refusal 5 0 0) ∷
+    checks (pos 2 ∷ pos 0 ∷ pos 16 ∷ pos 8 ∷ pos 0 ∷ []) (pos 0 ∷ pos 0 ∷ pos 0 ∷ []) (refusal 4 1 0) ∷
     []
 
 -- walk, list and compare
 abbrev pub callReadings : List Reading
 callReadings =
     -- a walk: the address, one past the root, and a negative one
-    walks (pos 0 ∷ pos 0 ∷ pos 16 ∷ pos 8 ∷ pos 2 ∷ pos 0 ∷ pos 16 ∷ pos 8 ∷ []) (pos 0 ∷ pos 1 ∷ pos 0 ∷ []) (pos 0) (pos 1) (pos 5) (pos 9 ∷ pos 9 ∷ []) (full 1) (pos 5 ∷ pos 9 ∷ []) ∷
-    walks (pos 0 ∷ pos 0 ∷ pos 16 ∷ pos 8 ∷ pos 2 ∷ pos 0 ∷ pos 16 ∷ pos 8 ∷ []) (pos 0 ∷ pos 1 ∷ pos 0 ∷ []) (pos 0) (pos 1) (pos 128) (pos 9 ∷ []) (full 0) (pos 9 ∷ []) ∷
-    walks (pos 0 ∷ pos 0 ∷ pos 16 ∷ pos 8 ∷ pos 2 ∷ pos 0 ∷ pos 16 ∷ pos 8 ∷ []) (pos 0 ∷ pos 1 ∷ pos 0 ∷ []) (pos 0) (pos 1) (negsuc 0) [] (full 0) [] ∷
+    walks kinds.Reading (pos 0 ∷ pos 0 ∷ pos 16 ∷ pos 8 ∷ pos 0 ∷ pos 2 ∷ pos 0 ∷ pos 16 ∷ pos 8 ∷ pos 0 ∷ []) (pos 0 ∷ pos 1 ∷ pos 0 ∷ []) (pos 0) (pos 1) (pos 5) (pos 9 ∷ pos 9 ∷ []) (full 1) (pos 5 ∷ pos 9 ∷ []) ∷
+    walks kinds.Reading (pos 0 ∷ pos 0 ∷ pos 16 ∷ pos 8 ∷ pos 0 ∷ pos 2 ∷ pos 0 ∷ pos 16 ∷ pos 8 ∷ pos 0 ∷ []) (pos 0 ∷ pos 1 ∷ pos 0 ∷ []) (pos 0) (pos 1) (pos 128) (pos 9 ∷ []) (full 0) (pos 9 ∷ []) ∷
+    walks kinds.Reading (pos 0 ∷ pos 0 ∷ pos 16 ∷ pos 8 ∷ pos 0 ∷ pos 2 ∷ pos 0 ∷ pos 16 ∷ pos 8 ∷ pos 0 ∷ []) (pos 0 ∷ pos 1 ∷ pos 0 ∷ []) (pos 0) (pos 1) (negsuc 0) [] (full 0) [] ∷
     -- parallel edges reach a leaf bit once; two offsets reach two, ascending
-    walks (pos 0 ∷ pos 0 ∷ pos 16 ∷ pos 8 ∷ pos 2 ∷ pos 0 ∷ pos 16 ∷ pos 8 ∷ []) (pos 0 ∷ pos 1 ∷ pos 1 ∷ pos 0 ∷ pos 1 ∷ pos 0 ∷ pos 0 ∷ pos 1 ∷ pos 1 ∷ []) (pos 0) (pos 1) (pos 8) (pos 7 ∷ pos 7 ∷ pos 7 ∷ []) (full 2) (pos 0 ∷ pos 8 ∷ pos 7 ∷ []) ∷
+    walks kinds.Reading (pos 0 ∷ pos 0 ∷ pos 16 ∷ pos 8 ∷ pos 0 ∷ pos 2 ∷ pos 0 ∷ pos 16 ∷ pos 8 ∷ pos 0 ∷ []) (pos 0 ∷ pos 1 ∷ pos 1 ∷ pos 0 ∷ pos 1 ∷ pos 0 ∷ pos 0 ∷ pos 1 ∷ pos 1 ∷ []) (pos 0) (pos 1) (pos 8) (pos 7 ∷ pos 7 ∷ pos 7 ∷ []) (full 2) (pos 0 ∷ pos 8 ∷ pos 7 ∷ []) ∷
     -- a root with base 4: root bits count from address 0, and below its first bit, 32, none is reached
-    walks (pos 0 ∷ pos 4 ∷ pos 16 ∷ pos 8 ∷ pos 2 ∷ pos 0 ∷ pos 16 ∷ pos 8 ∷ []) (pos 0 ∷ pos 1 ∷ pos 4 ∷ []) (pos 0) (pos 1) (pos 40) (pos 9 ∷ []) (full 1) (pos 8 ∷ []) ∷
-    walks (pos 0 ∷ pos 4 ∷ pos 16 ∷ pos 8 ∷ pos 2 ∷ pos 0 ∷ pos 16 ∷ pos 8 ∷ []) (pos 0 ∷ pos 1 ∷ pos 4 ∷ []) (pos 0) (pos 1) (pos 31) (pos 9 ∷ []) (full 0) (pos 9 ∷ []) ∷
+    walks kinds.Reading (pos 0 ∷ pos 4 ∷ pos 16 ∷ pos 8 ∷ pos 0 ∷ pos 2 ∷ pos 0 ∷ pos 16 ∷ pos 8 ∷ pos 0 ∷ []) (pos 0 ∷ pos 1 ∷ pos 4 ∷ []) (pos 0) (pos 1) (pos 40) (pos 9 ∷ []) (full 1) (pos 8 ∷ []) ∷
+    walks kinds.Reading (pos 0 ∷ pos 4 ∷ pos 16 ∷ pos 8 ∷ pos 0 ∷ pos 2 ∷ pos 0 ∷ pos 16 ∷ pos 8 ∷ pos 0 ∷ []) (pos 0 ∷ pos 1 ∷ pos 4 ∷ []) (pos 0) (pos 1) (pos 31) (pos 9 ∷ []) (full 0) (pos 9 ∷ []) ∷
     -- no room: 11, and the buffer as it was
-    walks (pos 0 ∷ pos 0 ∷ pos 16 ∷ pos 8 ∷ pos 2 ∷ pos 0 ∷ pos 16 ∷ pos 8 ∷ []) (pos 0 ∷ pos 1 ∷ pos 1 ∷ pos 0 ∷ pos 1 ∷ pos 0 ∷ []) (pos 0) (pos 1) (pos 8) (pos 7 ∷ []) (refusal 11 7 0) (pos 7 ∷ []) ∷
+    walks kinds.Reading (pos 0 ∷ pos 0 ∷ pos 16 ∷ pos 8 ∷ pos 0 ∷ pos 2 ∷ pos 0 ∷ pos 16 ∷ pos 8 ∷ pos 0 ∷ []) (pos 0 ∷ pos 1 ∷ pos 1 ∷ pos 0 ∷ pos 1 ∷ pos 0 ∷ []) (pos 0) (pos 1) (pos 8) (pos 7 ∷ []) (refusal 11 7 0) (pos 7 ∷ []) ∷
     -- the named root is no root; the leaf no leaf; neither a node row
-    walks (pos 0 ∷ pos 0 ∷ pos 16 ∷ pos 8 ∷ pos 2 ∷ pos 0 ∷ pos 16 ∷ pos 8 ∷ []) (pos 0 ∷ pos 1 ∷ pos 0 ∷ []) (pos 1) (pos 1) (pos 0) [] (refusal 7 4 0) [] ∷
-    walks (pos 0 ∷ pos 0 ∷ pos 16 ∷ pos 8 ∷ pos 2 ∷ pos 0 ∷ pos 16 ∷ pos 8 ∷ []) (pos 0 ∷ pos 1 ∷ pos 0 ∷ []) (pos 0) (pos 0) (pos 0) [] (refusal 7 5 0) [] ∷
-    walks (pos 0 ∷ pos 0 ∷ pos 16 ∷ pos 8 ∷ pos 2 ∷ pos 0 ∷ pos 16 ∷ pos 8 ∷ []) (pos 0 ∷ pos 1 ∷ pos 0 ∷ []) (negsuc 0) (pos 7) (pos 0) [] (refusal 7 4 0) [] ∷
+    walks kinds.Reading (pos 0 ∷ pos 0 ∷ pos 16 ∷ pos 8 ∷ pos 0 ∷ pos 2 ∷ pos 0 ∷ pos 16 ∷ pos 8 ∷ pos 0 ∷ []) (pos 0 ∷ pos 1 ∷ pos 0 ∷ []) (pos 1) (pos 1) (pos 0) [] (refusal 7 4 0) [] ∷
+    walks kinds.Reading (pos 0 ∷ pos 0 ∷ pos 16 ∷ pos 8 ∷ pos 0 ∷ pos 2 ∷ pos 0 ∷ pos 16 ∷ pos 8 ∷ pos 0 ∷ []) (pos 0 ∷ pos 1 ∷ pos 0 ∷ []) (pos 0) (pos 0) (pos 0) [] (refusal 7 5 0) [] ∷
+    walks kinds.Reading (pos 0 ∷ pos 0 ∷ pos 16 ∷ pos 8 ∷ pos 0 ∷ pos 2 ∷ pos 0 ∷ pos 16 ∷ pos 8 ∷ pos 0 ∷ []) (pos 0 ∷ pos 1 ∷ pos 0 ∷ []) (negsuc 0) (pos 7) (pos 0) [] (refusal 7 4 0) [] ∷
     -- 10 is told though the address lies outside the root
-    walks (pos 0 ∷ pos 0 ∷ pos 16 ∷ pos 8 ∷ pos 2 ∷ pos 0 ∷ pos 16 ∷ pos 8 ∷ []) (times 1025 (pos 0 ∷ pos 1 ∷ pos 0 ∷ [])) (pos 0) (pos 1) (pos 128) [] (refusal 10 1 0) [] ∷
+    walks kinds.Reading (pos 0 ∷ pos 0 ∷ pos 16 ∷ pos 8 ∷ pos 0 ∷ pos 2 ∷ pos 0 ∷ pos 16 ∷ pos 8 ∷ pos 0 ∷ []) (times 1025 (pos 0 ∷ pos 1 ∷ pos 0 ∷ [])) (pos 0) (pos 1) (pos 128) [] (refusal 10 1 0) [] ∷
     -- the record of a root with base 4
-    listed (pos 0 ∷ pos 4 ∷ pos 16 ∷ pos 8 ∷ pos 2 ∷ pos 0 ∷ pos 16 ∷ pos 8 ∷ []) (pos 0 ∷ pos 1 ∷ pos 4 ∷ []) (pos 0) (pos 1) (pos 9 ∷ pos 9 ∷ pos 9 ∷ []) (full 1) (pos 32 ∷ pos 159 ∷ pos 32 ∷ []) ∷
+    listed kinds.Reading (pos 0 ∷ pos 4 ∷ pos 16 ∷ pos 8 ∷ pos 0 ∷ pos 2 ∷ pos 0 ∷ pos 16 ∷ pos 8 ∷ pos 0 ∷ []) (pos 0 ∷ pos 1 ∷ pos 4 ∷ []) (pos 0) (pos 1) (pos 9 ∷ pos 9 ∷ pos 9 ∷ []) (full 1) (pos 32 ∷ pos 159 ∷ pos 32 ∷ []) ∷
     -- a list of one record needs three numbers, and past them the buffer keeps its own
-    listed (pos 0 ∷ pos 0 ∷ pos 16 ∷ pos 8 ∷ pos 2 ∷ pos 0 ∷ pos 16 ∷ pos 8 ∷ []) (pos 0 ∷ pos 1 ∷ pos 0 ∷ []) (pos 0) (pos 1) (pos 9 ∷ pos 9 ∷ pos 9 ∷ pos 9 ∷ []) (full 1) (pos 0 ∷ pos 127 ∷ pos 0 ∷ pos 9 ∷ []) ∷
-    listed (pos 0 ∷ pos 0 ∷ pos 16 ∷ pos 8 ∷ pos 2 ∷ pos 0 ∷ pos 16 ∷ pos 8 ∷ []) (pos 0 ∷ pos 1 ∷ pos 0 ∷ []) (pos 0) (pos 1) (pos 9 ∷ pos 9 ∷ []) (refusal 11 7 0) (pos 9 ∷ pos 9 ∷ []) ∷
+    listed kinds.Reading (pos 0 ∷ pos 0 ∷ pos 16 ∷ pos 8 ∷ pos 0 ∷ pos 2 ∷ pos 0 ∷ pos 16 ∷ pos 8 ∷ pos 0 ∷ []) (pos 0 ∷ pos 1 ∷ pos 0 ∷ []) (pos 0) (pos 1) (pos 9 ∷ pos 9 ∷ pos 9 ∷ pos 9 ∷ []) (full 1) (pos 0 ∷ pos 127 ∷ pos 0 ∷ pos 9 ∷ []) ∷
+    listed kinds.Reading (pos 0 ∷ pos 0 ∷ pos 16 ∷ pos 8 ∷ pos 0 ∷ pos 2 ∷ pos 0 ∷ pos 16 ∷ pos 8 ∷ pos 0 ∷ []) (pos 0 ∷ pos 1 ∷ pos 0 ∷ []) (pos 0) (pos 1) (pos 9 ∷ pos 9 ∷ []) (refusal 11 7 0) (pos 9 ∷ pos 9 ∷ []) ∷
     -- clipped paths count: 1,024 of them that no bit lives on give no record, 1,025 give 10
-    listed (pos 0 ∷ pos 0 ∷ pos 16 ∷ pos 8 ∷ pos 2 ∷ pos 0 ∷ pos 16 ∷ pos 8 ∷ []) (times 1024 (pos 0 ∷ pos 1 ∷ pos 64 ∷ [])) (pos 0) (pos 1) [] (full 0) [] ∷
-    listed (pos 0 ∷ pos 0 ∷ pos 16 ∷ pos 8 ∷ pos 2 ∷ pos 0 ∷ pos 16 ∷ pos 8 ∷ []) (times 1025 (pos 0 ∷ pos 1 ∷ pos 64 ∷ [])) (pos 0) (pos 1) [] (refusal 10 1 0) [] ∷
+    listed kinds.Reading (pos 0 ∷ pos 0 ∷ pos 16 ∷ pos 8 ∷ pos 0 ∷ pos 2 ∷ pos 0 ∷ pos 16 ∷ pos 8 ∷ pos 0 ∷ []) (times 1024 (pos 0 ∷ pos 1 ∷ pos 64 ∷ [])) (pos 0) (pos 1) [] (full 0) [] ∷
+    listed kinds.Reading (pos 0 ∷ pos 0 ∷ pos 16 ∷ pos 8 ∷ pos 0 ∷ pos 2 ∷ pos 0 ∷ pos 16 ∷ pos 8 ∷ pos 0 ∷ []) (times 1025 (pos 0 ∷ pos 1 ∷ pos 64 ∷ [])) (pos 0) (pos 1) [] (refusal 10 1 0) [] ∷
     -- 1,001 leaf rows and no root row: the shape comes first
-    compares (record { specNodes = (pos 0 ∷ pos 0 ∷ pos 16 ∷ pos 8 ∷ pos 2 ∷ pos 0 ∷ pos 16 ∷ pos 8 ∷ []); specEdges = (pos 0 ∷ pos 1 ∷ pos 0 ∷ []); implNodes = (pos 0 ∷ pos 0 ∷ pos 16 ∷ pos 8 ∷ pos 2 ∷ pos 0 ∷ pos 16 ∷ pos 8 ∷ []); implEdges = (pos 0 ∷ pos 1 ∷ pos 0 ∷ []); rootPairs = []; leafPairs = (times 1001 (pos 1 ∷ pos 1 ∷ pos 0 ∷ [])) }) (refusal 1 5 0) ∷
+    compares (record { specNodes = (pos 0 ∷ pos 0 ∷ pos 16 ∷ pos 8 ∷ pos 0 ∷ pos 2 ∷ pos 0 ∷ pos 16 ∷ pos 8 ∷ pos 0 ∷ []); specEdges = (pos 0 ∷ pos 1 ∷ pos 0 ∷ []); implNodes = (pos 0 ∷ pos 0 ∷ pos 16 ∷ pos 8 ∷ pos 0 ∷ pos 2 ∷ pos 0 ∷ pos 16 ∷ pos 8 ∷ pos 0 ∷ []); implEdges = (pos 0 ∷ pos 1 ∷ pos 0 ∷ []); rootPairs = []; leafPairs = (times 1001 (pos 1 ∷ pos 1 ∷ pos 0 ∷ [])) }) (refusal 1 5 0) ∷
     -- no root pair; no leaf pair
-    compares (record { specNodes = (pos 0 ∷ pos 0 ∷ pos 16 ∷ pos 8 ∷ pos 2 ∷ pos 0 ∷ pos 16 ∷ pos 8 ∷ []); specEdges = []; implNodes = (pos 0 ∷ pos 0 ∷ pos 16 ∷ pos 8 ∷ pos 2 ∷ pos 0 ∷ pos 16 ∷ pos 8 ∷ []); implEdges = []; rootPairs = []; leafPairs = (pos 1 ∷ pos 1 ∷ pos 0 ∷ []) }) (refusal 9 4 0) ∷
-    compares (record { specNodes = (pos 0 ∷ pos 0 ∷ pos 16 ∷ pos 8 ∷ pos 2 ∷ pos 0 ∷ pos 16 ∷ pos 8 ∷ []); specEdges = []; implNodes = (pos 0 ∷ pos 0 ∷ pos 16 ∷ pos 8 ∷ pos 2 ∷ pos 0 ∷ pos 16 ∷ pos 8 ∷ []); implEdges = []; rootPairs = (pos 0 ∷ pos 0 ∷ pos 0 ∷ []); leafPairs = [] }) (refusal 9 5 0) ∷
+    compares (record { specNodes = (pos 0 ∷ pos 0 ∷ pos 16 ∷ pos 8 ∷ pos 0 ∷ pos 2 ∷ pos 0 ∷ pos 16 ∷ pos 8 ∷ pos 0 ∷ []); specEdges = []; implNodes = (pos 0 ∷ pos 0 ∷ pos 16 ∷ pos 8 ∷ pos 0 ∷ pos 2 ∷ pos 0 ∷ pos 16 ∷ pos 8 ∷ pos 0 ∷ []); implEdges = []; rootPairs = []; leafPairs = (pos 1 ∷ pos 1 ∷ pos 0 ∷ []) }) (refusal 9 4 0) ∷
+    compares (record { specNodes = (pos 0 ∷ pos 0 ∷ pos 16 ∷ pos 8 ∷ pos 0 ∷ pos 2 ∷ pos 0 ∷ pos 16 ∷ pos 8 ∷ pos 0 ∷ []); specEdges = []; implNodes = (pos 0 ∷ pos 0 ∷ pos 16 ∷ pos 8 ∷ pos 0 ∷ pos 2 ∷ pos 0 ∷ pos 16 ∷ pos 8 ∷ pos 0 ∷ []); implEdges = []; rootPairs = (pos 0 ∷ pos 0 ∷ pos 0 ∷ []); leafPairs = [] }) (refusal 9 5 0) ∷
     -- a node paired before, on one side; 8 at row 1 before 7 at row 2
-    compares (record { specNodes = (pos 0 ∷ pos 0 ∷ pos 16 ∷ pos 8 ∷ pos 0 ∷ pos 0 ∷ pos 16 ∷ pos 8 ∷ pos 2 ∷ pos 0 ∷ pos 16 ∷ pos 8 ∷ []); specEdges = []; implNodes = (pos 0 ∷ pos 0 ∷ pos 16 ∷ pos 8 ∷ pos 0 ∷ pos 0 ∷ pos 16 ∷ pos 8 ∷ pos 2 ∷ pos 0 ∷ pos 16 ∷ pos 8 ∷ []); implEdges = []; rootPairs = (pos 0 ∷ pos 0 ∷ pos 0 ∷ pos 1 ∷ pos 0 ∷ pos 0 ∷ pos 9 ∷ pos 9 ∷ pos 0 ∷ []); leafPairs = (pos 2 ∷ pos 2 ∷ pos 0 ∷ []) }) (refusal 8 4 1) ∷
+    compares (record { specNodes = (pos 0 ∷ pos 0 ∷ pos 16 ∷ pos 8 ∷ pos 0 ∷ pos 0 ∷ pos 0 ∷ pos 16 ∷ pos 8 ∷ pos 0 ∷ pos 2 ∷ pos 0 ∷ pos 16 ∷ pos 8 ∷ pos 0 ∷ []); specEdges = []; implNodes = (pos 0 ∷ pos 0 ∷ pos 16 ∷ pos 8 ∷ pos 0 ∷ pos 0 ∷ pos 0 ∷ pos 16 ∷ pos 8 ∷ pos 0 ∷ pos 2 ∷ pos 0 ∷ pos 16 ∷ pos 8 ∷ pos 0 ∷ []); implEdges = []; rootPairs = (pos 0 ∷ pos 0 ∷ pos 0 ∷ pos 1 ∷ pos 0 ∷ pos 0 ∷ pos 9 ∷ pos 9 ∷ pos 0 ∷ []); leafPairs = (pos 2 ∷ pos 2 ∷ pos 0 ∷ []) }) (refusal 8 4 1) ∷
     -- and on the other side
-    compares (record { specNodes = (pos 0 ∷ pos 0 ∷ pos 16 ∷ pos 8 ∷ pos 0 ∷ pos 0 ∷ pos 16 ∷ pos 8 ∷ pos 2 ∷ pos 0 ∷ pos 16 ∷ pos 8 ∷ []); specEdges = []; implNodes = (pos 0 ∷ pos 0 ∷ pos 16 ∷ pos 8 ∷ pos 0 ∷ pos 0 ∷ pos 16 ∷ pos 8 ∷ pos 2 ∷ pos 0 ∷ pos 16 ∷ pos 8 ∷ []); implEdges = []; rootPairs = (pos 0 ∷ pos 0 ∷ pos 0 ∷ pos 0 ∷ pos 1 ∷ pos 0 ∷ []); leafPairs = (pos 2 ∷ pos 2 ∷ pos 0 ∷ []) }) (refusal 8 4 1) ∷
+    compares (record { specNodes = (pos 0 ∷ pos 0 ∷ pos 16 ∷ pos 8 ∷ pos 0 ∷ pos 0 ∷ pos 0 ∷ pos 16 ∷ pos 8 ∷ pos 0 ∷ pos 2 ∷ pos 0 ∷ pos 16 ∷ pos 8 ∷ pos 0 ∷ []); specEdges = []; implNodes = (pos 0 ∷ pos 0 ∷ pos 16 ∷ pos 8 ∷ pos 0 ∷ pos 0 ∷ pos 0 ∷ pos 16 ∷ pos 8 ∷ pos 0 ∷ pos 2 ∷ pos 0 ∷ pos 16 ∷ pos 8 ∷ pos 0 ∷ []); implEdges = []; rootPairs = (pos 0 ∷ pos 0 ∷ pos 0 ∷ pos 0 ∷ pos 1 ∷ pos 0 ∷ []); leafPairs = (pos 2 ∷ pos 2 ∷ pos 0 ∷ []) }) (refusal 8 4 1) ∷
     -- within a row 7 before 8
-    compares (record { specNodes = (pos 0 ∷ pos 0 ∷ pos 16 ∷ pos 8 ∷ pos 0 ∷ pos 0 ∷ pos 16 ∷ pos 8 ∷ pos 2 ∷ pos 0 ∷ pos 16 ∷ pos 8 ∷ []); specEdges = []; implNodes = (pos 0 ∷ pos 0 ∷ pos 16 ∷ pos 8 ∷ pos 0 ∷ pos 0 ∷ pos 16 ∷ pos 8 ∷ pos 2 ∷ pos 0 ∷ pos 16 ∷ pos 8 ∷ []); implEdges = []; rootPairs = (pos 0 ∷ pos 0 ∷ pos 0 ∷ pos 0 ∷ pos 2 ∷ pos 0 ∷ []); leafPairs = (pos 2 ∷ pos 2 ∷ pos 0 ∷ []) }) (refusal 7 4 1) ∷
+    compares (record { specNodes = (pos 0 ∷ pos 0 ∷ pos 16 ∷ pos 8 ∷ pos 0 ∷ pos 0 ∷ pos 0 ∷ pos 16 ∷ pos 8 ∷ pos 0 ∷ pos 2 ∷ pos 0 ∷ pos 16 ∷ pos 8 ∷ pos 0 ∷ []); specEdges = []; implNodes = (pos 0 ∷ pos 0 ∷ pos 16 ∷ pos 8 ∷ pos 0 ∷ pos 0 ∷ pos 0 ∷ pos 16 ∷ pos 8 ∷ pos 0 ∷ pos 2 ∷ pos 0 ∷ pos 16 ∷ pos 8 ∷ pos 0 ∷ []); implEdges = []; rootPairs = (pos 0 ∷ pos 0 ∷ pos 0 ∷ pos 0 ∷ pos 2 ∷ pos 0 ∷ []); leafPairs = (pos 2 ∷ pos 2 ∷ pos 0 ∷ []) }) (refusal 7 4 1) ∷
     -- in the table of leaf pairs: no leaf; a node paired before, on the implementation's side
-    compares (record { specNodes = (pos 0 ∷ pos 0 ∷ pos 16 ∷ pos 8 ∷ pos 2 ∷ pos 0 ∷ pos 16 ∷ pos 8 ∷ pos 2 ∷ pos 0 ∷ pos 16 ∷ pos 8 ∷ []); specEdges = []; implNodes = (pos 0 ∷ pos 0 ∷ pos 16 ∷ pos 8 ∷ pos 2 ∷ pos 0 ∷ pos 16 ∷ pos 8 ∷ []); implEdges = []; rootPairs = (pos 0 ∷ pos 0 ∷ pos 0 ∷ []); leafPairs = (pos 1 ∷ pos 1 ∷ pos 0 ∷ pos 0 ∷ pos 1 ∷ pos 0 ∷ []) }) (refusal 7 5 1) ∷
-    compares (record { specNodes = (pos 0 ∷ pos 0 ∷ pos 16 ∷ pos 8 ∷ pos 2 ∷ pos 0 ∷ pos 16 ∷ pos 8 ∷ pos 2 ∷ pos 0 ∷ pos 16 ∷ pos 8 ∷ []); specEdges = []; implNodes = (pos 0 ∷ pos 0 ∷ pos 16 ∷ pos 8 ∷ pos 2 ∷ pos 0 ∷ pos 16 ∷ pos 8 ∷ []); implEdges = []; rootPairs = (pos 0 ∷ pos 0 ∷ pos 0 ∷ []); leafPairs = (pos 1 ∷ pos 1 ∷ pos 0 ∷ pos 2 ∷ pos 1 ∷ pos 0 ∷ []) }) (refusal 8 5 1) ∷
+    compares (record { specNodes = (pos 0 ∷ pos 0 ∷ pos 16 ∷ pos 8 ∷ pos 0 ∷ pos 2 ∷ pos 0 ∷ pos 16 ∷ pos 8 ∷ pos 0 ∷ pos 2 ∷ pos 0 ∷ pos 16 ∷ pos 8 ∷ pos 0 ∷ []); specEdges = []; implNodes = (pos 0 ∷ pos 0 ∷ pos 16 ∷ pos 8 ∷ pos 0 ∷ pos 2 ∷ pos 0 ∷ pos 16 ∷ pos 8 ∷ pos 0 ∷ []); implEdges = []; rootPairs = (pos 0 ∷ pos 0 ∷ pos 0 ∷ []); leafPairs = (pos 1 ∷ pos 1 ∷ pos 0 ∷ pos 0 ∷ pos 1 ∷ pos 0 ∷ []) }) (refusal 7 5 1) ∷
+    compares (record { specNodes = (pos 0 ∷ pos 0 ∷ pos 16 ∷ pos 8 ∷ pos 0 ∷ pos 2 ∷ pos 0 ∷ pos 16 ∷ pos 8 ∷ pos 0 ∷ pos 2 ∷ pos 0 ∷ pos 16 ∷ pos 8 ∷ pos 0 ∷ []); specEdges = []; implNodes = (pos 0 ∷ pos 0 ∷ pos 16 ∷ pos 8 ∷ pos 0 ∷ pos 2 ∷ pos 0 ∷ pos 16 ∷ pos 8 ∷ pos 0 ∷ []); implEdges = []; rootPairs = (pos 0 ∷ pos 0 ∷ pos 0 ∷ []); leafPairs = (pos 1 ∷ pos 1 ∷ pos 0 ∷ pos 2 ∷ pos 1 ∷ pos 0 ∷ []) }) (refusal 8 5 1) ∷
     -- 1,000 root rows, and 1,000 leaf rows, are not too many: what is told is that a node is paired before; 1,001 root rows are
-    compares (record { specNodes = (pos 0 ∷ pos 0 ∷ pos 16 ∷ pos 8 ∷ pos 2 ∷ pos 0 ∷ pos 16 ∷ pos 8 ∷ []); specEdges = []; implNodes = (pos 0 ∷ pos 0 ∷ pos 16 ∷ pos 8 ∷ pos 2 ∷ pos 0 ∷ pos 16 ∷ pos 8 ∷ []); implEdges = []; rootPairs = (times 1000 (pos 0 ∷ pos 0 ∷ pos 0 ∷ [])); leafPairs = (pos 1 ∷ pos 1 ∷ pos 0 ∷ []) }) (refusal 8 4 1) ∷
-    compares (record { specNodes = (pos 0 ∷ pos 0 ∷ pos 16 ∷ pos 8 ∷ pos 2 ∷ pos 0 ∷ pos 16 ∷ pos 8 ∷ []); specEdges = []; implNodes = (pos 0 ∷ pos 0 ∷ pos 16 ∷ pos 8 ∷ pos 2 ∷ pos 0 ∷ pos 16 ∷ pos 8 ∷ []); implEdges = []; rootPairs = (times 1001 (pos 0 ∷ pos 0 ∷ pos 0 ∷ [])); leafPairs = (pos 1 ∷ pos 1 ∷ pos 0 ∷ []) }) (refusal 1 4 0) ∷
-    compares (record { specNodes = (pos 0 ∷ pos 0 ∷ pos 16 ∷ pos 8 ∷ pos 2 ∷ pos 0 ∷ pos 16 ∷ pos 8 ∷ []); specEdges = []; implNodes = (pos 0 ∷ pos 0 ∷ pos 16 ∷ pos 8 ∷ pos 2 ∷ pos 0 ∷ pos 16 ∷ pos 8 ∷ []); implEdges = []; rootPairs = (pos 0 ∷ pos 0 ∷ pos 0 ∷ []); leafPairs = (times 1000 (pos 1 ∷ pos 1 ∷ pos 0 ∷ [])) }) (refusal 8 5 1) ∷
+    compares (record { specNodes = (pos 0 ∷ pos 0 ∷ pos 16 ∷ pos 8 ∷ pos 0 ∷ pos 2 ∷ pos 0 ∷ pos 16 ∷ pos 8 ∷ pos 0 ∷ []); specEdges = []; implNodes = (pos 0 ∷ pos 0 ∷ pos 16 ∷ pos 8 ∷ pos 0 ∷ pos 2 ∷ pos 0 ∷ pos 16 ∷ pos 8 ∷ pos 0 ∷ []); implEdges = []; rootPairs = (times 1000 (pos 0 ∷ pos 0 ∷ pos 0 ∷ [])); leafPairs = (pos 1 ∷ pos 1 ∷ pos 0 ∷ []) }) (refusal 8 4 1) ∷
+    compares (record { specNodes = (pos 0 ∷ pos 0 ∷ pos 16 ∷ pos 8 ∷ pos 0 ∷ pos 2 ∷ pos 0 ∷ pos 16 ∷ pos 8 ∷ pos 0 ∷ []); specEdges = []; implNodes = (pos 0 ∷ pos 0 ∷ pos 16 ∷ pos 8 ∷ pos 0 ∷ pos 2 ∷ pos 0 ∷ pos 16 ∷ pos 8 ∷ pos 0 ∷ []); implEdges = []; rootPairs = (times 1001 (pos 0 ∷ pos 0 ∷ pos 0 ∷ [])); leafPairs = (pos 1 ∷ pos 1 ∷ pos 0 ∷ []) }) (refusal 1 4 0) ∷
+    compares (record { specNodes = (pos 0 ∷ pos 0 ∷ pos 16 ∷ pos 8 ∷ pos 0 ∷ pos 2 ∷ pos 0 ∷ pos 16 ∷ pos 8 ∷ pos 0 ∷ []); specEdges = []; implNodes = (pos 0 ∷ pos 0 ∷ pos 16 ∷ pos 8 ∷ pos 0 ∷ pos 2 ∷ pos 0 ∷ pos 16 ∷ pos 8 ∷ pos 0 ∷ []); implEdges = []; rootPairs = (pos 0 ∷ pos 0 ∷ pos 0 ∷ []); leafPairs = (times 1000 (pos 1 ∷ pos 1 ∷ pos 0 ∷ [])) }) (refusal 8 5 1) ∷
     -- 10 for the implementation alone, at root row 1 and leaf row 1
-    compares (record { specNodes = (pos 0 ∷ pos 0 ∷ pos 16 ∷ pos 8 ∷ pos 0 ∷ pos 0 ∷ pos 16 ∷ pos 8 ∷ pos 2 ∷ pos 0 ∷ pos 16 ∷ pos 8 ∷ pos 2 ∷ pos 0 ∷ pos 16 ∷ pos 8 ∷ []); specEdges = []; implNodes = (pos 0 ∷ pos 0 ∷ pos 16 ∷ pos 8 ∷ pos 0 ∷ pos 0 ∷ pos 16 ∷ pos 8 ∷ pos 2 ∷ pos 0 ∷ pos 16 ∷ pos 8 ∷ pos 2 ∷ pos 0 ∷ pos 16 ∷ pos 8 ∷ []); implEdges = (times 1025 (pos 1 ∷ pos 3 ∷ pos 0 ∷ [])); rootPairs = (pos 0 ∷ pos 0 ∷ pos 0 ∷ pos 1 ∷ pos 1 ∷ pos 0 ∷ []); leafPairs = (pos 2 ∷ pos 2 ∷ pos 0 ∷ pos 3 ∷ pos 3 ∷ pos 0 ∷ []) }) (refusal 10 3 1001) ∷
+    compares (record { specNodes = (pos 0 ∷ pos 0 ∷ pos 16 ∷ pos 8 ∷ pos 0 ∷ pos 0 ∷ pos 0 ∷ pos 16 ∷ pos 8 ∷ pos 0 ∷ pos 2 ∷ pos 0 ∷ pos 16 ∷ pos 8 ∷ pos 0 ∷ pos 2 ∷ pos 0 ∷ pos 16 ∷ pos 8 ∷ pos 0 ∷ []); specEdges = []; implNodes = (pos 0 ∷ pos 0 ∷ pos 16 ∷ pos 8 ∷ pos 0 ∷ pos 0 ∷ pos 0 ∷ pos 16 ∷ pos 8 ∷ pos 0 ∷ pos 2 ∷ pos 0 ∷ pos 16 ∷ pos 8 ∷ pos 0 ∷ pos 2 ∷ pos 0 ∷ pos 16 ∷ pos 8 ∷ pos 0 ∷ []); implEdges = (times 1025 (pos 1 ∷ pos 3 ∷ pos 0 ∷ [])); rootPairs = (pos 0 ∷ pos 0 ∷ pos 0 ∷ pos 1 ∷ pos 1 ∷ pos 0 ∷ []); leafPairs = (pos 2 ∷ pos 2 ∷ pos 0 ∷ pos 3 ∷ pos 3 ∷ pos 0 ∷ []) }) (refusal 10 3 1001) ∷
     -- the first unequal pair is partial though a later one is different
-    compares (record { specNodes = (pos 0 ∷ pos 0 ∷ pos 16 ∷ pos 8 ∷ pos 2 ∷ pos 0 ∷ pos 16 ∷ pos 8 ∷ pos 2 ∷ pos 0 ∷ pos 16 ∷ pos 8 ∷ []); specEdges = (pos 0 ∷ pos 1 ∷ pos 0 ∷ pos 0 ∷ pos 2 ∷ pos 0 ∷ []); implNodes = (pos 0 ∷ pos 0 ∷ pos 16 ∷ pos 8 ∷ pos 2 ∷ pos 0 ∷ pos 8 ∷ pos 8 ∷ pos 2 ∷ pos 0 ∷ pos 16 ∷ pos 8 ∷ []); implEdges = (pos 0 ∷ pos 1 ∷ pos 0 ∷ []); rootPairs = (pos 0 ∷ pos 0 ∷ pos 0 ∷ []); leafPairs = (pos 1 ∷ pos 1 ∷ pos 0 ∷ pos 2 ∷ pos 2 ∷ pos 0 ∷ []) }) (full (record { equal = 0; partial = 1; different = 1; verdict = 2; place = record { root = pos 0; leaf = pos 0; address = pos 64 } })) ∷
+    compares (record { specNodes = (pos 0 ∷ pos 0 ∷ pos 16 ∷ pos 8 ∷ pos 0 ∷ pos 2 ∷ pos 0 ∷ pos 16 ∷ pos 8 ∷ pos 0 ∷ pos 2 ∷ pos 0 ∷ pos 16 ∷ pos 8 ∷ pos 0 ∷ []); specEdges = (pos 0 ∷ pos 1 ∷ pos 0 ∷ pos 0 ∷ pos 2 ∷ pos 0 ∷ []); implNodes = (pos 0 ∷ pos 0 ∷ pos 16 ∷ pos 8 ∷ pos 0 ∷ pos 2 ∷ pos 0 ∷ pos 8 ∷ pos 8 ∷ pos 0 ∷ pos 2 ∷ pos 0 ∷ pos 16 ∷ pos 8 ∷ pos 0 ∷ []); implEdges = (pos 0 ∷ pos 1 ∷ pos 0 ∷ []); rootPairs = (pos 0 ∷ pos 0 ∷ pos 0 ∷ []); leafPairs = (pos 1 ∷ pos 1 ∷ pos 0 ∷ pos 2 ∷ pos 2 ∷ pos 0 ∷ []) }) (full (record { equal = 0; partial = 1; different = 1; verdict = 2; place = record { root = pos 0; leaf = pos 0; address = pos 64 } })) ∷
     []
 
 -- ---- several leaves for one (document 02, item 3)
@@ -243,12 +252,12 @@ oneDifferent address = full (record { equal = 0; partial = 0; different = 1; ver
 abbrev pub atReadings : List Reading
 atReadings =
     -- the rows of a group need not be neighbours, each group has the line of its lowest row, and banks that touch give one record
-    printsPairs "role spec impl at\n0 0 0 0\n1 1 1 0\n1 2 3 0\n1 1 2 64\n1 2 4 64\n" "root leaf verdict spec impl\n0 0 0 1 1\n0 1 0 1 1\n\nverdict equal partial different root leaf address\n0 2 0 0 -1 -1 -1\n" ∷
+    printsPairs "role spec impl at\n0 0 0 0\n1 1 1 0\n1 2 3 0\n1 1 2 64\n1 2 4 64\n" "root leaf verdict rspec rimpl wspec wimpl\n0 0 0 1 1 1 1\n0 1 0 1 1 1 1\n\nverdict equal partial different root leaf address\n0 2 0 0 -1 -1 -1\n" ∷
     -- at first, and in the middle
-    printsPairs "at role spec impl\n0 0 0 0\n0 1 1 1\n64 1 1 2\n0 1 2 3\n64 1 2 4\n" "root leaf verdict spec impl\n0 0 0 1 1\n0 2 0 1 1\n\nverdict equal partial different root leaf address\n0 2 0 0 -1 -1 -1\n" ∷
-    printsPairs "role at spec impl\n0 0 0 0\n1 64 1 2\n1 0 1 1\n1 0 2 3\n1 64 2 4\n" "root leaf verdict spec impl\n0 0 0 1 1\n0 2 0 1 1\n\nverdict equal partial different root leaf address\n0 2 0 0 -1 -1 -1\n" ∷
+    printsPairs "at role spec impl\n0 0 0 0\n0 1 1 1\n64 1 1 2\n0 1 2 3\n64 1 2 4\n" "root leaf verdict rspec rimpl wspec wimpl\n0 0 0 1 1 1 1\n0 2 0 1 1 1 1\n\nverdict equal partial different root leaf address\n0 2 0 0 -1 -1 -1\n" ∷
+    printsPairs "role at spec impl\n0 0 0 0\n1 64 1 2\n1 0 1 1\n1 0 2 3\n1 64 2 4\n" "root leaf verdict rspec rimpl wspec wimpl\n0 0 0 1 1 1 1\n0 2 0 1 1 1 1\n\nverdict equal partial different root leaf address\n0 2 0 0 -1 -1 -1\n" ∷
     -- absent: both banks begin at leaf bit 0
-    printsPairs "role spec impl\n0 0 0\n1 1 1\n1 1 2\n" "root leaf verdict spec impl\n0 0 2 1 2\n\nverdict equal partial different root leaf address\n2 0 0 1 0 0 64\n" ∷
+    printsPairs "role spec impl\n0 0 0\n1 1 1\n1 1 2\n" "root leaf verdict rspec rimpl wspec wimpl\n0 0 2 1 2 1 2\n\nverdict equal partial different root leaf address\n2 0 0 1 0 0 64\n" ∷
     -- twice, and without a name that must be there
     printsPairs "role spec impl at at\n0 0 0 0 0\n" "refusal table row\n13 6 19\n" ∷
     printsPairs "role spec at\n0 0 0\n" "refusal table row\n13 6 19\n" ∷
@@ -257,7 +266,7 @@ atReadings =
     printsPairs "role spec impl\n0 0 0\n1 1 1 0\n" "refusal table row\n14 6 21\n" ∷
     printsPairs "role spec impl at\n0 0 0 0\n1 1 1 1000000000000000000\n" "refusal table row\n14 6 21\n" ∷
     -- 2^55 − 1 is taken, 2^55 and −1 are not, nor another number than 0 in a root row
-    printsPairs "role spec impl at\n0 0 0 0\n1 1 1 36028797018963967\n" "root leaf verdict spec impl\n0 0 2 1 1\n\nverdict equal partial different root leaf address\n2 0 0 1 0 0 0\n" ∷
+    printsPairs "role spec impl at\n0 0 0 0\n1 1 1 36028797018963967\n" "root leaf verdict rspec rimpl wspec wimpl\n0 0 2 1 1 1 1\n\nverdict equal partial different root leaf address\n2 0 0 1 0 0 0\n" ∷
     printsPairs "role spec impl at\n0 0 0 0\n1 1 1 36028797018963968\n" "refusal table row\n16 5 0\n" ∷
     printsPairs "role spec impl at\n0 0 0 0\n1 1 1 -1\n" "refusal table row\n16 5 0\n" ∷
     printsPairs "role spec impl at\n0 0 0 1\n1 1 1 0\n" "refusal table row\n16 4 0\n" ∷
@@ -280,7 +289,7 @@ bankReadings =
     compares (memories (row 0 0 (pos 0)) (row 1 1 (pos 0) ++ row 1 2 (pos 63))) (oneDifferent 64) ∷
     -- banks that give the same leaf bits, and banks with a base and an address unit of their own
     compares (record { specNodes = memoryNodes; specEdges = (pos 0 ∷ pos 1 ∷ pos 0 ∷ []); implNodes = memoryNodes; implEdges = (pos 0 ∷ pos 1 ∷ pos 0 ∷ pos 0 ∷ pos 2 ∷ pos 0 ∷ []); rootPairs = row 0 0 (pos 0); leafPairs = (row 1 1 (pos 0) ++ row 1 2 (pos 0)) }) (allEqual 1) ∷
-    compares (record { specNodes = specNodes; specEdges = specEdges; implNodes = (pos 0 ∷ pos 0 ∷ pos 4096 ∷ pos 8 ∷ times 2 (pos 2 ∷ pos 4 ∷ pos 8 ∷ pos 32 ∷ [])); implEdges = (pos 0 ∷ pos 1 ∷ pos 60 ∷ pos 0 ∷ pos 2 ∷ pos 68 ∷ []); rootPairs = row 0 0 (pos 0); leafPairs = (row 1 1 (pos 0) ++ row 1 2 (pos 256)) }) (allEqual 1) ∷
+    compares (record { specNodes = specNodes; specEdges = specEdges; implNodes = (pos 0 ∷ pos 0 ∷ pos 4096 ∷ pos 8 ∷ pos 0 ∷ times 2 (pos 2 ∷ pos 4 ∷ pos 8 ∷ pos 32 ∷ pos 0 ∷ [])); implEdges = (pos 0 ∷ pos 1 ∷ pos 60 ∷ pos 0 ∷ pos 2 ∷ pos 68 ∷ []); rootPairs = row 0 0 (pos 0); leafPairs = (row 1 1 (pos 0) ++ row 1 2 (pos 256)) }) (allEqual 1) ∷
     -- a group that is unequal is named by its lowest row, behind one that is equal
     compares (memories (row 0 0 (pos 0)) (row 1 1 (pos 0) ++ row 1 2 (pos 64) ++ row 2 4 (pos 64))) (full (record { equal = 1; partial = 1; different = 0; verdict = 1; place = record { root = pos 0; leaf = pos 2; address = pos 128 } })) ∷
     -- a group that is unequal in its second row is named by its lowest, and groups are visited by their rows and not by their leaves
@@ -317,9 +326,9 @@ bankReadings =
 abbrev pub parallelBanks : ℕ → ℕ → ℕ → Tables
 parallelBanks k m n =
     record {
-      specNodes = memoryNodes ++ pos 0 ∷ pos 0 ∷ pos 32 ∷ pos 8 ∷ [];
+      specNodes = memoryNodes ++ pos 0 ∷ pos 0 ∷ pos 32 ∷ pos 8 ∷ pos 0 ∷ [];
       specEdges = times k (pos 3 ∷ pos 1 ∷ pos 0 ∷ []);
-      implNodes = bankNodes ++ pos 0 ∷ pos 0 ∷ pos 32 ∷ pos 8 ∷ [];
+      implNodes = bankNodes ++ pos 0 ∷ pos 0 ∷ pos 32 ∷ pos 8 ∷ pos 0 ∷ [];
       implEdges = times m (pos 5 ∷ pos 1 ∷ pos 0 ∷ []) ++ times n (pos 5 ∷ pos 2 ∷ pos 8 ∷ []);
       rootPairs = row 0 0 (pos 0) ++ row 3 5 (pos 0);
       leafPairs = row 2 3 (pos 0) ++ row 1 1 (pos 0) ++ row 1 2 (pos 64);
@@ -352,9 +361,9 @@ codeReadings =
     -- 16, table 4, row 0
     codes (bytes memoriesText ++ bytes "role spec impl at\n0 0 0 1\n1 1 1 0\n") [] (negℤ (pos 1640000000)) ∷
     -- the length of P1's report, into a buffer that holds it just
-    codes (bytes text1) (times 106 (7 ∷ [])) (pos 106) ∷
+    codes (bytes text1) (times 124 (7 ∷ [])) (pos 124) ∷
     -- one byte less: 11
-    codes (bytes text1) (times 105 (7 ∷ [])) (negℤ (pos 1170000000)) ∷
+    codes (bytes text1) (times 123 (7 ∷ [])) (negℤ (pos 1170000000)) ∷
     -- a text of 65,536 bytes is taken as to its length; of 65,537 it is not
     codes (times 65536 (10 ∷ [])) [] (negℤ (pos 1360000001)) ∷
     codes (times 65537 (10 ∷ [])) [] (negℤ (pos 1260000000)) ∷
@@ -371,12 +380,12 @@ onlyRow k row = times (4 * k) (0 ∷ []) ++ row ++ times (60 - 4 * k) (0 ∷ [])
 -- checks of callers 0 and 15, with an equal map, a partial one, a different one, a refused text and a report that does not fit; and of 16 and −1
 abbrev pub severalChecks : List Check
 severalChecks =
-    check (pos 0) (bytes text2) (times 106 (7 ∷ [])) ∷
-    check (pos 15) (bytes text1) (times 106 (7 ∷ [])) ∷
-    check (pos 0) (bytes text3) (times 106 (7 ∷ [])) ∷
-    check (pos 16) (bytes text2) (times 106 (7 ∷ [])) ∷
+    check (pos 0) (bytes text2) (times 124 (7 ∷ [])) ∷
+    check (pos 15) (bytes text1) (times 124 (7 ∷ [])) ∷
+    check (pos 0) (bytes text3) (times 124 (7 ∷ [])) ∷
+    check (pos 16) (bytes text2) (times 124 (7 ∷ [])) ∷
     check (pos 15) (bytes "") [] ∷
-    check (pos 0) (bytes text2) (times 106 (7 ∷ [])) ∷
+    check (pos 0) (bytes text2) (times 124 (7 ∷ [])) ∷
     check (negsuc 0) (bytes "") [] ∷
     check (pos 0) (bytes text1) [] ∷
     []
@@ -385,12 +394,12 @@ severalChecks =
 abbrev pub tallyReadings : List Reading
 tallyReadings =
     -- callers 0 and 15: a partial map adds to the second count of the caller's row, a refused text to the last, 11 too
-    tallies (check (pos 0) (bytes text1) (times 107 (7 ∷ []))) freshTally (full 106) (bytes report1 ++ 7 ∷ []) (onlyRow 0 (0 ∷ 1 ∷ 0 ∷ 0 ∷ [])) ∷
+    tallies (check (pos 0) (bytes text1) (times 125 (7 ∷ []))) freshTally (full 124) (bytes report1 ++ 7 ∷ []) (onlyRow 0 (0 ∷ 1 ∷ 0 ∷ 0 ∷ [])) ∷
     tallies (check (pos 15) (bytes "") (7 ∷ [])) freshTally (refusal 13 6 1) (7 ∷ []) (onlyRow 15 (0 ∷ 0 ∷ 0 ∷ 1 ∷ [])) ∷
     tallies (check (pos 15) (bytes text1) (7 ∷ [])) freshTally (refusal 11 7 0) (7 ∷ []) (onlyRow 15 (0 ∷ 0 ∷ 0 ∷ 1 ∷ [])) ∷
     -- callers 16, −1, −2^63, 2^32 and 2^63 − 1: 15, and neither buffer nor tally moves
-    tallies (check (pos 16) (bytes text1) (times 107 (7 ∷ []))) freshTally (refusal 15 7 0) (times 107 (7 ∷ [])) freshTally ∷
-    tallies (check (negsuc 0) (bytes text1) (times 107 (7 ∷ []))) freshTally (refusal 15 7 0) (times 107 (7 ∷ [])) freshTally ∷
+    tallies (check (pos 16) (bytes text1) (times 125 (7 ∷ []))) freshTally (refusal 15 7 0) (times 125 (7 ∷ [])) freshTally ∷
+    tallies (check (negsuc 0) (bytes text1) (times 125 (7 ∷ []))) freshTally (refusal 15 7 0) (times 125 (7 ∷ [])) freshTally ∷
     tallies (check (negsuc 9223372036854775807) (bytes "") []) freshTally (refusal 15 7 0) [] freshTally ∷
     tallies (check (pos 4294967296) (bytes "") []) freshTally (refusal 15 7 0) [] freshTally ∷
     tallies (check (pos 9223372036854775807) (bytes "") []) freshTally (refusal 15 7 0) [] freshTally ∷

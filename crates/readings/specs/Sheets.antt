@@ -41,7 +41,7 @@ threeTables =
 
 abbrev pub threeNodes : List ℤ
 threeNodes =
-    times 2 (pos 0 ∷ pos 0 ∷ pos 281474976710656 ∷ pos 8 ∷ []) ++ pos 2 ∷ pos 0 ∷ pos 16 ∷ pos 8 ∷ pos 2 ∷ pos 0 ∷ pos 64 ∷ pos 8 ∷ []
+    times 2 (pos 0 ∷ pos 0 ∷ pos 281474976710656 ∷ pos 8 ∷ pos 0 ∷ []) ++ pos 2 ∷ pos 0 ∷ pos 16 ∷ pos 8 ∷ pos 0 ∷ pos 2 ∷ pos 0 ∷ pos 64 ∷ pos 8 ∷ pos 0 ∷ []
 
 abbrev pub threeEdges : List ℤ
 threeEdges = pos 1 ∷ pos 3 ∷ pos 4096 ∷ pos 0 ∷ pos 2 ∷ pos 256 ∷ pos 1 ∷ pos 2 ∷ pos 0 ∷ []
@@ -196,30 +196,30 @@ lengths n e = full (record { nodes = n; edges = e })
 abbrev pub bufferReadings : List SheetReading
 bufferReadings =
     -- buffers as long as the tables, and longer ones, which keep what lies behind
-    reads threeLines (nines 16) (nines 9) (lengths 16 9) threeNodes threeEdges ∷
-    reads threeLines (nines 18) (nines 9) (lengths 16 9) (threeNodes ++ nines 2) threeEdges ∷
-    reads threeLines (nines 17) (nines 13) (lengths 16 9) (threeNodes ++ nines 1) (threeEdges ++ nines 4) ∷
+    reads threeLines (nines 20) (nines 9) (lengths 20 9) threeNodes threeEdges ∷
+    reads threeLines (nines 22) (nines 9) (lengths 20 9) (threeNodes ++ nines 2) threeEdges ∷
+    reads threeLines (nines 21) (nines 13) (lengths 20 9) (threeNodes ++ nines 1) (threeEdges ++ nines 4) ∷
     -- nodes one number short, edges one number short, both; no room beside room enough
-    reads threeLines (nines 15) (nines 9) (refusal 11 7 0) (nines 15) (nines 9) ∷
-    reads threeLines (nines 16) (nines 8) (refusal 11 7 0) (nines 16) (nines 8) ∷
-    reads threeLines (nines 15) (nines 8) (refusal 11 7 0) (nines 15) (nines 8) ∷
+    reads threeLines (nines 19) (nines 9) (refusal 11 7 0) (nines 19) (nines 9) ∷
+    reads threeLines (nines 20) (nines 8) (refusal 11 7 0) (nines 20) (nines 8) ∷
+    reads threeLines (nines 19) (nines 8) (refusal 11 7 0) (nines 19) (nines 8) ∷
     reads threeLines (nines 30) [] (refusal 11 7 0) (nines 30) [] ∷
     reads threeLines [] (nines 30) (refusal 11 7 0) [] (nines 30) ∷
     -- names alone need no room
     reads "initiator block base size\n" [] [] (lengths 0 0) [] [] ∷
     reads "initiator block base size\n" (nines 2) (nines 1) (lengths 0 0) (nines 2) (nines 1) ∷
     -- a refusal leaves both buffers as they were, though the lines before it have tables
-    reads "initiator block base size\n0 0 0 1\n0 0 0 A\n" (nines 9) (nines 7) (refusal 12 6 3) (nines 9) (nines 7) ∷
-    reads "initiator block base\n0 0 0 1\n" (nines 9) (nines 7) (refusal 13 6 1) (nines 9) (nines 7) ∷
-    reads "initiator block base size\n0 0 0 1\n0 0 0\n" (nines 9) (nines 7) (refusal 14 6 3) (nines 9) (nines 7) ∷
-    reads "initiator block base size\n0 0 0 1\n0 0 0 0\n" (nines 9) (nines 7) (refusal 17 6 3) (nines 9) (nines 7) ∷
-    reads "initiator block base size\n0 0 0 1\n0 0 0 2\n" (nines 9) (nines 7) (refusal 18 6 3) (nines 9) (nines 7) ∷
+    reads "initiator block base size\n0 0 0 1\n0 0 0 A\n" (nines 11) (nines 7) (refusal 12 6 3) (nines 11) (nines 7) ∷
+    reads "initiator block base\n0 0 0 1\n" (nines 11) (nines 7) (refusal 13 6 1) (nines 11) (nines 7) ∷
+    reads "initiator block base size\n0 0 0 1\n0 0 0\n" (nines 11) (nines 7) (refusal 14 6 3) (nines 11) (nines 7) ∷
+    reads "initiator block base size\n0 0 0 1\n0 0 0 0\n" (nines 11) (nines 7) (refusal 17 6 3) (nines 11) (nines 7) ∷
+    reads "initiator block base size\n0 0 0 1\n0 0 0 2\n" (nines 11) (nines 7) (refusal 18 6 3) (nines 11) (nines 7) ∷
     -- 12, 13, 14, 17 and 18 come before 11
     reads "initiator block base size\n0 0 0 1\n0 0 0 A\n" [] [] (refusal 12 6 3) [] [] ∷
     reads "" [] [] (refusal 13 6 1) [] [] ∷
     reads "initiator block base size\n0 0 0 1\n0 0 0\n" [] [] (refusal 14 6 3) [] [] ∷
-    reads "initiator block base size\n0 0 0 1\n0 0 0 0\n" (nines 7) (nines 3) (refusal 17 6 3) (nines 7) (nines 3) ∷
-    reads "initiator block base size\n0 0 0 1\n0 0 0 2\n" (nines 8) (nines 2) (refusal 18 6 3) (nines 8) (nines 2) ∷
+    reads "initiator block base size\n0 0 0 1\n0 0 0 0\n" (nines 9) (nines 3) (refusal 17 6 3) (nines 9) (nines 3) ∷
+    reads "initiator block base size\n0 0 0 1\n0 0 0 2\n" (nines 10) (nines 2) (refusal 18 6 3) (nines 10) (nines 2) ∷
     []
 
 -- all of these

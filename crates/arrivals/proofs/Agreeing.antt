@@ -9,6 +9,7 @@ use lib.ListN.{length, getD, take, drop}
 use lib.Seq.{getD-take, getD-drop, drop-at, length-take-le}
 use lib.ListN.{List·getD-append}
 use Rattle.integers.proofs.Linear.{ints}
+use Rattle.model.specs.declared.WalkKind.{WalkKind}
 use Rattle.model.specs.Limits.{maxNodes}
 use Rattle.model.specs.Rows.{nodeRows}
 use Rattle.model.specs.Graph.{Graph, graphOf, NodeRow}
@@ -21,7 +22,7 @@ use Rattle.normalisation.specs.Merging.{ofDisplacement, displacedOf}
 use Rattle.listing.specs.Listing.{Appended}
 use Rattle.listing.proofs.Appending.{append-length}
 use Rattle.references.specs.References.{recordsAt}
-use Rattle.arrivals.specs.State.{markWidth, freeAt, arenaRow, markNumber, isMet, referenceAt, isListed, listRow, countOf, freeRow, rootIn, Agree}
+use Rattle.arrivals.specs.State.{markWidth, freeAt, arenaRow, markNumber, isMet, referenceAt, isListed, listRow, countOf, freeRow, rootIn, kindAt, kindOf, kindIn, Agree}
 use Rattle.arrivals.specs.Sweep.{Listed, Sweeping}
 use Rattle.arrivals.proofs.Relisting.{listed-moved, relisted-sweeping}
 
@@ -41,9 +42,12 @@ agree-front n {s} {t} long front =
           sym (getD-take (rowWidth * n) t j (pos 0) h) ∙ ap (λ (l : List ℤ). getD l j (pos 0)) front ∙ getD-take (rowWidth * n) s j (pos 0) h;
     }
 
--- the root and the used part are the same
+-- the root, the kind of walk and the used part are the same
 pub agree-root : {n : ℕ} {s t : List ℤ} → arenaRow ≤ n → Agree n s t → rootIn t ≡ rootIn s
 agree-root h a = a .same 12001 (omega (arith, h))
+
+pub agree-kind : {n : ℕ} {s t : List ℤ} → arenaRow ≤ n → Agree n s t → kindIn t ≡ kindIn s
+agree-kind h a = ap kindOf (a .same kindAt (omega (arith, h)))
 
 pub agree-free : {n : ℕ} {s t : List ℤ} → arenaRow ≤ n → Agree n s t → freeRow t ≡ freeRow s
 agree-free h a = ap natAbs (a .same 12000 (omega (arith, h)))
@@ -107,7 +111,7 @@ module _ {n : ℕ} {s t : List ℤ} (low : arenaRow ≤ n) (a : Agree n s t) whe
   listRow-agrees v h = ap natAbs (mark-agrees v 4 h (omega arith))
 
   -- so is its list, where it lies in front of the row
-  list-agrees : {g : Graph} {r : ℤ} (v : ℕ) → v < maxNodes → freeRow s ≤ n → Listed g r s v → Listed g r t v
+  list-agrees : {kind : WalkKind} {g : Graph} {r : ℤ} (v : ℕ) → v < maxNodes → freeRow s ≤ n → Listed kind g r s v → Listed kind g r t v
   list-agrees v h u l =
       listed-moved (listRow-agrees v h) (mark-agrees v 5 h (omega arith)) (omega (arith, agree-free low a))
       (agree-records (listRow s v) (countOf s v) (omega (arith, l .within, u)) a) l
@@ -130,12 +134,13 @@ sweeping-agrees {ns} {es} {s} {t} w a =
     (record {
       long = a .long;
       root = agree-root low a;
+      kind = agree-kind low a;
       references = λ v h. reference-agrees low a v (few v h);
       freeNumber = ap pos used ∙ w .freeNumber ∙ sym (a .same freeAt (omega (arith, low)));
       freeLow = omega (arith, low, used);
       freeHigh = omega (arith, w .freeHigh, used);
-      rootListed = λ r q.
-          listed-agrees low a r (row-few (w .tables) (subst (NodeRow (graphOf ns es)) (sym q) (w .root .row))) ∙ w .rootListed r q;
+      rootListed = λ o r q.
+          listed-agrees low a r (row-few (w .tables) (subst (NodeRow (graphOf ns es)) (sym q) (w .root .row))) ∙ w .rootListed o r q;
       listed = λ v h m l.
           list-agrees low a v (few v h) (omega arith) (w .marks v h .listed m (sym (listed-agrees low a v (few v h)) ∙ l));
     })

@@ -14,13 +14,14 @@ use Rattle.integers.proofs.Linear.{ints}
 use Rattle.integers.proofs.Tests.{eqZ?, test-of}
 use Rattle.integers.proofs.Range.{leZ-true}
 use Rattle.lists.specs.Lists.{_∈_, keep}
+use Rattle.model.specs.declared.WalkKind.{WalkKind}
 use Rattle.model.specs.Limits.{edgeWidth, maxNodes}
 use Rattle.model.specs.Rows.{Edge, nodeRows, edgeRows}
 use Rattle.model.specs.Graph.{Graph, graphOf, NodeRow, node, bitOffset}
-use Rattle.model.specs.Walk.{Walk}
+use Rattle.model.specs.Walk.{Open, Walk}
 use Rattle.model.specs.Paths.{Way, stay, over}
 use Rattle.model.specs.Bitmapping.{Record}
-use Rattle.model.specs.Runs.{Run, Joins, whole}
+use Rattle.model.specs.Runs.{Run, Joins}
 use Rattle.model.proofs.Chains.{way-append}
 use Rattle.model.proofs.Walks.{walk-start, walk-end}
 use Rattle.model.proofs.Records.{has-at}
@@ -33,6 +34,7 @@ use Rattle.reach.proofs.Totals.{total}
 use Rattle.reach.proofs.FirstRow.{firstRow-from, firstRow-passes, firstRow-none, firstRow-keep}
 use Rattle.entering.specs.Entering.{enters, entering, Covered}
 use Rattle.entering.proofs.Walks.{walk-entering, walk-way, entering-in, entering-out}
+use Rattle.extents.specs.Extents.{bitsOf}
 use Rattle.extents.proofs.Rows.{edge-in}
 use Rattle.extents.proofs.Bounds.{offset-small}
 use Rattle.entering.proofs.Ways.{way-onward}
@@ -47,11 +49,11 @@ use Rattle.forward.specs.Forward.{headAt, nextAt}
 use Rattle.references.specs.References.{Reference, Brings, InOwner, SmallRecord, through, isNone, recordsAt, cutRows, Cuttable}
 use Rattle.references.proofs.Bringing.{own-lying, lying-stands, through-brings, through-lying}
 use Rattle.references.proofs.Cutting.{cut-rows-brings, cut-rows-full, cut-rows-few}
-use Rattle.arrivals.specs.State.{markWidth, arenaRow, markNumber, isMet, referenceAt, isListed, listRow, countOf, rootIn, Agree}
+use Rattle.arrivals.specs.State.{markWidth, arenaRow, markNumber, isMet, referenceAt, isListed, listRow, countOf, rootIn, kindIn, Agree}
 use Rattle.arrivals.specs.Sweep.{HasSome, doneOf, Listed, RightMark, Sweeping, Gatherable, Gathered}
 use Rattle.arrivals.specs.Moves.{Crossable, crossing}
-use Rattle.arrivals.proofs.Agreeing.{agree-root, agree-free, agree-less, appended-agrees, sweeping-agrees, row-few}
-use Rattle.arrivals.proofs.Settled.{not-both, done-closed, covered-way, settled}
+use Rattle.arrivals.proofs.Agreeing.{agree-root, agree-kind, agree-free, agree-less, appended-agrees, sweeping-agrees, row-few}
+use Rattle.arrivals.proofs.Settled.{not-both, done-closed, covered-way, met-root, settled}
 
 -- ---- rows of two lists
 
@@ -96,8 +98,12 @@ module _ {ns es : List ℤ} {plan : List ℕ} {f : Reference} {left : ℕ} {s : 
     unfolding graphOf
     owner-below = omega (arith, ints, owner-row .high)
 
-    owner-mark : RightMark (graphOf ns es) (rootIn s) (doneOf es plan (k .passed)) s o
+    owner-mark : RightMark (kindIn s) (graphOf ns es) (rootIn s) (doneOf es plan (k .passed)) s o
     owner-mark = k .sweeping .marks o owner-below
+
+    -- it is open to the walks
+    pub owner-open : Open (kindIn s) (node (graphOf ns es) (f .owner) .access)
+    owner-open = subst (λ (v : ℤ). Open (kindIn s) (node (graphOf ns es) v .access)) q (owner-mark .access (k .met o q))
 
     -- the first edge that enters the owner
     pub head-is : getD plan (headAt + o) 0 ≡ firstRow (enters (f .owner)) 0 (edgeRows es)
@@ -106,27 +112,27 @@ module _ {ns es : List ℤ} {plan : List ℕ} {f : Reference} {left : ℕ} {s : 
     -- ---- by a list
 
     module _ (y : isListed s o ≡ true) where
-      pub owner-list : Listed (graphOf ns es) (rootIn s) s o
+      pub owner-list : Listed (kindIn s) (graphOf ns es) (rootIn s) s o
       owner-list = owner-mark .listed (k .met o q) y
 
       -- where it stands can be read
       pub list-readable : (markWidth * o + markWidth ≤ length s) × (pos 0 ≤ℤ markNumber s o 4) × (pos 0 ≤ℤ markNumber s o 5)
       list-readable = (omega (arith, owner-few, k .sweeping .room), leZ-true (pos 0) (markNumber s o 4) y, omega (arith, ints, owner-list .counted))
 
-      list-exact : (x b : ℤ) → HasSome (recordsAt s (listRow s o) (countOf s o)) x b ↔ Walk (graphOf ns es) (rootIn s) x (f .owner) b
+      list-exact : (x b : ℤ) → HasSome (recordsAt s (listRow s o) (countOf s o)) x b ↔ Walk (kindIn s) (graphOf ns es) (rootIn s) x (f .owner) b
       list-exact x b =
-          subst (λ (v : ℤ). HasSome (recordsAt s (listRow s o) (countOf s o)) x b ↔ Walk (graphOf ns es) (rootIn s) x v b) q (owner-list .exact x b)
+          subst (λ (v : ℤ). HasSome (recordsAt s (listRow s o) (countOf s o)) x b ↔ Walk (kindIn s) (graphOf ns es) (rootIn s) x v b) q (owner-list .exact x b)
 
       -- its records have bits of the root, and bit addresses of the owner
       module _ (z : Record) (m : z ∈ recordsAt s (listRow s o) (countOf s o)) where
-        first-walks : Walk (graphOf ns es) (rootIn s) (z .first) (f .owner) (z .first -ℤ z .displacement)
+        first-walks : Walk (kindIn s) (graphOf ns es) (rootIn s) (z .first) (f .owner) (z .first -ℤ z .displacement)
         first-walks = list-exact (z .first) (z .first -ℤ z .displacement) .0 (z, m, has-at z (z .first) (omega (arith, ints)) (owner-list .full z m))
 
-        last-walks : Walk (graphOf ns es) (rootIn s) (z .last) (f .owner) (z .last -ℤ z .displacement)
+        last-walks : Walk (kindIn s) (graphOf ns es) (rootIn s) (z .last) (f .owner) (z .last -ℤ z .displacement)
         last-walks = list-exact (z .last) (z .last -ℤ z .displacement) .0 (z, m, has-at z (z .last) (owner-list .full z m) (omega (arith, ints)))
 
-        list-inside : (whole (node (graphOf ns es) (rootIn s)) .low ≤ℤ z .first) × (z .last ≤ℤ whole (node (graphOf ns es) (rootIn s)) .high)
-        unfolding whole
+        list-inside : (bitsOf (node (graphOf ns es) (rootIn s)) .low ≤ℤ z .first) × (z .last ≤ℤ bitsOf (node (graphOf ns es) (rootIn s)) .high)
+        unfolding bitsOf
         list-inside = (walk-start first-walks .above, walk-start last-walks .below)
 
         list-within : SmallRecord z
@@ -147,7 +153,7 @@ module _ {ns es : List ℤ} {plan : List ℕ} {f : Reference} {left : ℕ} {s : 
       list-few = subst (λ (v : ℤ). countOf s o ≤ pathCount (graphOf ns es) (rootIn s) v) q (owner-list .few)
 
       -- with all bits of the root as they are read
-      pub list-cuttable : {all : Run} → all ≡ whole (node (graphOf ns es) (rootIn s)) → Cuttable f (all .low) (all .high) s (listRow s o) (countOf s o) n
+      pub list-cuttable : {all : Run} → all ≡ bitsOf (node (graphOf ns es) (rootIn s)) → Cuttable f (all .low) (all .high) s (listRow s o) (countOf s o) n
       list-cuttable e =
           let root = own-lying (k .sweeping .tables) (k .sweeping .root .row) .small in
           rw e
@@ -166,13 +172,13 @@ module _ {ns es : List ℤ} {plan : List ℕ} {f : Reference} {left : ℕ} {s : 
 
       -- gathered by the list
       pub list-gathered : {t : List ℤ} {m : ℕ} → Appended (cutRows f (recordsAt s (listRow s o) (countOf s o))) s t n m
-          → Gathered (graphOf ns es) (rootIn s) f s t n m
+          → Gathered (kindIn s) (graphOf ns es) (rootIn s) f s t n m
       list-gathered a =
           let l = recordsAt s (listRow s o) (countOf s o) in
           record {
             rows = cutRows f l;
             appended = a;
-            exact = cut-rows-brings (graphOf ns es) (rootIn s) f l list-exact;
+            exact = cut-rows-brings (kindIn s) (graphOf ns es) (rootIn s) f l list-exact;
             full = cut-rows-full f l;
             few = omega (arith, list-few, cut-rows-few f l, records-length s (listRow s o) (countOf s o));
           }
@@ -182,10 +188,10 @@ module _ {ns es : List ℤ} {plan : List ℕ} {f : Reference} {left : ℕ} {s : 
     -- the owner has no list: it is not the root
     module _ (y : isListed s o ≡ false) where
       pub owner-other : rootIn s ≢ f .owner
-      owner-other e = not-both (k .sweeping .rootListed o (q ∙ sym e)) y
+      owner-other e = not-both (k .sweeping .rootListed (met-root (k .sweeping) o owner-below (k .met o q) (e ∙ sym q)) o (q ∙ sym e)) y
 
       -- so where no edge is left nothing arrives
-      pub none-left : left ≡ 0 → Gathered (graphOf ns es) (rootIn s) f s s n n
+      pub none-left : left ≡ 0 → Gathered (kindIn s) (graphOf ns es) (rootIn s) f s s n n
       none-left z =
           record {
             rows = [];
@@ -195,16 +201,16 @@ module _ {ns es : List ℤ} {plan : List ℕ} {f : Reference} {left : ℕ} {s : 
             few = omega arith;
           }
         where
-          nothing : {x b : ℤ} → Walk (graphOf ns es) (rootIn s) x (f .owner) b → ⊥
+          nothing : {x b : ℤ} → Walk (kindIn s) (graphOf ns es) (rootIn s) x (f .owner) b → ⊥
           nothing w = let p = walk-way w in owner-other (way-none (p .1) (omega (arith, z, k .deep (p .0) (p .1))))
 
--- over one of these edges, root bit x comes to bit address b of the reference
-pub record Over (g : Graph) (r : ℤ) (f : Reference) (edges : List Edge) (x b : ℤ) : Type 0 where
+-- over one of these edges, by a walk of this kind, root bit x comes to bit address b of the reference
+pub record Over (kind : WalkKind) (g : Graph) (r : ℤ) (f : Reference) (edges : List Edge) (x b : ℤ) : Type 0 where
   pub at : ℤ
   pub joins : Joins (f .run) at b
   pub edge : Edge
   pub among : edge ∈ edges
-  pub walk : Walk g r x (edge .from) (at +ℤ bitOffset g edge)
+  pub walk : Walk kind g r x (edge .from) (at +ℤ bitOffset g edge)
 
 -- the state between two turns at edge e: of the edges that enter the owner those before row `from` are done, and the rows behind the first n have exactly
 -- what comes over them
@@ -215,7 +221,7 @@ pub record Through (ns es : List ℤ) (f : Reference) (s : List ℤ) (n : ℕ) (
   pub rest : before ++ keep (enters (f .owner)) (drop from (edgeRows es)) ≡ entering (graphOf ns es) (f .owner)
   pub rows : List Row
   pub written : Appended rows s t n m
-  pub exact : (x b : ℤ) → HasSome (map ofDisplacement rows) x b ↔ Over (graphOf ns es) (rootIn s) f before x b
+  pub exact : (x b : ℤ) → HasSome (map ofDisplacement rows) x b ↔ Over (kindIn s) (graphOf ns es) (rootIn s) f before x b
   pub full : (q : Record) → q ∈ map ofDisplacement rows → q .first ≤ℤ q .last
   pub few : length rows ≤ total (λ e. pathCount (graphOf ns es) (rootIn s) (e .from)) before
 
@@ -260,8 +266,11 @@ module _ {ns es : List ℤ} {plan : List ℕ} {f : Reference} {left : ℕ} {s : 
     pub through-root : rootIn t ≡ rootIn s
     through-root = agree-root low through-agrees
 
+    through-kind : kindIn t ≡ kindIn s
+    through-kind = agree-kind low through-agrees
+
     -- behind the last turn the rows of all edges that enter the owner are gathered
-    pub through-end : length (edgeRows es) ≤ e → Gathered (graphOf ns es) (rootIn s) f s t n m
+    pub through-end : length (edgeRows es) ≤ e → Gathered (kindIn s) (graphOf ns es) (rootIn s) f s t n m
     through-end h =
         record {
           rows = w .rows;
@@ -277,14 +286,15 @@ module _ {ns es : List ℤ} {plan : List ℕ} {f : Reference} {left : ℕ} {s : 
             ∙ ap (λ l. w .before ++ l) (sym (firstRow-none (enters (f .owner)) (w .from) (edgeRows es) (omega (arith, h, w .at))))
             ∙ w .rest
 
-        arrives : (x b : ℤ) → Over (graphOf ns es) (rootIn s) f (w .before) x b ↔ Brings (graphOf ns es) (rootIn s) f x b
+        arrives : (x b : ℤ) → Over (kindIn s) (graphOf ns es) (rootIn s) f (w .before) x b ↔ Brings (kindIn s) (graphOf ns es) (rootIn s) f x b
         arrives x b = (
           λ y.
               let i = entering-out (graphOf ns es) (f .owner) (subst (λ (l : List Edge). y .edge ∈ l) all (y .among)) in
-              let c = walk-entering {g = graphOf ns es} other x (y .at) in
-              record { at = y .at; walk = c .1 (lying-stands (k .inOwner) (y .at) b (y .joins), (y .edge, i .0, i .1, y .walk)); joins = y .joins },
+              let c = walk-entering {kind = kindIn s} {g = graphOf ns es} other x (y .at) in
+              let access = owner-open k (natAbs (f .owner)) (nonneg-abs (k .inOwner .row .low)) in
+              record { at = y .at; walk = c .1 (lying-stands access (k .inOwner) (y .at) b (y .joins), (y .edge, i .0, i .1, y .walk)); joins = y .joins },
           λ y.
-              let i = walk-entering {g = graphOf ns es} other x (y .at) .0 (y .walk) .1 in
+              let i = walk-entering {kind = kindIn s} {g = graphOf ns es} other x (y .at) .0 (y .walk) .1 in
               record {
                 at = y .at;
                 joins = y .joins;
@@ -368,7 +378,7 @@ module _ {ns es : List ℤ} {plan : List ℕ} {f : Reference} {left : ℕ} {s : 
       unfolding graphOf
       source-below = omega (arith, ints, from-row .high, source-is)
 
-      source-mark : RightMark (graphOf ns es) (rootIn t) (doneOf es plan (k .passed)) t source
+      source-mark : RightMark (kindIn t) (graphOf ns es) (rootIn t) (doneOf es plan (k .passed)) t source
       source-mark = through-sweeping .marks source source-below
 
       source-covered : Covered es (doneOf es plan (k .passed)) (pos source)
@@ -379,13 +389,13 @@ module _ {ns es : List ℤ} {plan : List ℕ} {f : Reference} {left : ℕ} {s : 
       part = through (bitOffset (graphOf ns es) edge) f (referenceAt t source)
 
       -- it is what the reference has over the edge
-      over-edge : (x b : ℤ) → Over (graphOf ns es) (rootIn s) f (edge ∷ []) x b ↔ ((isMet t source ≡ true) × Brings (graphOf ns es) (rootIn s) part x b)
+      over-edge : (x b : ℤ) → Over (kindIn s) (graphOf ns es) (rootIn s) f (edge ∷ []) x b ↔ ((isMet t source ≡ true) × Brings (kindIn s) (graphOf ns es) (rootIn s) part x b)
       over-edge x b =
           let g = graphOf ns es in
-          let u = through-brings g (rootIn s) (bitOffset g edge) f (referenceAt t source) x b in (
+          let u = through-brings (kindIn s) g (rootIn s) (bitOffset g edge) f (referenceAt t source) x b in (
             λ y.
                 let c = y .at +ℤ bitOffset g edge in
-                let here = subst (λ (d : Edge). Walk g (rootIn s) x (d .from) (y .at +ℤ bitOffset g d)) (List·Memᴰ·eq-of-singleton (y .among)) (y .walk) in
+                let here = subst (λ (d : Edge). Walk (kindIn s) g (rootIn s) x (d .from) (y .at +ℤ bitOffset g d)) (List·Memᴰ·eq-of-singleton (y .among)) (y .walk) in
                 let z = settled through-sweeping source source-below source-covered x c .0 (from-here c here) in
                 (z .0, u .1 (y .at, y .joins, brings-here c (z .1))),
             λ y.
@@ -400,21 +410,21 @@ module _ {ns es : List ℤ} {plan : List ℕ} {f : Reference} {left : ℕ} {s : 
                 },
           )
         where
-          from-here : (c : ℤ) → Walk (graphOf ns es) (rootIn s) x (edge .from) c → Walk (graphOf ns es) (rootIn t) x (pos source) c
-          from-here c y = rw (through-root, source-is) y
+          from-here : (c : ℤ) → Walk (kindIn s) (graphOf ns es) (rootIn s) x (edge .from) c → Walk (kindIn t) (graphOf ns es) (rootIn t) x (pos source) c
+          from-here c y = rw (through-kind, through-root, source-is) y
 
-          from-there : (c : ℤ) → Walk (graphOf ns es) (rootIn t) x (pos source) c → Walk (graphOf ns es) (rootIn s) x (edge .from) c
-          from-there c y = rw (← through-root, ← source-is) y
+          from-there : (c : ℤ) → Walk (kindIn t) (graphOf ns es) (rootIn t) x (pos source) c → Walk (kindIn s) (graphOf ns es) (rootIn s) x (edge .from) c
+          from-there c y = rw (← through-kind, ← through-root, ← source-is) y
 
-          brings-here : (c : ℤ) → Brings (graphOf ns es) (rootIn t) (referenceAt t source) x c → Brings (graphOf ns es) (rootIn s) (referenceAt t source) x c
-          brings-here c y = subst (λ (r : ℤ). Brings (graphOf ns es) r (referenceAt t source) x c) through-root y
+          brings-here : (c : ℤ) → Brings (kindIn t) (graphOf ns es) (rootIn t) (referenceAt t source) x c → Brings (kindIn s) (graphOf ns es) (rootIn s) (referenceAt t source) x c
+          brings-here c y = rw (← through-kind, ← through-root) y
 
-          brings-there : (c : ℤ) → Brings (graphOf ns es) (rootIn s) (referenceAt t source) x c → Brings (graphOf ns es) (rootIn t) (referenceAt t source) x c
-          brings-there c y = subst (λ (r : ℤ). Brings (graphOf ns es) r (referenceAt t source) x c) (sym through-root) y
+          brings-there : (c : ℤ) → Brings (kindIn s) (graphOf ns es) (rootIn s) (referenceAt t source) x c → Brings (kindIn t) (graphOf ns es) (rootIn t) (referenceAt t source) x c
+          brings-there c y = rw (through-kind, through-root) y
 
       -- over one more edge
-      over-more : (x b : ℤ) → Over (graphOf ns es) (rootIn s) f (w .before ++ (edge ∷ [])) x b
-          ↔ (Over (graphOf ns es) (rootIn s) f (w .before) x b ⊎ Over (graphOf ns es) (rootIn s) f (edge ∷ []) x b)
+      over-more : (x b : ℤ) → Over (kindIn s) (graphOf ns es) (rootIn s) f (w .before ++ (edge ∷ [])) x b
+          ↔ (Over (kindIn s) (graphOf ns es) (rootIn s) f (w .before) x b ⊎ Over (kindIn s) (graphOf ns es) (rootIn s) f (edge ∷ []) x b)
       over-more x b = (
         λ y.
             ⊎-elim (λ m. inl (record { at = y .at; joins = y .joins; edge = y .edge; among = m; walk = y .walk }))
@@ -424,7 +434,7 @@ module _ {ns es : List ℤ} {plan : List ℕ} {f : Reference} {left : ℕ} {s : 
       )
 
       -- where nothing comes over the edge, the turn at the next edge can begin
-      pub turn-nothing : ((x b : ℤ) → isMet t source ≡ true → Brings (graphOf ns es) (rootIn s) part x b → ⊥)
+      pub turn-nothing : ((x b : ℤ) → isMet t source ≡ true → Brings (kindIn s) (graphOf ns es) (rootIn s) part x b → ⊥)
           → Through ns es f s n t m (firstRow (enters (f .owner)) (suc e) (edgeRows es))
       turn-nothing nowhere =
           record {
@@ -480,7 +490,7 @@ module _ {ns es : List ℤ} {plan : List ℕ} {f : Reference} {left : ℕ} {s : 
                 let d = k .deep ((p ++ q) ++ (edge ∷ [])) (subst (λ (v : ℤ). Way (graphOf ns es) (rootIn s) ((p ++ q) ++ (edge ∷ [])) v) edge-enters z) in
                 omega (arith, d, length-append (p ++ q) (edge ∷ []), length-append p q)
 
-        pub turn-part : {u : List ℤ} {m′ : ℕ} → Gathered (graphOf ns es) (rootIn t) part t u m m′
+        pub turn-part : {u : List ℤ} {m′ : ℕ} → Gathered (kindIn t) (graphOf ns es) (rootIn t) part t u m m′
             → Through ns es f s n u m′ (firstRow (enters (f .owner)) (suc e) (edgeRows es))
         turn-part {u} {m′} a =
             record {
@@ -507,8 +517,8 @@ module _ {ns es : List ℤ} {plan : List ℕ} {f : Reference} {left : ℕ} {s : 
             more : length (a .rows) ≤ pathCount (graphOf ns es) (rootIn s) (part .owner)
             more = subst (λ (r : ℤ). length (a .rows) ≤ pathCount (graphOf ns es) r (part .owner)) through-root (a .few)
 
-            own : (x b : ℤ) → HasSome (map ofDisplacement (a .rows)) x b ↔ Brings (graphOf ns es) (rootIn s) part x b
-            own x b = subst (λ (r : ℤ). HasSome (map ofDisplacement (a .rows)) x b ↔ Brings (graphOf ns es) r part x b) through-root (a .exact x b)
+            own : (x b : ℤ) → HasSome (map ofDisplacement (a .rows)) x b ↔ Brings (kindIn s) (graphOf ns es) (rootIn s) part x b
+            own x b = rw (← through-kind, ← through-root) (a .exact x b)
 
             split : (x b : ℤ) → HasSome (map ofDisplacement (w .rows ++ a .rows)) x b ↔ HasSome (map ofDisplacement (w .rows) ++ map ofDisplacement (a .rows)) x b
             split x b =

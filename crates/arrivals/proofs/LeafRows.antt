@@ -10,6 +10,7 @@ use lib.Signed.{_≤ℤ_}
 use lib.ListN.{length, take, length-map, length-take}
 use lib.Seq.{take-all}
 use Rattle.integers.proofs.Linear.{ints, diff, neg}
+use Rattle.model.specs.declared.WalkKind.{WalkKind}
 use Rattle.model.specs.Limits.{maxChain, lastAddress}
 use Rattle.model.specs.Rows.{Edge, nodeRows}
 use Rattle.model.specs.Graph.{graphOf, node, firstBit}
@@ -30,7 +31,7 @@ use Rattle.forward.specs.Forward.{plannedCount, plannedOf}
 use Rattle.references.specs.References.{Reference, Brings, shifted, InOwner}
 use Rattle.references.proofs.Bringing.{shifted-brings}
 use Rattle.entering.specs.Entering.{Covered}
-use Rattle.arrivals.specs.State.{isMet, referenceAt, rootIn}
+use Rattle.arrivals.specs.State.{isMet, referenceAt, rootIn, kindIn}
 use Rattle.arrivals.specs.Sweep.{doneOf, RightMark, Gatherable, Gathered, Swept, Appendable, LeafAppended}
 use Rattle.arrivals.proofs.Relisting.{row-number}
 use Rattle.arrivals.proofs.Settled.{not-both, covered-way, settled}
@@ -58,19 +59,19 @@ module _ {ns es : List ℤ} {plan : List ℕ} {leaf : ℕ} {s : List ℤ} {n : �
   leaf-covered = subst (λ (done : List Edge). Covered es done (pos leaf)) (sym (passed-all es plan)) (o .covered)
 
   -- what arrives there is what its mark brings
-  leaf-settled : (x b : ℤ) → Walk (graphOf ns es) (rootIn s) x (pos leaf) b
-      ↔ ((isMet s leaf ≡ true) × Brings (graphOf ns es) (rootIn s) (referenceAt s leaf) x b)
+  leaf-settled : (x b : ℤ) → Walk (kindIn s) (graphOf ns es) (rootIn s) x (pos leaf) b
+      ↔ ((isMet s leaf ≡ true) × Brings (kindIn s) (graphOf ns es) (rootIn s) (referenceAt s leaf) x b)
   leaf-settled = settled (o .state .state) leaf leaf-number leaf-covered
 
   -- where nothing is marked nothing is reached: no row is appended
-  pub leaf-unmet : {root : ℕ} → Swept ns es plan root s → isMet s leaf ≡ false → LeafAppended (graphOf ns es) (pos root) (pos leaf) s s n n
+  pub leaf-unmet : {kind : WalkKind} {root : ℕ} → Swept kind ns es plan root s → isMet s leaf ≡ false → LeafAppended kind (graphOf ns es) (pos root) (pos leaf) s s n n
   leaf-unmet w unmet =
       record {
         rows = [];
         appended = append-none s n;
         exact = λ x y. (
           λ h. absurd (List·Memᴰ·not-nil (h .1)),
-          λ r. absurd (not-both (leaf-settled x (r .arrival) .0 (rw (w .from) (r .walk)) .0) unmet),
+          λ r. absurd (not-both (leaf-settled x (r .arrival) .0 (rw (w .by, w .from) (r .walk)) .0) unmet),
         );
         full = λ q j. absurd (List·Memᴰ·not-nil j);
         few = omega arith;
@@ -78,7 +79,7 @@ module _ {ns es : List ℤ} {plan : List ℕ} {leaf : ℕ} {s : List ℤ} {n : �
 
   module _ (met : isMet s leaf ≡ true) where
     -- its mark
-    mark : RightMark (graphOf ns es) (rootIn s) (doneOf es plan (plannedCount plan)) s leaf
+    mark : RightMark (kindIn s) (graphOf ns es) (rootIn s) (doneOf es plan (plannedCount plan)) s leaf
     mark = o .state .state .marks leaf leaf-number
 
     inOwner : InOwner (graphOf ns es) (referenceAt s leaf)
@@ -127,16 +128,16 @@ module _ {ns es : List ℤ} {plan : List ℕ} {leaf : ℕ} {s : List ℤ} {n : �
         count-way (w .tables .graph .acyclic) (w .tables .graph .short) (w .root .unentered) way
 
     -- it brings exactly what is reached
-    part-reached : (x y : ℤ) → Brings (graphOf ns es) (rootIn s) (leafPart ns es leaf s) x y ↔ Reached (graphOf ns es) (rootIn s) (pos leaf) x y
+    part-reached : (x y : ℤ) → Brings (kindIn s) (graphOf ns es) (rootIn s) (leafPart ns es leaf s) x y ↔ Reached (kindIn s) (graphOf ns es) (rootIn s) (pos leaf) x y
     part-reached x y =
         let first = firstBit (node (graphOf ns es) (pos leaf)) in
-        let back = shifted-brings (graphOf ns es) (rootIn s) first (referenceAt s leaf) x y in (
+        let back = shifted-brings (kindIn s) (graphOf ns es) (rootIn s) first (referenceAt s leaf) x y in (
           λ h. record {
             arrival = y +ℤ first;
             walk = leaf-settled x (y +ℤ first) .1 (met, back .0 h);
             leafBit = sym (+ℤ-negℤ-cancel y first);
           },
-          λ r. back .1 (leaf-settled x (y +ℤ first) .0 (subst (λ (b : ℤ). Walk (graphOf ns es) (rootIn s) x (pos leaf) b) (reached-arrival r) (r .walk)) .1),
+          λ r. back .1 (leaf-settled x (y +ℤ first) .0 (subst (λ (b : ℤ). Walk (kindIn s) (graphOf ns es) (rootIn s) x (pos leaf) b) (reached-arrival r) (r .walk)) .1),
         )
 
     -- with f as it is read
@@ -159,17 +160,17 @@ module _ {ns es : List ℤ} {plan : List ℕ} {leaf : ℕ} {s : List ℤ} {n : �
           }
 
       -- and are those of the leaf
-      pub part-appended : {root : ℕ} {u : List ℤ} {m : ℕ} → Swept ns es plan root s → Gathered (graphOf ns es) (rootIn s) f s u n m
-          → LeafAppended (graphOf ns es) (pos root) (pos leaf) s u n m
+      pub part-appended : {kind : WalkKind} {root : ℕ} {u : List ℤ} {m : ℕ} → Swept kind ns es plan root s → Gathered (kindIn s) (graphOf ns es) (rootIn s) f s u n m
+          → LeafAppended kind (graphOf ns es) (pos root) (pos leaf) s u n m
       part-appended {u = u} {m = m} w h =
           let g = graphOf ns es in
-          subst (λ (r : ℤ). LeafAppended g r (pos leaf) s u n m) (w .from)
+          rw (← w .by, ← w .from)
           record {
             rows = h .rows;
             appended = h .appended;
             exact = λ x y.
                 Iff·trans (h .exact x y)
-                (subst (λ (e : Reference). Brings g (rootIn s) e x y ↔ Reached g (rootIn s) (pos leaf) x y) (sym read) (part-reached x y));
+                (subst (λ (e : Reference). Brings (kindIn s) g (rootIn s) e x y ↔ Reached (kindIn s) g (rootIn s) (pos leaf) x y) (sym read) (part-reached x y));
             full = h .full;
             few = omega (arith, h .few, ap (λ (e : Reference). pathCount g (rootIn s) (e .owner)) read, part-few);
           }

@@ -11,6 +11,7 @@ use lib.Seq.{getD-take, drop-at, length-take-le}
 use borrow.Rule.Slice.PartMut.{midOf, putMid}
 use Rattle.integers.proofs.Linear.{ints}
 use Rattle.lists.specs.Lists.{_∈_}
+use Rattle.model.specs.declared.WalkKind.{WalkKind}
 use Rattle.model.specs.Graph.{Graph, graphOf}
 use Rattle.model.specs.Bitmapping.{Record}
 use Rattle.model.specs.Runs.{normal}
@@ -26,7 +27,7 @@ use Rattle.normalisation.proofs.Sorted.{by-displacement-members, by-displacemen
 use Rattle.listing.proofs.Appending.{append-length}
 use Rattle.references.specs.References.{Reference, Brings, recordsAt}
 use Rattle.arrivals.specs.declared.ListRows.{ListRows}
-use Rattle.arrivals.specs.State.{freeRow, rootIn, Agree}
+use Rattle.arrivals.specs.State.{freeRow, rootIn, kindIn, Agree}
 use Rattle.arrivals.specs.Sweep.{HasSome, Gathered, Normalisable, Normalised, Makeable, Made}
 use Rattle.arrivals.proofs.Agreeing.{agree-trans, appended-agrees, appended-records}
 
@@ -66,7 +67,7 @@ module _ {s spare : List ℤ} {n m : ℕ} (o : Normalisable s spare n m) where
 -- ---- the list of a reference
 
 module _ {ns es : List ℤ} {plan : List ℕ} {f : Reference} {n m : ℕ} {s t spare : List ℤ} (o : Makeable ns es plan f s spare) (at : n ≡ freeRow s)
-    (h : Gathered (graphOf ns es) (rootIn s) f s t n m)
+    (h : Gathered (kindIn s) (graphOf ns es) (rootIn s) f s t n m)
   where
     -- there is room for the rows
     room : rowWidth * (n + length (h .rows)) ≤ length s
@@ -93,7 +94,7 @@ module _ {ns es : List ℤ} {plan : List ℕ} {f : Reference} {n m : ℕ} {s t s
         }
 
     -- and are the list of the reference then
-    pub list-made : {u : List ℤ} {p : ListRows} → Normalised t u n m p → Made (graphOf ns es) (rootIn s) f s u p
+    pub list-made : {u : List ℤ} {p : ListRows} → Normalised t u n m p → Made (kindIn s) (graphOf ns es) (rootIn s) f s u p
     list-made {u} q =
         let records = appended-records (omega (arith, room)) (h .appended) in
         record {
@@ -107,13 +108,13 @@ module _ {ns es : List ℤ} {plan : List ℕ} {f : Reference} {n m : ℕ} {s t s
           records = q .records ∙ ap (λ l. sortedByDisplacement (normal l)) records;
         }
 
-module _ {g : Graph} {r : ℤ} {f : Reference} {old new : List ℤ} {p : ListRows} (m : Made g r f old new p) where
+module _ {kind : WalkKind} {g : Graph} {r : ℤ} {f : Reference} {old new : List ℤ} {p : ListRows} (m : Made kind g r f old new p) where
   -- the list has no more records than paths lead to the owner
   pub made-few : p .count ≤ pathCount g r (f .owner)
   made-few = omega (arith, m .count, normal-length (m .made), m .few)
 
   -- they have exactly what the reference brings
-  pub made-exact : (x b : ℤ) → HasSome (recordsAt new (p .row) (p .count)) x b ↔ Brings g r f x b
+  pub made-exact : (x b : ℤ) → HasSome (recordsAt new (p .row) (p .count)) x b ↔ Brings kind g r f x b
   made-exact x b =
       let kept = normal-has (m .made) x b in (
         λ (q, j, has).

@@ -1,5 +1,5 @@
 -- Marks: what is read where one was stored, and elsewhere.
-use mathlib.Core.Path.{_≡_, ap, sym, _∙_}
+use mathlib.Core.Path.{_≡_, refl, ap, sym, _∙_}
 use mathlib.Core.Bool.{Bool, true, false}
 use mathlib.Core.Logic.{_≢_}
 use mathlib.Core.List.{List}
@@ -14,9 +14,11 @@ use lib.ListN.{length, getD, set, length-set}
 use lib.Seq.{getD-set-same, getD-set-other}
 use Rattle.integers.proofs.Range.{leZ-true}
 use Rattle.integers.proofs.Tests.{Test, passed, failed, eq?}
+use Rattle.model.specs.declared.WalkKind.{WalkKind}
+use Rattle.model.specs.declared.WalkKind.the-variants.{Reading, Writing}
 use Rattle.model.specs.Limits.{maxNodes}
 use Rattle.references.specs.References.{Reference}
-use Rattle.arrivals.specs.State.{markWidth, Mark, markNumber, markAt, setMark, marked, isMet, referenceAt, isListed, listRow, freeAt, freeRow, rootIn}
+use Rattle.arrivals.specs.State.{markWidth, Mark, markNumber, markAt, setMark, marked, isMet, referenceAt, isListed, listRow, freeAt, freeRow, rootIn, kindAt, kindOf, kindNumber, kindIn}
 use Rattle.arrivals.specs.Moves.{Blank}
 
 -- the owner is the first number of a mark
@@ -59,6 +61,15 @@ mark-free s v m h = ap natAbs (mark-behind s v freeAt m h (omega arith))
 
 pub mark-root : (s : List ℤ) (v : ℕ) (m : Mark) → v < maxNodes → rootIn (setMark s v m) ≡ rootIn s
 mark-root s v m h = mark-behind s v (freeAt + 1) m h (omega arith)
+
+pub mark-kind : (s : List ℤ) (v : ℕ) (m : Mark) → v < maxNodes → kindIn (setMark s v m) ≡ kindIn s
+mark-kind s v m h = ap kindOf (mark-behind s v kindAt m h (omega arith))
+
+-- the number that a state has for a kind stands for it
+pub kind-number : (kind : WalkKind) → kindOf (kindNumber kind) ≡ kind
+unfolding kindOf kindNumber
+kind-number Reading = refl
+kind-number Writing = refl
 
 -- ---- the mark of another node
 

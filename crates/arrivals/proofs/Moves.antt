@@ -1,6 +1,6 @@
 -- The steps of a sweep, case by case.
-use mathlib.Core.Path.{_≡_, sym, ap, subst}
-use mathlib.Core.Bool.{true, false}
+use mathlib.Core.Path.{_≡_, refl, sym, ap, subst, _∙_}
+use mathlib.Core.Bool.{Bool, true, false}
 use mathlib.Core.List.{List, [], _∷_}
 use mathlib.Core.Option.{none}
 use Prim.Native.Nat.{ℕ, _+_, _*_, _≤_, _<_}
@@ -8,6 +8,7 @@ use native.Mathlib.Omega.{arith}
 use borrow.Author.Tests.{lt-ltb, le-ltb}
 use lib.IntN.{ℤ, pos, natAbs}
 use lib.ListN.{length, set}
+use Rattle.model.specs.declared.WalkKind.{WalkKind}
 use Rattle.model.specs.Graph.{Graph, NodeRow, graphOf, bitOffset}
 use Rattle.tables.specs.Tables.{edgeAt}
 use Rattle.listing.specs.Listing.{Appended}
@@ -15,8 +16,8 @@ use Rattle.extents.specs.Extents.{GoodRow}
 use Rattle.extents.proofs.Rows.{node-good, edge-in}
 use Rattle.references.specs.declared.Reference.{Reference as Held}
 use Rattle.references.specs.References.{Reference, referenceOf, own, through, unlessNone, sameReference}
-use Rattle.arrivals.specs.State.{markWidth, arenaRow, arenaRows, freeAt, rootAt, setMark, marked, isMet, referenceAt, notListed, noRoom}
-use Rattle.arrivals.specs.Moves.{Crossable, crossing, meeting, storing, begun}
+use Rattle.arrivals.specs.State.{markWidth, arenaRow, arenaRows, freeAt, rootAt, kindAt, kindNumber, setMark, marked, isMet, referenceAt, notListed, noRoom}
+use Rattle.arrivals.specs.Moves.{Crossable, crossing, meeting, storing, rootMarked, begun}
 
 -- the owner of all that arrives at v is v
 pub own-owner : {r : Held} (g : Graph) {v : ℕ} → referenceOf r ≡ own g (pos v) → r .owner ≡ v
@@ -79,9 +80,19 @@ module _ (all : Reference) (v used k : ℕ) (s : List ℤ) where
 
 -- ---- the root
 
--- its mark, its row, and the two numbers behind the marks are the state with the root marked
-pub root-stored : (all : Reference) (root : ℕ) (s : List ℤ) {t u : List ℤ} {held : Reference} {row low high used last : ℤ} {r : ℕ}
-    → t ≡ setMark s root (marked held row (pos 1)) → held ≡ all → row ≡ pos arenaRow → low ≡ all .run .low → high ≡ all .run .high
-    → Appended (record { first = pos 0; second = low; third = high } ∷ []) t u arenaRow r → used ≡ pos (arenaRow + 1) → last ≡ pos root
-    → set (set u freeAt used) rootAt last ≡ begun all root s
-root-stored all root s m a p f e b n l = let numbers = b .numbers in cc
+module _ {met : Bool} (all : Reference) (root : ℕ) (s : List ℤ) where
+  -- one that is closed to the walks is not marked
+  pub root-closed : met ≡ false → s ≡ rootMarked met all root s
+  root-closed e = rw e refl
+
+  -- one that is open is, with all its bits
+  pub root-open : {t : List ℤ} {held : Reference} {row : ℤ} → met ≡ true → t ≡ setMark s root (marked held row (pos 1)) → held ≡ all → row ≡ pos arenaRow
+      → t ≡ rootMarked met all root s
+  root-open {row = row} e m a p = rw e (m ∙ ap (λ (f : Reference). setMark s root (marked f row (pos 1))) a ∙ ap (λ (z : ℤ). setMark s root (marked all z (pos 1))) p)
+
+-- its mark, its row, and the three numbers behind the marks are the state in which a sweep begins
+pub root-stored : (kind : WalkKind) (met : Bool) (all : Reference) (root : ℕ) (s : List ℤ) {t u : List ℤ} {low high used last number : ℤ} {r : ℕ}
+    → t ≡ rootMarked met all root s → low ≡ all .run .low → high ≡ all .run .high
+    → Appended (record { first = pos 0; second = low; third = high } ∷ []) t u arenaRow r → used ≡ pos (arenaRow + 1) → last ≡ pos root → number ≡ kindNumber kind
+    → set (set (set u freeAt used) rootAt last) kindAt number ≡ begun kind met all root s
+root-stored kind met all root s m f e b n l k = let numbers = b .numbers in cc

@@ -10,6 +10,7 @@ use lib.Signed.{leZ, _≤ℤ_}
 use lib.ListN.{length, getD}
 use Rattle.integers.proofs.Linear.{ints}
 use Rattle.lists.specs.Lists.{_∈_}
+use Rattle.model.specs.declared.WalkKind.{WalkKind}
 use Rattle.model.specs.Limits.{maxPaths}
 use Rattle.model.specs.Rows.{Edge, nodeRows}
 use Rattle.model.specs.Graph.{Graph, graphOf, NodeRow, node, firstBit, lastBit}
@@ -20,8 +21,8 @@ use Rattle.reach.specs.Counting.{pathCount}
 use Rattle.sorting.specs.Rows.{Ascending}
 use Rattle.normalisation.specs.Merging.{byDisplacement}
 use Rattle.references.specs.References.{Reference, Brings, InOwner, recordsAt}
-use Rattle.arrivals.specs.State.{markNumber, isMet, referenceAt, isListed, listRow, countOf, freeAt, arenaRow, arenaRows, freeRow, rootIn}
-use Rattle.arrivals.specs.Sweep.{HasSome, doneOf, Came, Listed, RightMark, Sweeping}
+use Rattle.arrivals.specs.State.{markNumber, isMet, referenceAt, isListed, listRow, countOf, freeAt, arenaRow, arenaRows, freeRow, rootIn, kindIn}
+use Rattle.arrivals.specs.Sweep.{HasSome, Came, Listed, RightMark, OpenRoot, Sweeping}
 
 -- ---- node rows
 
@@ -37,14 +38,14 @@ number-row ns es {v} h = record { low = omega (arith, ints); high = omega (arith
 -- ---- other lists
 
 -- a list stays that of its node where its row, its number of records and the records stay
-pub listed-moved : {g : Graph} {r : ℤ} {s t : List ℤ} {v : ℕ} → listRow t v ≡ listRow s v → markNumber t v 5 ≡ markNumber s v 5 → freeRow s ≤ freeRow t
-    → recordsAt t (listRow s v) (countOf s v) ≡ recordsAt s (listRow s v) (countOf s v) → Listed g r s v → Listed g r t v
-listed-moved {g} {r} {s} {t} {v} row number more same h =
+pub listed-moved : {kind : WalkKind} {g : Graph} {r : ℤ} {s t : List ℤ} {v : ℕ} → listRow t v ≡ listRow s v → markNumber t v 5 ≡ markNumber s v 5 → freeRow s ≤ freeRow t
+    → recordsAt t (listRow s v) (countOf s v) ≡ recordsAt s (listRow s v) (countOf s v) → Listed kind g r s v → Listed kind g r t v
+listed-moved {kind} {g} {r} {s} {t} {v} row number more same h =
     record {
       counted = subst (λ (z : ℤ). pos (natAbs z) ≡ z) (sym number) (h .counted);
       behind = omega (arith, row, h .behind);
       within = omega (arith, row, count, more, h .within);
-      exact = λ x b. subst (λ (l : List Record). HasSome l x b ↔ Walk g r x (pos v) b) (sym records) (h .exact x b);
+      exact = λ x b. subst (λ (l : List Record). HasSome l x b ↔ Walk kind g r x (pos v) b) (sym records) (h .exact x b);
       full = λ q k. h .full q (subst (λ (l : List Record). q ∈ l) records k);
       few = omega (arith, count, h .few);
       ascending = subst (λ (l : List Record). Ascending (map byDisplacement l)) (sym records) (h .ascending);
@@ -56,16 +57,17 @@ listed-moved {g} {r} {s} {t} {v} row number more same h =
     records : recordsAt t (listRow t v) (countOf t v) ≡ recordsAt s (listRow s v) (countOf s v)
     records = ap (λ p. recordsAt t p (countOf t v)) row ∙ ap (λ c. recordsAt t (listRow s v) c) count ∙ same
 
--- a state with the length, the root and the references of another, whose lists are right
+-- a state with the length, the root, the kind of walk and the references of another, whose lists are right
 pub record Relisted (ns es : List ℤ) (s t : List ℤ) : Type 0 where
   pub long : length t ≡ length s
   pub root : rootIn t ≡ rootIn s
+  pub kind : kindIn t ≡ kindIn s
   pub references : (v : ℕ) → v < length (nodeRows ns) → referenceAt t v ≡ referenceAt s v
   pub freeNumber : pos (freeRow t) ≡ getD t freeAt (pos 0)
   pub freeLow : arenaRow ≤ freeRow t
   pub freeHigh : freeRow t ≤ arenaRow + arenaRows
-  pub rootListed : (r : ℕ) → pos r ≡ rootIn s → isListed t r ≡ true
-  pub listed : (v : ℕ) → v < length (nodeRows ns) → isMet s v ≡ true → isListed t v ≡ true → Listed (graphOf ns es) (rootIn s) t v
+  pub rootListed : OpenRoot ns es s → (r : ℕ) → pos r ≡ rootIn s → isListed t r ≡ true
+  pub listed : (v : ℕ) → v < length (nodeRows ns) → isMet s v ≡ true → isListed t v ≡ true → Listed (kindIn s) (graphOf ns es) (rootIn s) t v
 
 module _ {ns es s t : List ℤ} (c : Relisted ns es s t) where
   -- the same nodes are marked
@@ -73,8 +75,8 @@ module _ {ns es s t : List ℤ} (c : Relisted ns es s t) where
   relisted-met v h = ap (λ (f : Reference). leZ (pos 0) (f .owner)) (c .references v h)
 
   -- the mark of a node stays right
-  relisted-marked : {done : List Edge} (v : ℕ) → v < length (nodeRows ns) → RightMark (graphOf ns es) (rootIn s) done s v
-      → RightMark (graphOf ns es) (rootIn s) done t v
+  relisted-marked : {done : List Edge} (v : ℕ) → v < length (nodeRows ns) → RightMark (kindIn s) (graphOf ns es) (rootIn s) done s v
+      → RightMark (kindIn s) (graphOf ns es) (rootIn s) done t v
   relisted-marked {done} v h m =
       let g = graphOf ns es in
       let same : referenceAt s v ≡ referenceAt t v = sym (c .references v h) in
@@ -82,6 +84,7 @@ module _ {ns es s t : List ℤ} (c : Relisted ns es s t) where
       let met : isMet t v ≡ true → isMet s v ≡ true = λ q. sym (relisted-met v h) ∙ q in
       record {
         unmet = λ q. m .unmet (sym (relisted-met v h) ∙ q);
+        access = λ q. m .access (met q);
         inOwner = λ q. subst (λ (f : Reference). InOwner g f) same (m .inOwner (met q));
         inside = λ q.
             subst (λ (f : Reference). (firstBit (node g (pos v)) ≤ℤ f .run .low) × (f .run .high ≤ℤ lastBit (node g (pos v)))) same (m .inside (met q));
@@ -90,7 +93,7 @@ module _ {ns es s t : List ℤ} (c : Relisted ns es s t) where
             relisted-met k (row-number ns es (subst (NodeRow g) (sym at) (m .inOwner (met q) .row))) ∙ m .owner (met q) k at;
         way = λ q. subst (λ (f : Reference). (p : List Edge) × Way g (f .owner) p (pos v)) same (m .way (met q));
         itself = λ q p. c .references v h ∙ m .itself (met q) (sym owners ∙ p);
-        other = λ q n x b. subst (λ (f : Reference). Came g (rootIn s) done (pos v) x b ↔ Brings g (rootIn s) f x b) same (m .other (met q) (λ p. n (owners ∙ p)) x b);
+        other = λ q n x b. subst (λ (f : Reference). Came (kindIn s) g (rootIn s) done (pos v) x b ↔ Brings (kindIn s) g (rootIn s) f x b) same (m .other (met q) (λ p. n (owners ∙ p)) x b);
         listed = λ q. c .listed v h (met q);
       }
 
@@ -100,6 +103,7 @@ module _ {ns es s t : List ℤ} (c : Relisted ns es s t) where
       let g = graphOf ns es in
       let root : rootIn s ≡ rootIn t = sym (c .root) in
       let start : (r : ℕ) → pos r ≡ rootIn t → pos r ≡ rootIn s = λ r p. p ∙ c .root in
+      let before : OpenRoot ns es t → OpenRoot ns es s = λ o. rw (← c .kind, ← c .root) o in
       let number : (r : ℕ) → pos r ≡ rootIn s → r < length (nodeRows ns) = λ r p. row-number ns es (subst (NodeRow g) (sym p) (w .root .row)) in
       record {
         tables = w .tables;
@@ -109,9 +113,9 @@ module _ {ns es s t : List ℤ} (c : Relisted ns es s t) where
         freeLow = c .freeLow;
         freeHigh = c .freeHigh;
         root = subst (Root g) root (w .root);
-        rootMet = λ r p. relisted-met r (number r (start r p)) ∙ w .rootMet r (start r p);
-        rootOwn = λ r p. ap (λ (f : Reference). f .owner) (c .references r (number r (start r p))) ∙ w .rootOwn r (start r p);
-        rootListed = λ r p. c .rootListed r (start r p);
+        rootMet = λ o r p. relisted-met r (number r (start r p)) ∙ w .rootMet (before o) r (start r p);
+        rootOwn = λ o r p. ap (λ (f : Reference). f .owner) (c .references r (number r (start r p))) ∙ w .rootOwn (before o) r (start r p);
+        rootListed = λ o r p. c .rootListed (before o) r (start r p);
         few = λ e m. subst (λ (r : ℤ). pathCount g r (e .to) ≤ maxPaths) root (w .few e m);
-        marks = λ v h. subst (λ (r : ℤ). RightMark g r (doneOf es plan i) t v) root (relisted-marked v h (w .marks v h));
+        marks = λ v h. rw (c .kind, c .root) (relisted-marked v h (w .marks v h));
       }

@@ -13,18 +13,19 @@ use Rattle.integers.specs.Integers.{eqZ}
 use Rattle.integers.proofs.Tests.{Test, passed, failed, eqZ?, ltb?}
 use Rattle.lists.specs.Lists.{_∈_}
 use Rattle.model.specs.Rows.{Edge, nodeRows, edgeRows}
-use Rattle.model.specs.Graph.{graphOf}
-use Rattle.model.specs.Walk.{Walk}
+use Rattle.model.specs.Graph.{graphOf, node}
+use Rattle.model.specs.Walk.{Open, Walk}
 use Rattle.model.specs.Paths.{Way, stay, over}
 use Rattle.reach.proofs.Values.{map-at}
+use Rattle.model.proofs.Walks.{walk-start}
 use Rattle.entering.proofs.Walks.{walk-entering}
 use Rattle.tables.specs.Tables.{edgeAt}
 use Rattle.forward.specs.Forward.{Forward, plannedCount, plannedOf}
 use Rattle.references.specs.References.{Reference, Brings}
 use Rattle.references.proofs.Bringing.{own-brings}
 use Rattle.entering.specs.Entering.{Covered}
-use Rattle.arrivals.specs.State.{isMet, referenceAt, rootIn}
-use Rattle.arrivals.specs.Sweep.{doneOf, Came, RightMark, Sweeping}
+use Rattle.arrivals.specs.State.{isMet, referenceAt, rootIn, kindIn}
+use Rattle.arrivals.specs.Sweep.{doneOf, Came, RightMark, OpenRoot, Sweeping}
 
 -- a test does not pass and fail
 pub not-both : {t : Bool} → t ≡ true → t ≡ false → ⊥
@@ -127,39 +128,43 @@ module _ {ns es : List ℤ} {plan : List ℕ} {i : ℕ} {s : List ℤ} (w : Swee
 
   -- what has come to a covered node, other than the root, is what arrives there
   pub came-all : (v : ℤ) → rootIn s ≢ v → Covered es (doneOf es plan i) v → (x b : ℤ)
-      → Came (graphOf ns es) (rootIn s) (doneOf es plan i) v x b ↔ Walk (graphOf ns es) (rootIn s) x v b
+      → Came (kindIn s) (graphOf ns es) (rootIn s) (doneOf es plan i) v x b ↔ Walk (kindIn s) (graphOf ns es) (rootIn s) x v b
   unfolding graphOf
   came-all v n c x b =
-      let k = walk-entering {g = graphOf ns es} n x b in (
+      let k = walk-entering {kind = kindIn s} {g = graphOf ns es} n x b in (
         λ z. k .1 (z .stands, (z .over, done-inside (z .over) (z .among), z .enters, z .walk)),
         λ y. let z = k .0 y in record { stands = z .0; over = z .1 .0; among = c (z .1 .0) (z .1 .1) (z .1 .2); enters = z .1 .2; walk = z .1 .3 },
       )
 
+  -- the root is open to the walks where it is marked
+  pub met-root : (v : ℕ) → v < length (nodeRows ns) → isMet s v ≡ true → rootIn s ≡ pos v → OpenRoot ns es s
+  met-root v h m q = subst (λ (r : ℤ). Open (kindIn s) (node (graphOf ns es) r .access)) (sym q) (w .marks v h .access m)
+
   -- what arrives at a covered node is what its mark brings
   pub settled : (v : ℕ) → v < length (nodeRows ns) → Covered es (doneOf es plan i) (pos v) → (x b : ℤ)
-      → Walk (graphOf ns es) (rootIn s) x (pos v) b ↔ ((isMet s v ≡ true) × Brings (graphOf ns es) (rootIn s) (referenceAt s v) x b)
+      → Walk (kindIn s) (graphOf ns es) (rootIn s) x (pos v) b ↔ ((isMet s v ≡ true) × Brings (kindIn s) (graphOf ns es) (rootIn s) (referenceAt s v) x b)
   settled v h c x b = by-met (isMet s v) refl
     where
-      mark : RightMark (graphOf ns es) (rootIn s) (doneOf es plan i) s v
+      mark : RightMark (kindIn s) (graphOf ns es) (rootIn s) (doneOf es plan i) s v
       mark = w .marks v h
 
       Here : Type 0
-      Here = Walk (graphOf ns es) (rootIn s) x (pos v) b ↔ ((isMet s v ≡ true) × Brings (graphOf ns es) (rootIn s) (referenceAt s v) x b)
+      Here = Walk (kindIn s) (graphOf ns es) (rootIn s) x (pos v) b ↔ ((isMet s v ≡ true) × Brings (kindIn s) (graphOf ns es) (rootIn s) (referenceAt s v) x b)
 
-      unrooted : isMet s v ≡ false → rootIn s ≢ pos v
-      unrooted n q = not-both (w .rootMet v (sym q)) n
+      unrooted : isMet s v ≡ false → Walk (kindIn s) (graphOf ns es) (rootIn s) x (pos v) b → rootIn s ≢ pos v
+      unrooted n y q = not-both (w .rootMet (walk-start y .access) v (sym q)) n
 
       itself : isMet s v ≡ true → referenceAt s v .owner ≡ pos v → Here
       itself m q =
-          let e = own-brings (graphOf ns es) (rootIn s) (pos v) x b in
+          let e = own-brings (kindIn s) (graphOf ns es) (rootIn s) (pos v) x b in
           let z = mark .itself m q in (
-            λ y. (m, subst (λ (f : Reference). Brings (graphOf ns es) (rootIn s) f x b) (sym z) (e .1 y)),
-            λ y. e .0 (subst (λ (f : Reference). Brings (graphOf ns es) (rootIn s) f x b) z (y .1)),
+            λ y. (m, subst (λ (f : Reference). Brings (kindIn s) (graphOf ns es) (rootIn s) f x b) (sym z) (e .1 y)),
+            λ y. e .0 (subst (λ (f : Reference). Brings (kindIn s) (graphOf ns es) (rootIn s) f x b) z (y .1)),
           )
 
       other : isMet s v ≡ true → (referenceAt s v .owner ≡ pos v → ⊥) → Here
       other m n =
-          let k = came-all (pos v) (λ q. n (w .rootOwn v (sym q))) c x b in
+          let k = came-all (pos v) (λ q. n (w .rootOwn (met-root v h m q) v (sym q))) c x b in
           let z = mark .other m n x b in
           (λ y. (m, z .0 (k .1 y)), λ y. k .0 (z .1 (y .1)))
 
@@ -170,6 +175,6 @@ module _ {ns es : List ℤ} {plan : List ℕ} {i : ℕ} {s : List ℤ} (w : Swee
       by-met : (t : Bool) → isMet s v ≡ t → Here
       by-met true m = by-owner m (eqZ (referenceAt s v .owner) (pos v)) (eqZ? (referenceAt s v .owner) (pos v))
       by-met false m = (
-        λ y. absurd (mark .unmet m x b (came-all (pos v) (unrooted m) c x b .1 y)),
+        λ y. absurd (mark .unmet m x b (came-all (pos v) (unrooted m y) c x b .1 y)),
         λ y. absurd (not-both (y .0) m),
       )

@@ -27,21 +27,22 @@ use Rattle.references.specs.References.{Reference, own, Brings, InOwner, record
 use Rattle.references.proofs.Bringing.{own-brings, own-lying}
 use Rattle.entering.specs.Entering.{Covered}
 use Rattle.arrivals.specs.declared.ListRows.{ListRows}
-use Rattle.arrivals.specs.State.{markWidth, Mark, markNumber, markAt, setMark, marked, isMet, referenceAt, isListed, listRow, countOf, freeAt, rootAt, arenaRow, arenaRows, stateRoom, freeRow, rootIn, Agree, noRoom}
+use Rattle.arrivals.specs.State.{markWidth, Mark, markNumber, markAt, setMark, marked, isMet, referenceAt, isListed, listRow, countOf, freeAt, rootAt, kindAt, arenaRow, arenaRows, stateRoom, freeRow, rootIn, kindOf, kindIn, Agree, noRoom}
 use Rattle.arrivals.specs.Sweep.{HasSome, doneOf, Listed, Sweeping, Makeable, Made}
 use Rattle.arrivals.specs.Moves.{Storable, storing, Ownable, ListMade}
 use Rattle.arrivals.proofs.Relisting.{row-number, number-row, listed-moved, Relisted, relisted-met, relisted-sweeping}
-use Rattle.arrivals.proofs.Marks.{mark-same, mark-other, mark-behind, mark-length, mark-root}
-use Rattle.arrivals.proofs.Agreeing.{agree-root, agree-free, met-agrees, reference-agrees, listed-agrees, rows-few, sweeping-agrees}
+use Rattle.arrivals.proofs.Marks.{mark-same, mark-other, mark-behind, mark-length, mark-root, mark-kind}
+use Rattle.arrivals.proofs.Agreeing.{agree-root, agree-kind, agree-free, met-agrees, reference-agrees, listed-agrees, rows-few, sweeping-agrees}
 use Rattle.arrivals.proofs.Settled.{not-both}
 use Rattle.arrivals.proofs.Making.{made-few, made-exact, made-full, made-ascending}
 
 -- ---- one mark stored
 
--- the state with m as the mark of v and rows used up to `used`: the other marks, the root and the rows of the arena stay
+-- the state with m as the mark of v and rows used up to `used`: the other marks, the root, the kind of walk and the rows of the arena stay
 pub record Remarked (v : ℕ) (m : Mark) (used : ℕ) (s t : List ℤ) : Type 0 where
   pub long : length t ≡ length s
   pub root : rootIn t ≡ rootIn s
+  pub kind : kindIn t ≡ kindIn s
   pub number : getD t freeAt (pos 0) ≡ pos used
   pub same : markAt t v ≡ m
   pub other : (w : ℕ) → w < maxNodes → w ≢ v → markAt t w ≡ markAt s w
@@ -60,6 +61,7 @@ module _ (s : List ℤ) (v : ℕ) (m : Mark) (row : v < maxNodes) (room : length
       record {
         long = mark-length s v m;
         root = mark-root s v m row;
+        kind = mark-kind s v m row;
         number = mark-behind s v freeAt m row (omega arith) ∙ e;
         same = mark-same s v m (omega (arith, room));
         other = λ w h n. mark-other s v w m n;
@@ -74,6 +76,7 @@ module _ (s : List ℤ) (v : ℕ) (m : Mark) (row : v < maxNodes) (room : length
       record {
         long = length-set t freeAt (pos used) ∙ long;
         root = getD-set-other t freeAt rootAt (pos used) (pos 0) (λ e. omega arith) ∙ mark-root s v m row;
+        kind = ap kindOf (getD-set-other t freeAt kindAt (pos used) (pos 0) (λ e. omega arith)) ∙ mark-kind s v m row;
         number = getD-set-same t freeAt (pos used) (pos 0) (omega (arith, long, room));
         same = free-other v row ∙ mark-same s v m (omega (arith, room));
         other = λ w h n. free-other w h ∙ mark-other s v w m n;
@@ -97,7 +100,7 @@ module _ (s : List ℤ) (v : ℕ) (m : Mark) (row : v < maxNodes) (room : length
 module _ {ns es : List ℤ} {plan : List ℕ} {i v used : ℕ} {s t : List ℤ} {m : Mark} (w : Sweeping ns es plan i s) (c : Remarked v m used s t)
     (reference : referenceAt s v ≡ record { owner = m .owner; run = record { root = m .root; low = m .low; high = m .high } }) (unlisted : isListed s v ≡ false)
     (more : freeRow s ≤ used) (room : used ≤ arenaRow + arenaRows)
-    (list : leZ (pos 0) (m .row) ≡ true → Listed (graphOf ns es) (rootIn s) t v)
+    (list : leZ (pos 0) (m .row) ≡ true → Listed (kindIn s) (graphOf ns es) (rootIn s) t v)
   where
     -- what is so of v, and of the other nodes with the mark that they had, is so of all
     mark-cases : (P : ℕ → Type 0) → P v → ((x : ℕ) → markAt t x ≡ markAt s x → P x) → (x : ℕ) → x < length (nodeRows ns) → P x
@@ -115,16 +118,17 @@ module _ {ns es : List ℤ} {plan : List ℕ} {i v used : ℕ} {s t : List ℤ} 
         record {
           long = c .long;
           root = c .root;
+          kind = c .kind;
           references = mark-cases (λ x. referenceAt t x ≡ referenceAt s x) (ap of (c .same) ∙ sym reference) (λ x e. ap of e);
           freeNumber = ap pos after ∙ sym (c .number);
           freeLow = omega (arith, after, more, w .freeLow);
           freeHigh = omega (arith, after, room);
-          rootListed = λ r p.
+          rootListed = λ o r p.
               mark-cases (λ x. isListed s x ≡ true → isListed t x ≡ true) (λ q. absurd (not-both q unlisted))
               (λ x e q. ap (λ (m : Mark). leZ (pos 0) (m .row)) e ∙ q) r (row-number ns es (subst (NodeRow (graphOf ns es)) (sym p) (w .root .row)))
-              (w .rootListed r p);
+              (w .rootListed o r p);
           listed = λ x h.
-              mark-cases (λ x. x < length (nodeRows ns) → isMet s x ≡ true → isListed t x ≡ true → Listed (graphOf ns es) (rootIn s) t x)
+              mark-cases (λ x. x < length (nodeRows ns) → isMet s x ≡ true → isListed t x ≡ true → Listed (kindIn s) (graphOf ns es) (rootIn s) t x)
               (λ k n q. list (sym (ap (λ (m : Mark). leZ (pos 0) (m .row)) (c .same)) ∙ q))
               (λ x e k n q.
               let old = w .marks x k .listed n (sym (ap (λ (m : Mark). leZ (pos 0) (m .row)) e) ∙ q) in
@@ -141,7 +145,7 @@ module _ {ns es : List ℤ} {plan : List ℕ} {i v used : ℕ} {s t : List ℤ} 
 
 -- where nothing is done all stays
 pub unstored-same : {ns es : List ℤ} {plan : List ℕ} {v : ℕ} {s spare : List ℤ} → Ownable ns es plan v s spare → ListMade ns es plan v s s
-unstored-same o = record { met = o .met; root = refl; sweeping = λ i w. w }
+unstored-same o = record { met = o .met; root = refl; kind = refl; sweeping = λ i w. w }
 
 -- a node whose reference f, as it is read, has the node itself as owner
 module _ {ns es : List ℤ} {plan : List ℕ} {v : ℕ} {s spare : List ℤ} (o : Ownable ns es plan v s spare) {f : Reference}
@@ -171,7 +175,7 @@ module _ {ns es : List ℤ} {plan : List ℕ} {v : ℕ} {s spare : List ℤ} (o 
           spareRoom = o .spareRoom;
         }
 
-    module _ {u : List ℤ} {p : ListRows} (q : Made (graphOf ns es) (rootIn s) f s u p) where
+    module _ {u : List ℤ} {p : ListRows} (q : Made (kindIn s) (graphOf ns es) (rootIn s) f s u p) where
       low : arenaRow ≤ p .row
       low = omega (arith, q .at, o .sweeping .freeLow)
 
@@ -191,7 +195,7 @@ module _ {ns es : List ℤ} {plan : List ℕ} {v : ℕ} {s spare : List ℤ} (o 
 
       -- the list that is stored is that of v
       stored-listed : (z : List ℤ) → Remarked v (marked (own (graphOf ns es) (pos v)) (pos (p .row)) (pos (p .count))) (p .row + p .count) u z
-          → Listed (graphOf ns es) (rootIn u) z v
+          → Listed (kindIn u) (graphOf ns es) (rootIn u) z v
       stored-listed z c =
           let g = graphOf ns es in
           let row : listRow z v ≡ p .row = ap (λ (m : Mark). natAbs (m .row)) (c .same) in
@@ -199,19 +203,20 @@ module _ {ns es : List ℤ} {plan : List ℕ} {v : ℕ} {s spare : List ℤ} (o 
           let count : countOf z v ≡ p .count = ap natAbs number in
           let after : freeRow z ≡ p .row + p .count = ap natAbs (c .number) in
           let root : rootIn s ≡ rootIn u = sym (agree-root low (q .agrees)) in
+          let kind : kindIn s ≡ kindIn u = sym (agree-kind low (q .agrees)) in
           let records : recordsAt z (listRow z v) (countOf z v) ≡ recordsAt u (p .row) (p .count) =
           ap (λ n. recordsAt z n (countOf z v)) row
           ∙ ap (λ n. recordsAt z (p .row) n) count
           ∙ ap (λ l. displacedOf l (p .count)) (c .behind (rowWidth * p .row) (omega (arith, low))) in
-          let brings : (x b : ℤ) → Brings g (rootIn s) f x b ↔ Walk g (rootIn s) x (pos v) b =
-          λ x b. subst (λ (e : Reference). Brings g (rootIn s) e x b ↔ Walk g (rootIn s) x (pos v) b) (sym ownable-own) (own-brings g (rootIn s) (pos v) x b) in
+          let brings : (x b : ℤ) → Brings (kindIn s) g (rootIn s) f x b ↔ Walk (kindIn s) g (rootIn s) x (pos v) b =
+          λ x b. subst (λ (e : Reference). Brings (kindIn s) g (rootIn s) e x b ↔ Walk (kindIn s) g (rootIn s) x (pos v) b) (sym ownable-own) (own-brings (kindIn s) g (rootIn s) (pos v) x b) in
           record {
             counted = ap pos count ∙ sym number;
             behind = omega (arith, row, low);
             within = omega (arith, row, count, after);
             exact = λ x b.
-                subst (λ (l : List Record). HasSome l x b ↔ Walk g (rootIn u) x (pos v) b) (sym records)
-                (subst (λ (r : ℤ). HasSome (recordsAt u (p .row) (p .count)) x b ↔ Walk g r x (pos v) b) root (Iff·trans (made-exact q x b) (brings x b)));
+                subst (λ (l : List Record). HasSome l x b ↔ Walk (kindIn u) g (rootIn u) x (pos v) b) (sym records)
+                (rw (← kind, ← root) (Iff·trans (made-exact q x b) (brings x b)));
             full = λ d j. made-full q d (subst (λ (l : List Record). d ∈ l) records j);
             few = subst (λ (r : ℤ). countOf z v ≤ pathCount g r (pos v)) root
                 (subst (λ (w : ℤ). countOf z v ≤ pathCount g (rootIn s) w) owner (omega (arith, count, made-few q)));
@@ -225,6 +230,7 @@ module _ {ns es : List ℤ} {plan : List ℕ} {v : ℕ} {s spare : List ℤ} (o 
           record {
             met = relisted-met c v (o .row) ∙ met-agrees low (q .agrees) v (rows-few (o .sweeping .tables) (o .row)) ∙ o .met;
             root = c .root ∙ agree-root low (q .agrees);
+            kind = c .kind ∙ agree-kind low (q .agrees);
             sweeping = λ i w. relisted-sweeping (relisted i (swept w)) (swept w);
           }
 

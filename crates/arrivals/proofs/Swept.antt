@@ -1,4 +1,4 @@
--- What is known of a swept state without a look into it: its root, its free row, and that it may change from there on.
+-- What is known of a swept state without a look into it: its root, its kind of walk, its free row, and that it may change from there on.
 use mathlib.Core.Path.{_≡_, sym, ap, _∙_, subst}
 use mathlib.Core.List.{List}
 use Prim.Native.Nat.{ℕ, _+_, _*_, _≤_, _<_}
@@ -7,6 +7,7 @@ use lib.IntN.{ℤ, pos, natAbs}
 use lib.Signed.{_≤ℤ_}
 use lib.ListN.{length, getD}
 use Rattle.integers.proofs.Linear.{ints}
+use Rattle.model.specs.declared.WalkKind.{WalkKind}
 use Rattle.model.specs.Limits.{maxPaths}
 use Rattle.model.specs.Graph.{graphOf}
 use Rattle.model.specs.Paths.{Root}
@@ -14,9 +15,9 @@ use Rattle.model.specs.Taken.{TakenTables}
 use Rattle.sorting.specs.Rows.{rowWidth}
 use Rattle.arrivals.specs.State.{freeAt, freeRow, Agree}
 use Rattle.arrivals.specs.Sweep.{Swept}
-use Rattle.arrivals.proofs.Agreeing.{agree-root, agree-free, sweeping-agrees}
+use Rattle.arrivals.proofs.Agreeing.{agree-root, agree-kind, agree-free, sweeping-agrees}
 
-module _ {ns es : List ℤ} {plan : List ℕ} {root : ℕ} {s : List ℤ} (w : Swept ns es plan root s) where
+module _ {kind : WalkKind} {ns es : List ℤ} {plan : List ℕ} {root : ℕ} {s : List ℤ} (w : Swept kind ns es plan root s) where
   -- the tables are taken, and the root is one of them
   pub swept-tables : TakenTables ns es
   swept-tables = w .state .tables
@@ -25,7 +26,7 @@ module _ {ns es : List ℤ} {plan : List ℕ} {root : ℕ} {s : List ℤ} (w : S
   swept-root = subst (Root (graphOf ns es)) (w .from) (w .state .root)
 
   -- it is the only one
-  pub swept-same : {other : ℕ} → Swept ns es plan other s → root ≡ other
+  pub swept-same : {meant : WalkKind} {other : ℕ} → Swept meant ns es plan other s → root ≡ other
   swept-same v = ap natAbs (sym (w .from) ∙ v .from)
 
   -- the free row can be read
@@ -37,6 +38,6 @@ module _ {ns es : List ℤ} {plan : List ℕ} {root : ℕ} {s : List ℤ} (w : S
   swept-room = omega (arith, w .state .room, w .state .freeHigh)
 
   -- a state that is the same in front of the free row is swept too, and free from the same row on
-  pub swept-agrees : {t : List ℤ} → Agree (freeRow s) s t → Swept ns es plan root t × (freeRow t ≡ freeRow s)
+  pub swept-agrees : {t : List ℤ} → Agree (freeRow s) s t → Swept kind ns es plan root t × (freeRow t ≡ freeRow s)
   swept-agrees a =
-      (record { from = agree-root (w .state .freeLow) a ∙ w .from; state = sweeping-agrees (w .state) a }, agree-free (w .state .freeLow) a)
+      (record { from = agree-root (w .state .freeLow) a ∙ w .from; by = agree-kind (w .state .freeLow) a ∙ w .by; state = sweeping-agrees (w .state) a }, agree-free (w .state .freeLow) a)

@@ -1,12 +1,13 @@
 -- What the steps of a sweep ask and leave. Assumes nothing.
 use mathlib.Core.Path.{_≡_}
-use mathlib.Core.Bool.{true, false, cond}
+use mathlib.Core.Bool.{Bool, true, false, cond}
 use mathlib.Core.List.{List, [], _∷_, _++_}
 use mathlib.Core.Option.{Option, none}
 use Prim.Native.Nat.{ℕ, _+_, _*_, _≤_, _<_, _^_}
 use lib.Dec.{ltb}
 use lib.IntN.{ℤ, pos, natAbs}
 use lib.ListN.{length, set, take, drop}
+use Rattle.model.specs.declared.WalkKind.{WalkKind}
 use Rattle.model.specs.Limits.{edgeWidth, maxNodes, maxPaths}
 use Rattle.model.specs.Rows.{Edge, nodeRows}
 use Rattle.model.specs.Graph.{Graph, graphOf, bitOffset}
@@ -19,7 +20,7 @@ use Rattle.sorting.specs.Rows.{rowWidth, numbersOf}
 use Rattle.entering.specs.Entering.{Covered}
 use Rattle.forward.specs.Forward.{plannedCount}
 use Rattle.references.specs.References.{Reference, through, unlessNone, sameReference}
-use Rattle.arrivals.specs.State.{markWidth, freeAt, rootAt, arenaRow, arenaRows, stateRoom, setMark, marked, isMet, referenceAt, rootIn, notListed, noRoom}
+use Rattle.arrivals.specs.State.{markWidth, freeAt, rootAt, kindAt, arenaRow, arenaRows, stateRoom, setMark, marked, isMet, referenceAt, rootIn, kindNumber, kindIn, notListed, noRoom}
 use Rattle.arrivals.specs.Sweep.{doneOf, Sweeping}
 
 -- ---- over an edge
@@ -67,10 +68,11 @@ pub record Ownable (ns es : List ℤ) (plan : List ℕ) (v : ℕ) (s spare : Lis
   pub few : pathCount (graphOf ns es) (rootIn s) (pos v) ≤ maxPaths
   pub spareRoom : rowWidth * maxPaths ≤ length spare
 
--- v may have been given a list: it is marked, the root is the same, and the state is swept over as many edges
+-- v may have been given a list: it is marked, the root and the kind of walk are the same, and the state is swept over as many edges
 pub record ListMade (ns es : List ℤ) (plan : List ℕ) (v : ℕ) (old new : List ℤ) : Type 0 where
   pub met : isMet new v ≡ true
   pub root : rootIn new ≡ rootIn old
+  pub kind : kindIn new ≡ kindIn old
   pub sweeping : (i : ℕ) → Sweeping ns es plan i old → Sweeping ns es plan i new
 
 -- the next edge of the plan is there, and room for a list
@@ -83,9 +85,14 @@ pub record Passable (ns es : List ℤ) (plan : List ℕ) (i : ℕ) (s spare : Li
 abbrev pub Blank : ℕ → List ℤ → Type 0
 Blank n s = (v : ℕ) → v < n → isMet s v ≡ false
 
--- the state with the root marked: all its bits, whose list is one record, the first row of the arena
-abbrev pub begun : Reference → ℕ → List ℤ → List ℤ
-begun all root s =
-    let t = setMark s root (marked all (pos arenaRow) (pos 1)) in
-    set (set (take (rowWidth * arenaRow) t ++ (numbersOf (record { first = pos 0; second = all .run .low; third = all .run .high } ∷ []) ++ drop (rowWidth * arenaRow + rowWidth) t))
-    freeAt (pos (arenaRow + 1))) rootAt (pos root)
+-- the state with the root marked, where it is open to the walks: all its bits, whose list is the first row of the arena
+abbrev pub rootMarked : Bool → Reference → ℕ → List ℤ → List ℤ
+rootMarked met all root s = cond met (setMark s root (marked all (pos arenaRow) (pos 1))) s
+
+-- the state in which a sweep begins: the root is marked where it is open to the walks, the first row of the arena is a record of all its bits, and the root and the
+-- kind of walk are stored
+abbrev pub begun : WalkKind → Bool → Reference → ℕ → List ℤ → List ℤ
+begun kind met all root s =
+    let t = rootMarked met all root s in
+    set (set (set (take (rowWidth * arenaRow) t ++ (numbersOf (record { first = pos 0; second = all .run .low; third = all .run .high } ∷ []) ++ drop (rowWidth * arenaRow + rowWidth) t))
+    freeAt (pos (arenaRow + 1))) rootAt (pos root)) kindAt (kindNumber kind)

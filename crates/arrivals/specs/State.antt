@@ -1,11 +1,14 @@
 -- The work space of a sweep, one slice of numbers: a mark for each node, and the arena, in which the lists of owners are stored. Assumes nothing.
 use mathlib.Core.Path.{_≡_}
-use mathlib.Core.Bool.{Bool}
+use mathlib.Core.Bool.{Bool, cond}
 use mathlib.Core.List.{List}
 use Prim.Native.Nat.{ℕ, _+_, _*_, _/_, _<_}
 use lib.IntN.{ℤ, pos, negsuc, natAbs}
 use lib.Signed.{leZ}
 use lib.ListN.{length, getD, set}
+use Rattle.integers.specs.Integers.{eqZ}
+use Rattle.model.specs.declared.WalkKind.{WalkKind}
+use Rattle.model.specs.declared.WalkKind.the-variants.{Reading, Writing}
 use Rattle.model.specs.Limits.{maxNodes, maxPaths}
 use Rattle.sorting.specs.Rows.{rowWidth}
 use Rattle.references.specs.References.{Reference}
@@ -14,16 +17,19 @@ use Rattle.references.specs.References.{Reference}
 abbrev pub markWidth : ℕ
 markWidth = 6
 
--- behind the marks: from which row on the arena is free, and the root
+-- behind the marks: from which row on the arena is free, the root, and the kind of walk
 abbrev pub freeAt : ℕ
 freeAt = markWidth * maxNodes
 
 abbrev pub rootAt : ℕ
 rootAt = markWidth * maxNodes + 1
 
+abbrev pub kindAt : ℕ
+kindAt = rootAt + 1
+
 -- rows are counted from the front of the slice: the first of the arena, and how many are stored at most. Behind these there is room for the rows of one list
 abbrev pub arenaRow : ℕ
-arenaRow = rootAt / rowWidth + 1
+arenaRow = kindAt / rowWidth + 1
 
 abbrev pub arenaRows : ℕ
 arenaRows = 1536
@@ -101,6 +107,19 @@ freeRow s = natAbs (getD s freeAt (pos 0))
 -- the root
 abbrev pub rootIn : List ℤ → ℤ
 rootIn s = getD s rootAt (pos 0)
+
+-- a kind of walk as the number that a state has for it: 0 of those that read, 1 of those that write
+unfoldable pub kindNumber : WalkKind → ℤ
+kindNumber Reading = pos 0
+kindNumber Writing = pos 1
+
+-- the kind of walk that a number stands for
+unfoldable pub kindOf : ℤ → WalkKind
+kindOf n = cond (eqZ n (pos 0)) Reading Writing
+
+-- the kind of walk
+abbrev pub kindIn : List ℤ → WalkKind
+kindIn s = kindOf (getD s kindAt (pos 0))
 
 -- two states of one length that have the same numbers in front of row n
 pub record Agree (n : ℕ) (s t : List ℤ) : Type 0 where

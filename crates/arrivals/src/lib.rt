@@ -1,6 +1,6 @@
-// What arrives at each node of a graph from a root. A node that is entered in one way has a reference to the arrivals of a node before it; a node where
-// unlike references meet is its own owner, and its list is made once and stored in an arena of fixed size. Where the arena has no room, the rows of such a
-// node are gathered through the edges that enter it. Which lists are stored is a free choice: nothing is promised of it.
+// What arrives at each node of a graph from a root, by walks of one kind. A node that is entered in one way has a reference to the arrivals of a node before
+// it; a node where unlike references meet is its own owner, and its list is made once and stored in an arena of fixed size. Where the arena has no room, the rows
+// of such a node are gathered through the edges that enter it. Which lists are stored is a free choice: nothing is promised of it.
 ghost use mathlib.Core.Path.{_≡_};
 ghost use mathlib.Core.List.{List};
 ghost use mathlib.Core.Bool.{true};
@@ -8,14 +8,16 @@ ghost use Prim.Native.Nat.{ℕ, _+_, _*_, _≤_, _<_};
 ghost use lib.IntN.{ℤ, pos};
 ghost use lib.Signed.{_≤ℤ_};
 ghost use lib.ListN.{length, getD};
+ghost use Rattle.model.specs.declared.WalkKind.{WalkKind};
 ghost use Rattle.model.specs.Limits.{maxNodes, maxPaths};
-ghost use Rattle.model.specs.Graph.{graphOf};
+ghost use Rattle.model.specs.Graph.{graphOf, node};
+ghost use Rattle.model.specs.Runs.{isOpen};
 ghost use Rattle.tables.specs.Tables.{edgeAt};
 ghost use Rattle.extents.specs.Extents.{GoodRow};
 ghost use Rattle.references.specs.References.{referenceOf, own, broughtOf};
-ghost use Rattle.arrivals.specs.State.{markWidth, arenaRow, arenaRows, freeAt, stateRoom, setMark, marked, markNumber, isMet, referenceAt, isListed, freeRow, rootIn};
+ghost use Rattle.arrivals.specs.State.{markWidth, arenaRow, arenaRows, freeAt, kindAt, stateRoom, setMark, marked, markNumber, isMet, referenceAt, isListed, freeRow, rootIn, kindNumber, kindIn};
 ghost use Rattle.arrivals.specs.Sweep.{Sweeping, Gatherable, Gathered, Normalisable, Normalised, Makeable, Made, Sweepable, Swept, Appendable, LeafAppended};
-ghost use Rattle.arrivals.specs.Moves.{Crossable, crossing, meeting, Storable, storing, Ownable, ListMade, Passable, Blank, begun};
+ghost use Rattle.arrivals.specs.Moves.{Crossable, crossing, meeting, Storable, storing, Ownable, ListMade, Passable, Blank, rootMarked, begun};
 use forward::first_entering;
 use forward::next_entering;
 use forward::planned_count;
@@ -27,6 +29,7 @@ use model::MAX_CHAIN;
 use model::MAX_NODES;
 use model::MAX_PATHS;
 use model::NODE_WIDTH;
+use model::WalkKind;
 use normalisation::normalise_rows;
 use references::Brought;
 use references::Reference;
@@ -44,13 +47,15 @@ use tables::edge_to;
 // Numbers of a mark.
 const MARK_WIDTH: usize = 6;
 
-// Behind the marks: from which row on the arena is free, and the root.
+// Behind the marks: from which row on the arena is free, the root, and the kind of walk.
 const FREE_AT: usize = MARK_WIDTH * MAX_NODES;
 
 const ROOT_AT: usize = FREE_AT + 1;
 
+const KIND_AT: usize = ROOT_AT + 1;
+
 // The first row of the arena; the row up to which any list is stored, and the row up to which those are that take at most a quarter of what is left.
-const ARENA_ROW: usize = FREE_AT / ROW_WIDTH + 1;
+const ARENA_ROW: usize = KIND_AT / ROW_WIDTH + 1;
 
 const OPEN_END: usize = ARENA_ROW + 1152;
 
@@ -135,6 +140,28 @@ pub fn free_row(state: &[i64]) -> usize
     ensures { λ r. ⌜ r ≡ freeRow (now (state .entry)) ⌝ }
 {
     number_at(state, FREE_AT)
+}
+
+// A kind of walk as the number that a state has for it.
+fn kind_number(kind: WalkKind) -> i64
+    ensures { λ r. ⌜ r ≡ kindNumber kind ⌝ }
+{
+    match kind {
+        WalkKind::Reading => 0,
+        WalkKind::Writing => 1,
+    }
+}
+
+// The kind of walk that a state is swept by.
+fn kind_in(state: &[i64]) -> WalkKind
+    requires { ⌜ kindAt < length (now state) ⌝ }
+    ensures { λ r. ⌜ r ≡ kindIn (now (state .entry)) ⌝ }
+{
+    let number = state[KIND_AT];
+    if number == 0 {
+        return WalkKind::Reading;
+    }
+    WalkKind::Writing
 }
 
 // Where the list that is stored for node v stands.
@@ -236,7 +263,7 @@ fn gather(
 ) -> usize
     requires { ⌜ Gatherable (now nodes) (now edges) (now plan) (referenceOf f) left (now state) n ⌝ }
     ensures { λ r. ⌜
-        Gathered (graphOf (now (nodes .entry)) (now (edges .entry))) (rootIn (now (state .entry))) (referenceOf f) (now (state .entry)) (now (state .exit)) n r ⌝ }
+        Gathered (kindIn (now (state .entry))) (graphOf (now (nodes .entry)) (now (edges .entry))) (rootIn (now (state .entry))) (referenceOf f) (now (state .entry)) (now (state .exit)) n r ⌝ }
 {
     let owner = f.owner;
     if is_listed(state, owner) {
@@ -282,7 +309,7 @@ fn make_list(
 ) -> ListRows
     requires { ⌜ Makeable (now nodes) (now edges) (now plan) (referenceOf f) (now state) (now spare) ⌝ }
     ensures { λ r. ⌜
-        Made (graphOf (now (nodes .entry)) (now (edges .entry))) (rootIn (now (state .entry))) (referenceOf f) (now (state .entry)) (now (state .exit)) r ⌝ }
+        Made (kindIn (now (state .entry))) (graphOf (now (nodes .entry)) (now (edges .entry))) (rootIn (now (state .entry))) (referenceOf f) (now (state .entry)) (now (state .exit)) r ⌝ }
 {
     let used = free_row(state);
     let n = gather(nodes, edges, plan, f, MAX_CHAIN, state, used);
@@ -346,7 +373,7 @@ fn meet(nodes: &[i64], v: usize, f: Reference, state: &mut [i64])
     put_mark(state, v, own_reference(nodes, v), NOT_LISTED, rows);
 }
 
-// Passes edge i of the plan: what has arrived at the node that it leaves comes to the node that it enters.
+// Passes edge i of the plan: what has arrived at the node that it leaves comes to the node that it enters, if that is open to the walks.
 fn pass_edge(
     nodes: &[i64],
     edges: &[i64],
@@ -358,15 +385,20 @@ fn pass_edge(
     requires { ⌜ Passable (now nodes) (now edges) (now plan) i (now state) (now spare) ⌝ }
     ensures { λ _. ⌜
         Sweeping (now (nodes .entry)) (now (edges .entry)) (now (plan .entry)) (i + 1) (now (state .exit))
-        × (rootIn (now (state .exit)) ≡ rootIn (now (state .entry))) ⌝ }
+        × (rootIn (now (state .exit)) ≡ rootIn (now (state .entry)))
+        × (kindIn (now (state .exit)) ≡ kindIn (now (state .entry))) ⌝ }
 {
     let e = planned_row(plan, i);
     let from = edge_from(edges, e);
     if !is_met(state, from) {
         return;
     }
-    store_list(nodes, edges, plan, from, state, spare);
     let to = edge_to(edges, e);
+    let may_enter = extents::is_open(nodes, to, kind_in(state));
+    if !may_enter {
+        return;
+    }
+    store_list(nodes, edges, plan, from, state, spare);
     let brought = brought_over(nodes, edges, e, own_reference(nodes, to), state);
     if let Brought::Left(part) = brought {
         meet(nodes, to, part, state);
@@ -385,16 +417,31 @@ fn clear_marks(state: &mut [i64], count: usize)
     }
 }
 
-// Marks the root with all its bits, whose list is one record, and stores which node it is.
-fn start_root(nodes: &[i64], root: usize, state: &mut [i64])
+// Marks the root with all its bits, whose list is the first row of the arena, if it is open to walks of this kind: from a closed root nothing comes.
+fn mark_root(nodes: &[i64], root: usize, kind: WalkKind, state: &mut [i64])
     requires { ⌜ GoodRow (now nodes) root × (root < maxNodes) × (length (now state) ≡ stateRoom) ⌝ }
-    ensures { λ _. ⌜ ((es : List ℤ) → now (state .exit) ≡ begun (own (graphOf (now (nodes .entry)) es) (pos root)) root (now (state .entry))) ⌝ }
+    ensures { λ _. ⌜
+        ((es : List ℤ) → now (state .exit)
+        ≡ rootMarked (isOpen kind (node (graphOf (now (nodes .entry)) es) (pos root))) (own (graphOf (now (nodes .entry)) es) (pos root)) root (now (state .entry))) ⌝ }
 {
-    let all = own_reference(nodes, root);
-    let bits = all.run;
+    let may_start = extents::is_open(nodes, root, kind);
+    if !may_start {
+        return;
+    }
+    put_mark(state, root, own_reference(nodes, root), ARENA_ROW as i64, 1);
+}
+
+// Marks the root, writes a record of all its bits as the first row of the arena, and stores which node the root is and which kind of walk is meant.
+fn start_root(nodes: &[i64], root: usize, kind: WalkKind, state: &mut [i64])
+    requires { ⌜ GoodRow (now nodes) root × (root < maxNodes) × (length (now state) ≡ stateRoom) ⌝ }
+    ensures { λ _. ⌜
+        ((es : List ℤ) → now (state .exit)
+        ≡ begun kind (isOpen kind (node (graphOf (now (nodes .entry)) es) (pos root))) (own (graphOf (now (nodes .entry)) es) (pos root)) root (now (state .entry))) ⌝ }
+{
+    mark_root(nodes, root, kind, state);
+    let bits = extents::whole(nodes, root);
     let low = bits.low;
     let high = bits.high;
-    put_mark(state, root, all, ARENA_ROW as i64, 1);
     let used = append_row(
         state,
         ARENA_ROW,
@@ -406,22 +453,24 @@ fn start_root(nodes: &[i64], root: usize, state: &mut [i64])
     );
     state[FREE_AT] = used as i64;
     state[ROOT_AT] = root as i64;
+    state[KIND_AT] = kind_number(kind);
 }
 
-// Sweeps a graph from a root: every node that leads to a paired leaf is marked with what arrives at it.
+// Sweeps a graph from a root by walks of this kind: every node that leads to a paired leaf is marked with what arrives at it.
 pub fn sweep_root(
     nodes: &[i64],
     edges: &[i64],
     plan: &[usize],
     root: usize,
+    kind: WalkKind,
     state: &mut [i64],
     spare: &mut [i64],
 )
     requires { ⌜ Sweepable (now nodes) (now edges) (now plan) root (now state) (now spare) ⌝ }
-    ensures { λ _. ⌜ Swept (now (nodes .entry)) (now (edges .entry)) (now (plan .entry)) root (now (state .exit)) ⌝ }
+    ensures { λ _. ⌜ Swept kind (now (nodes .entry)) (now (edges .entry)) (now (plan .entry)) root (now (state .exit)) ⌝ }
 {
     clear_marks(state, nodes.len() / NODE_WIDTH);
-    start_root(nodes, root, state);
+    start_root(nodes, root, kind, state);
     let count = planned_count(plan);
     let mut i: usize = 0;
     while i < count {
@@ -442,8 +491,8 @@ pub fn append_rows(
 ) -> usize
     requires { ⌜ Appendable (now nodes) (now edges) (now plan) leaf (now state) n ⌝ }
     ensures { λ r. ⌜
-        ((root : ℕ) → Swept (now (nodes .entry)) (now (edges .entry)) (now (plan .entry)) root (now (state .entry))
-        → LeafAppended (graphOf (now (nodes .entry)) (now (edges .entry))) (pos root) (pos leaf) (now (state .entry)) (now (state .exit)) n r) ⌝ }
+        ((kind : WalkKind) (root : ℕ) → Swept kind (now (nodes .entry)) (now (edges .entry)) (now (plan .entry)) root (now (state .entry))
+        → LeafAppended kind (graphOf (now (nodes .entry)) (now (edges .entry))) (pos root) (pos leaf) (now (state .entry)) (now (state .exit)) n r) ⌝ }
 {
     if !is_met(state, leaf) {
         return n;

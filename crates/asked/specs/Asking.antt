@@ -5,6 +5,7 @@ use mathlib.Core.Option.{Option}
 use Prim.Native.Nat.{ℕ, _*_}
 use lib.IntN.{ℤ}
 use lib.ListN.{length, take}
+use Rattle.model.specs.declared.WalkKind.{WalkKind}
 use Rattle.model.specs.Limits.{recordWidth}
 use Rattle.model.specs.Graph.{graphOf}
 use Rattle.model.specs.Runs.{listOf}
@@ -18,9 +19,9 @@ use Rattle.model.specs.declared.Written.{Written}
 unfoldable pub checkAsked : List ℤ → List ℤ → ℤ → ℤ → Option Refusal
 checkAsked ns es root leaf = checkGraph 0 ns es then checkNamed (graphOf ns es) root leaf
 
--- the bitmapping list of a root and a leaf was asked for
-pub record ListedAsked (ns es : List ℤ) (root leaf : ℤ) (given : Written) (work : List ℤ) : Type 0 where
+-- the bitmapping list of a root and a leaf for walks of this kind was asked for
+pub record ListedAsked (kind : WalkKind) (ns es : List ℤ) (root leaf : ℤ) (given : Written) (work : List ℤ) : Type 0 where
   -- how many records it has, or a refusal
-  pub answers : writtenAnswer given ≡ answer (checkAsked ns es root leaf) (length (listOf (graphOf ns es) root leaf))
+  pub answers : writtenAnswer given ≡ answer (checkAsked ns es root leaf) (length (listOf kind (graphOf ns es) root leaf))
   -- where it is given, its numbers stand in the front of the work buffer
-  pub numbers : (n : ℕ) → writtenAnswer given ≡ full n → take (recordWidth * n) work ≡ numbersOf (listOf (graphOf ns es) root leaf)
+  pub numbers : (n : ℕ) → writtenAnswer given ≡ full n → take (recordWidth * n) work ≡ numbersOf (listOf kind (graphOf ns es) root leaf)

@@ -1,4 +1,4 @@
-// What list, walk and batch are asked for: a root and a leaf of a graph, checked, and their bitmapping list in a work buffer.
+// What list, walk and batch are asked for: a root and a leaf of a graph, checked, and their bitmapping list for a kind of walk in a work buffer.
 ghost use Prim.Native.Nat.{_*_, _≤_};
 ghost use lib.ListN.{length};
 ghost use Rattle.model.specs.Limits.{recordWidth, maxNodes, maxPaths};
@@ -7,6 +7,7 @@ ghost use Rattle.asked.specs.Asking.{checkAsked, ListedAsked};
 use model::Checked;
 use model::MAX_EDGES;
 use model::MAX_NODES;
+use model::WalkKind;
 use model::Written;
 
 // Refusals 1 to 7 and 10 of a root and a leaf of a graph. Counts the paths to the leaf.
@@ -31,17 +32,32 @@ pub fn check_asked(
     named::check_named(nodes, edges, &order, root, leaf, counts)
 }
 
-// The bitmapping list of a root and a leaf: its records in order, three numbers each, in the front of `work`, and how many they are. Else the first
+// The bitmapping list of a root and a leaf for walks of this kind: its records in order, three numbers each, in the front of `work`, and how many they are. Else the first
 // of refusals 1 to 7 and 10.
-pub fn list_asked(nodes: &[i64], edges: &[i64], root: i64, leaf: i64, work: &mut [i64]) -> Written
+pub fn list_asked(
+    nodes: &[i64],
+    edges: &[i64],
+    root: i64,
+    leaf: i64,
+    kind: WalkKind,
+    work: &mut [i64],
+) -> Written
     requires { ⌜ recordWidth * maxPaths ≤ length (now work) ⌝ }
-    ensures { λ r. ⌜ ListedAsked (now (nodes .entry)) (now (edges .entry)) root leaf r (now (work .exit)) ⌝ }
+    ensures { λ r. ⌜ ListedAsked kind (now (nodes .entry)) (now (edges .entry)) root leaf r (now (work .exit)) ⌝ }
 {
     let mut counts = [0usize; MAX_NODES];
     let checked = check_asked(nodes, edges, root, leaf, &mut counts);
     if let Checked::Refused(reason) = checked {
         return Written::Refused(reason);
     }
-    let records = listing::list_pair(nodes, edges, root as usize, leaf as usize, &counts, work);
+    let records = listing::list_pair(
+        nodes,
+        edges,
+        root as usize,
+        leaf as usize,
+        kind,
+        &counts,
+        work,
+    );
     Written::Count(records)
 }

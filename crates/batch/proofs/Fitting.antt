@@ -5,6 +5,7 @@ use lib.IntN.{ℤ, pos, _-ℤ_}
 use lib.Signed.{_≤ℤ_}
 use Rattle.integers.proofs.Linear.{ints, diff, neg}
 use Rattle.lists.specs.Lists.{_∈_}
+use Rattle.model.specs.declared.WalkKind.{WalkKind}
 use Rattle.model.specs.Limits.{lastAddress}
 use Rattle.model.specs.Graph.{Graph, NodeRow, node, firstBit}
 use Rattle.model.specs.Walk.{Reached}
@@ -19,9 +20,9 @@ use Rattle.model.proofs.ListLaw.{list-of-reached}
 use Rattle.tables.proofs.Limits.{first-address}
 use Rattle.batchrows.specs.LeafBits.{LeafBitsFit}
 
-module _ {g : Graph} {r l : ℤ} (k : Taken g) (root : NodeRow g r) (leaf : Leaf g l) where
+module _ (kind : WalkKind) {g : Graph} {r l : ℤ} (k : Taken g) (root : NodeRow g r) (leaf : Leaf g l) where
   -- a root bit and a leaf bit that it reaches are bit addresses
-  reached-small : {x y : ℤ} → Reached g r l x y → (pos 0 ≤ℤ x) × (x ≤ℤ lastAddress) × (pos 0 ≤ℤ y) × (y ≤ℤ lastAddress)
+  reached-small : {x y : ℤ} → Reached kind g r l x y → (pos 0 ≤ℤ x) × (x ≤ℤ lastAddress) × (pos 0 ≤ℤ y) × (y ≤ℤ lastAddress)
   reached-small {x} {y} h =
       let at = taken-address k root (reached-address h) in
       let s = walk-end (h .walk) in
@@ -31,9 +32,9 @@ module _ {g : Graph} {r l : ℤ} (k : Taken g) (root : NodeRow g r) (leaf : Leaf
       (at .0, at .1, omega (arith, ints, h .leafBit, apart, s .above), omega (arith, ints, h .leafBit, apart, end .1, first .0))
 
   -- so a root bit less the displacement of a record that has it is a number of 64 bits
-  pub list-fit : (s : Record) → s ∈ listOf g r l → LeafBitsFit s
+  pub list-fit : (s : Record) → s ∈ listOf kind g r l → LeafBitsFit s
   list-fit s m x above below =
-      let h = reached-small (list-of-reached {r = r} (taken-fit k leaf) .sound s m x (x -ℤ s .displacement) (has-at s x above below)) in
+      let h = reached-small (list-of-reached {kind = kind} {r = r} (taken-fit k leaf) .sound s m x (x -ℤ s .displacement) (has-at s x above below)) in
       let apart = diff x (s .displacement) in
       record {
         low = h .0;

@@ -6,6 +6,7 @@ ghost use Rattle.model.specs.Answers.{comparisonResult, refusalOf, checkedAnswe
 ghost use Rattle.model.specs.Calls.{checkAnswer, walkGives, walkAfter, listGives, listAfter, compareAnswer};
 ghost use Rattle.batches.specs.Batch.{countsResult, batchedAnswer, batchGives, batchAfter};
 ghost use Rattle.model.specs.SheetCall.{sheetGives, sheetNodesAfter, sheetEdgesAfter};
+ghost use Rattle.arrivals.specs.State.{kindOf};
 ghost use Rattle.pairing.specs.Pairs.{tablesOf};
 ghost use Rattle.benchcalls.specs.Summary.{digits, packed, summary, taken, written, counted, batched, sheetLengths, lengths, tables};
 ghost use Rattle.refusals.specs.Small.{lastOfSheet, SmallAnswer};
@@ -22,6 +23,7 @@ use model::Comparison;
 use model::Reason;
 use model::SheetRead;
 use model::SheetSizes;
+use model::WalkKind;
 use model::Written;
 use model::verdict_number;
 use refusals::negative_code;
@@ -43,6 +45,16 @@ const ROWS_PLACE: usize = 1048576;
 
 // What the length of the node table counts for in the answer of the reader of sheets.
 const NODES_PLACE: usize = 100000;
+
+// The kind of walk that a caller's number stands for: 0 for those that read, any other for those that write.
+fn kind_of(number: i64) -> WalkKind
+    ensures { λ r. ⌜ r ≡ kindOf number ⌝ }
+{
+    if number == 0 {
+        return WalkKind::Reading;
+    }
+    WalkKind::Writing
+}
 
 // A count in 20 binary digits.
 fn digits_of(count: usize) -> usize
@@ -143,23 +155,25 @@ pub extern "C" fn benchcalls_check(nodes: &[i64], edges: &[i64]) -> i64
     checked_number(checked)
 }
 
-// Lists the bitmapping list of a root and a leaf and gives the answer as one number.
+// Lists the bitmapping list of a root and a leaf for a kind of walk and gives the answer as one number.
 #[no_mangle]
 pub extern "C" fn benchcalls_list(
     nodes: &[i64],
     edges: &[i64],
     root: i64,
     leaf: i64,
+    kind: i64,
     out: &mut [i64],
 ) -> i64
-    ensures returned { λ r. ⌜ r ≡ written (listGives (now (nodes .entry)) (now (edges .entry)) root leaf (now (out .entry))) ⌝ }
-    ensures buffer { λ _. ⌜ now (out .exit) ≡ listAfter (now (nodes .entry)) (now (edges .entry)) root leaf (now (out .entry)) ⌝ }
+    ensures returned { λ r. ⌜ r ≡ written (listGives (kindOf kind) (now (nodes .entry)) (now (edges .entry)) root leaf (now (out .entry))) ⌝ }
+    ensures buffer { λ _. ⌜ now (out .exit) ≡ listAfter (kindOf kind) (now (nodes .entry)) (now (edges .entry)) root leaf (now (out .entry)) ⌝ }
 {
-    let given = list(nodes, edges, root, leaf, out);
+    let meant = kind_of(kind);
+    let given = list(nodes, edges, root, leaf, meant, out);
     written_number(given)
 }
 
-// Walks a bit address from a root to a leaf and gives the answer as one number.
+// Walks a bit address from a root to a leaf by walks of a kind and gives the answer as one number.
 #[no_mangle]
 pub extern "C" fn benchcalls_walk(
     nodes: &[i64],
@@ -167,16 +181,18 @@ pub extern "C" fn benchcalls_walk(
     root: i64,
     leaf: i64,
     address: i64,
+    kind: i64,
     out: &mut [i64],
 ) -> i64
-    ensures returned { λ r. ⌜ r ≡ written (walkGives (now (nodes .entry)) (now (edges .entry)) root leaf address (now (out .entry))) ⌝ }
-    ensures buffer { λ _. ⌜ now (out .exit) ≡ walkAfter (now (nodes .entry)) (now (edges .entry)) root leaf address (now (out .entry)) ⌝ }
+    ensures returned { λ r. ⌜ r ≡ written (walkGives (kindOf kind) (now (nodes .entry)) (now (edges .entry)) root leaf address (now (out .entry))) ⌝ }
+    ensures buffer { λ _. ⌜ now (out .exit) ≡ walkAfter (kindOf kind) (now (nodes .entry)) (now (edges .entry)) root leaf address (now (out .entry)) ⌝ }
 {
-    let given = walk(nodes, edges, root, leaf, address, out);
+    let meant = kind_of(kind);
+    let given = walk(nodes, edges, root, leaf, address, meant, out);
     written_number(given)
 }
 
-// Walks a batch of bit addresses from a root to a leaf and gives the answer as one number.
+// Walks a batch of bit addresses from a root to a leaf by walks of a kind and gives the answer as one number.
 #[no_mangle]
 pub extern "C" fn benchcalls_batch(
     nodes: &[i64],
@@ -184,12 +200,16 @@ pub extern "C" fn benchcalls_batch(
     root: i64,
     leaf: i64,
     addresses: &[i64],
+    kind: i64,
     out: &mut [i64],
 ) -> i64
-    ensures returned { λ r. ⌜ r ≡ batched (batchGives (now (nodes .entry)) (now (edges .entry)) root leaf (now (addresses .entry)) (now (out .entry))) ⌝ }
-    ensures buffer { λ _. ⌜ now (out .exit) ≡ batchAfter (now (nodes .entry)) (now (edges .entry)) root leaf (now (addresses .entry)) (now (out .entry)) ⌝ }
+    ensures returned { λ r. ⌜
+        r ≡ batched (batchGives (kindOf kind) (now (nodes .entry)) (now (edges .entry)) root leaf (now (addresses .entry)) (now (out .entry))) ⌝ }
+    ensures buffer { λ _. ⌜
+        now (out .exit) ≡ batchAfter (kindOf kind) (now (nodes .entry)) (now (edges .entry)) root leaf (now (addresses .entry)) (now (out .entry)) ⌝ }
 {
-    let given = batch(nodes, edges, root, leaf, addresses, out);
+    let meant = kind_of(kind);
+    let given = batch(nodes, edges, root, leaf, addresses, meant, out);
     batched_number(given)
 }
 

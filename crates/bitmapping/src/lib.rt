@@ -1,4 +1,4 @@
-// The bitmapping list of a root and a leaf of one graph, and the walk of one bit address.
+// The bitmapping list of a root and a leaf of one graph, and the walk of one bit address, for a kind of walk.
 ghost use mathlib.Core.Path.{_≡_};
 ghost use mathlib.Core.List.{_++_};
 ghost use Prim.Native.Nat.{ℕ, _+_, _*_, _≤_, _<_};
@@ -10,6 +10,7 @@ use model::MAX_NODES;
 use model::MAX_NUMBERS;
 use model::RECORD_WIDTH;
 use model::Reason;
+use model::WalkKind;
 use model::Written;
 
 // The place of the displacement among the numbers of a record.
@@ -51,31 +52,39 @@ fn put_numbers(
     given
 }
 
-// The bitmapping list of a root and a leaf: its records in order, three numbers each, in the front of `out`, and how many they are. Where the
-// tables, root, leaf or the length of `out` are not as they should be, the first refusal, with `out` untouched.
-pub fn list(nodes: &[i64], edges: &[i64], root: i64, leaf: i64, out: &mut [i64]) -> Written
-    ensures { λ r. ⌜ ListPromise (now (nodes .entry)) (now (edges .entry)) root leaf (now (out .entry)) r (now (out .exit)) ⌝ }
+// The bitmapping list of a root and a leaf for walks of this kind: its records in order, three numbers each, in the front of `out`, and how many they are.
+// Where the tables, root, leaf or the length of `out` are not as they should be, the first refusal, with `out` untouched.
+pub fn list(
+    nodes: &[i64],
+    edges: &[i64],
+    root: i64,
+    leaf: i64,
+    kind: WalkKind,
+    out: &mut [i64],
+) -> Written
+    ensures { λ r. ⌜ ListPromise kind (now (nodes .entry)) (now (edges .entry)) root leaf (now (out .entry)) r (now (out .exit)) ⌝ }
 {
     let mut work = [0i64; MAX_NUMBERS];
-    let listed = asked::list_asked(nodes, edges, root, leaf, &mut work);
+    let listed = asked::list_asked(nodes, edges, root, leaf, kind, &mut work);
     match listed {
         Written::Refused(reason) => Written::Refused(reason),
         Written::Count(records) => put_numbers(&work, 0, 1, RECORD_WIDTH * records, records, out),
     }
 }
 
-// The distinct leaf bits that a bit address at the root reaches, ascending, in the front of `out`, and how many they are: none for an address
-// outside the root. Else the first refusal, with `out` untouched.
+// The distinct leaf bits that a bit address at the root reaches by walks of this kind, ascending, in the front of `out`, and how many they are: none where
+// no walk may stand on the root with the address. Else the first refusal, with `out` untouched.
 pub fn walk(
     nodes: &[i64],
     edges: &[i64],
     root: i64,
     leaf: i64,
     address: i64,
+    kind: WalkKind,
     out: &mut [i64],
 ) -> Written
     ensures { λ r. ⌜
-        WalkPromise (now (nodes .entry)) (now (edges .entry)) root leaf address (now (out .entry)) r (now (out .exit)) ⌝ }
+        WalkPromise kind (now (nodes .entry)) (now (edges .entry)) root leaf address (now (out .entry)) r (now (out .exit)) ⌝ }
 {
     let mut counts = [0usize; MAX_NODES];
     let checked = asked::check_asked(nodes, edges, root, leaf, &mut counts);
@@ -89,6 +98,7 @@ pub fn walk(
         root as usize,
         leaf as usize,
         address,
+        kind,
         &counts,
         &mut work,
     );

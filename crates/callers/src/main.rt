@@ -170,8 +170,8 @@ fn try_callers(tally: Tally) -> Tally {
     let t = try_equal(tally, 0);
     let t = try_partial(BUFFER, t, 15);
     let t = try_different(t, 7);
-    let t = try_partial(106, t, 0);
-    let t = try_partial(105, t, 7);
+    let t = try_partial(124, t, 0);
+    let t = try_partial(123, t, 7);
     let t = try_different(t, 0);
     let t = try_empty(BUFFER, t, 15);
     let t = try_equal(t, 16);

@@ -14,7 +14,7 @@ use Rattle.columns.specs.declared.Columns.{Columns}
 
 -- names of a table at most, optional ones among them
 abbrev pub maxNames : ℕ
-maxNames = 5
+maxNames = 6
 
 -- the columns, in the order of the table's names
 abbrev pub columnList : Columns → List ℕ

@@ -10,7 +10,7 @@ ghost use Rattle.columns.specs.Given.{isComplete, lineFields, NoName, Se
 use cursor::Cursor;
 
 // Names of a table at most, optional ones among them.
-pub const MAX_NAMES: usize = 5;
+pub const MAX_NAMES: usize = 6;
 
 // The columns of a table's names, in their order, in a names line with so many fields: whether all names that the line must have are found, and how
 // many names are found in all.

@@ -155,7 +155,7 @@ key-check key names = (key-decided key names, (λ before r. none), first, λ bef
 -- the condition of the tables of a map file: a side or role that is neither 0 nor 1
 pub node-check : CheckOf (allNames nodeTable) (nodeTable .conditions) checkSideOrRole
 unfolding nodeTable
-node-check = key-check (bytes "side") (bytes "kind" ∷ bytes "base" ∷ bytes "range" ∷ bytes "unit" ∷ [])
+node-check = key-check (bytes "side") (bytes "kind" ∷ bytes "base" ∷ bytes "range" ∷ bytes "unit" ∷ bytes "access" ∷ [])
 
 pub edge-check : CheckOf (allNames edgeTable) (edgeTable .conditions) checkSideOrRole
 unfolding edgeTable

@@ -49,7 +49,7 @@ rows-numbers key names k (value ∷ values) = go (eqZ (value key) k) (rows-numbe
 
 node-rows : (k : ℤ) (values : List Values) → rowsWith k (numbersIn (allNames nodeTable) values) ≡ nodeNumbers k values
 unfolding nodeTable nodeNumbers
-node-rows k values = rows-numbers (bytes "side") (bytes "kind" ∷ bytes "base" ∷ bytes "range" ∷ bytes "unit" ∷ []) k values
+node-rows k values = rows-numbers (bytes "side") (bytes "kind" ∷ bytes "base" ∷ bytes "range" ∷ bytes "unit" ∷ bytes "access" ∷ []) k values
 
 edge-rows : (k : ℤ) (values : List Values) → rowsWith k (numbersIn (allNames edgeTable) values) ≡ edgeNumbers k values
 unfolding edgeTable edgeNumbers

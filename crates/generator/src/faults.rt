@@ -1,6 +1,8 @@
-// Faults in a pairing, and the refusal that is given for the first of them, looked for row by row.
+// Faults in a node table and in a pairing, and the refusal that is given for the first of them, looked for row by row.
 use crate::maps::Shape;
+use crate::numbers::at;
 use crate::numbers::draw;
+use crate::numbers::put;
 use crate::numbers::rest;
 use crate::numbers::sum;
 use crate::rows;
@@ -8,7 +10,7 @@ use crate::rows::LEAVES_AT;
 use crate::rows::Map;
 use crate::rows::ROOTS_AT;
 
-// Faults by what they are put into.
+// Faults in a pairing by what they are put into.
 const AT_BELOW: usize = 0;
 
 const AT_ABOVE: usize = 1;
@@ -27,14 +29,30 @@ const LAST_AT: i64 = 36028797018963967;
 
 const BLOCK: usize = 2;
 
+// The highest access, and those next to the accesses that there are, which no node may have.
+const LAST_ACCESS: i64 = 2;
+
+const ACCESS_BELOW: i64 = -1;
+
+const ACCESS_ABOVE: i64 = 3;
+
+// One graph in so many has a node with such an access.
+const UNKNOWN_DRAWS: usize = 8;
+
 // Refusals by their numbers, and the tables that they name.
 pub const NO_FAULT: usize = 0;
+
+pub const BAD_NODE: usize = 2;
 
 pub const NOT_ROOT_OR_LEAF: usize = 7;
 
 pub const PAIRED_BEFORE: usize = 8;
 
 pub const BAD_AT: usize = 16;
+
+pub const SPEC_NODES: usize = 0;
+
+pub const IMPL_NODES: usize = 2;
 
 const ROOT_PAIRS: usize = 4;
 
@@ -45,6 +63,44 @@ pub struct Refusal {
     pub number: usize,
     pub table: usize,
     pub row: usize,
+}
+
+// The place of a node's access.
+fn access_at(v: usize) -> usize {
+    rows::place(rows::NODE_WIDTH, v, rows::ACCESS)
+}
+
+// Whether a node has an access that no node may have.
+fn is_unknown(map: &Map, v: usize) -> bool {
+    let access = at(map, access_at(v));
+    if access < 0 {
+        return true;
+    }
+    access > LAST_ACCESS
+}
+
+// The lowest node with such an access, or the number of nodes.
+fn first_unknown(map: &Map, nodes: usize) -> usize {
+    for v in 0..nodes {
+        if is_unknown(map, v) {
+            return v;
+        }
+    }
+    nodes
+}
+
+// The refusal of a node table, if a node has such an access.
+pub fn node_refusal(map: &Map, shape: Shape, table: usize) -> Refusal {
+    let row = first_unknown(map, shape.nodes);
+    let mut number = NO_FAULT;
+    if row < shape.nodes {
+        number = BAD_NODE;
+    }
+    Refusal {
+        number: number,
+        table: table,
+        row: row,
+    }
 }
 
 // Whether a column of a pair row names a block.
@@ -131,12 +187,25 @@ fn first_fault(spec: &Map, other: &Map, first: usize, count: usize, table: usize
 }
 
 // The refusal of a pairing: root rows before leaf rows.
-pub fn first_refusal(spec: &Map, other: &Map, shape: Shape) -> Refusal {
+fn pairing_refusal(spec: &Map, other: &Map, shape: Shape) -> Refusal {
     let of_roots = first_fault(spec, other, ROOTS_AT, shape.roots, ROOT_PAIRS);
     if of_roots.number != NO_FAULT {
         return of_roots;
     }
     first_fault(spec, other, LEAVES_AT, shape.pairs, LEAF_PAIRS)
+}
+
+// The refusal of two maps: the node tables before the pairing, and the specification's before the implementation's.
+pub fn first_refusal(spec: &Map, spec_shape: Shape, other: &Map, shape: Shape) -> Refusal {
+    let of_spec = node_refusal(spec, spec_shape, SPEC_NODES);
+    if of_spec.number != NO_FAULT {
+        return of_spec;
+    }
+    let of_impl = node_refusal(other, shape, IMPL_NODES);
+    if of_impl.number != NO_FAULT {
+        return of_impl;
+    }
+    pairing_refusal(spec, other, shape)
 }
 
 // The number that a fault puts into a row.
@@ -188,4 +257,21 @@ fn put_fault(map: &mut Map, shape: Shape, seed: &mut usize) {
 pub fn put_faults(map: &mut Map, shape: Shape, seed: &mut usize) {
     put_fault(map, shape, seed);
     put_fault(map, shape, seed);
+}
+
+// The access that no node may have, by a draw.
+fn unknown_access(drawn: usize) -> i64 {
+    if drawn == 0 {
+        return ACCESS_BELOW;
+    }
+    ACCESS_ABOVE
+}
+
+// Gives a node that is drawn an access that no node may have, if one is drawn.
+pub fn put_unknown(map: &mut Map, shape: Shape, seed: &mut usize) {
+    if draw(seed, UNKNOWN_DRAWS) > 0 {
+        return;
+    }
+    let v = draw(seed, shape.nodes);
+    put(map, access_at(v), unknown_access(draw(seed, 2)));
 }

@@ -156,6 +156,7 @@ fn draw_within(kind: usize, unit: usize, bounds: Bounds, seed: &mut usize) -> No
         base: base,
         range: sum(1, quotient(bits, unit)),
         unit: unit,
+        access: rows::READ_WRITE,
     }
 }
 
@@ -179,6 +180,7 @@ fn draw_window(kind: usize, own: usize, end: usize, seed: &mut usize) -> Node {
         base: quotient(less(sum(end, gap), OVERLAP), unit),
         range: sum(1, quotient(draw(seed, WINDOW_BITS), unit)),
         unit: unit,
+        access: rows::READ_WRITE,
     }
 }
 

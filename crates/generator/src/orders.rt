@@ -70,6 +70,7 @@ fn place_row(from: &Map, first: usize, width: usize, row: usize, order: &Order, 
     place_number(from, first, width, row, 2, order, to);
     if width == rows::NODE_WIDTH {
         place_number(from, first, width, row, 3, order, to);
+        place_number(from, first, width, row, 4, order, to);
     }
 }
 

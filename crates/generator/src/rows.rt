@@ -9,7 +9,7 @@ use crate::numbers::sum;
 use crate::numbers::times;
 
 // Numbers of a node row, and of an edge row or a pair row.
-pub const NODE_WIDTH: usize = 4;
+pub const NODE_WIDTH: usize = 5;
 
 pub const EDGE_WIDTH: usize = 3;
 
@@ -21,13 +21,13 @@ pub const MAX_EDGES: usize = 64;
 pub const MAX_LEAVES: usize = 8;
 
 // Where the tables of a map begin: the node rows at 0, then the edge rows, the root rows and the leaf rows.
-pub const EDGES_AT: usize = 96;
+pub const EDGES_AT: usize = 120;
 
-pub const ROOTS_AT: usize = 288;
+pub const ROOTS_AT: usize = 312;
 
-pub const LEAVES_AT: usize = 294;
+pub const LEAVES_AT: usize = 318;
 
-pub const MAP_NUMBERS: usize = 318;
+pub const MAP_NUMBERS: usize = 342;
 
 // A map: a graph, and of an implementation its pairing with the specification.
 pub type Map = [i64; MAP_NUMBERS];
@@ -41,6 +41,8 @@ pub const RANGE: usize = 2;
 
 pub const UNIT: usize = 3;
 
+pub const ACCESS: usize = 4;
+
 pub const FROM: usize = 0;
 
 pub const TO: usize = 1;
@@ -53,6 +55,13 @@ pub const IMPL: usize = 1;
 
 pub const AT: usize = 2;
 
+// Access of a node: read and write, read only, write only.
+pub const READ_WRITE: usize = 0;
+
+pub const READ_ONLY: usize = 1;
+
+pub const WRITE_ONLY: usize = 2;
+
 // A place that no table has.
 const NOWHERE: usize = 1000000;
 
@@ -62,6 +71,7 @@ pub struct Node {
     pub base: usize,
     pub range: usize,
     pub unit: usize,
+    pub access: usize,
 }
 
 // An edge row.
@@ -90,6 +100,7 @@ pub fn node_of(map: &Map, v: usize) -> Node {
         base: node_size(map, v, BASE),
         range: node_size(map, v, RANGE),
         unit: node_size(map, v, UNIT),
+        access: node_size(map, v, ACCESS),
     }
 }
 
@@ -119,6 +130,12 @@ pub fn put_node(map: &mut Map, v: usize, node: Node) {
     put_size(map, v, BASE, node.base);
     put_size(map, v, RANGE, node.range);
     put_size(map, v, UNIT, node.unit);
+    put_size(map, v, ACCESS, node.access);
+}
+
+// Gives a node another access.
+pub fn put_access(map: &mut Map, v: usize, access: usize) {
+    put_size(map, v, ACCESS, access);
 }
 
 // A number of a row of three, in the table of a map that begins at `first`.

@@ -13,7 +13,7 @@ use Rattle.model.specs.Bytes.{bytes, blank, lineFeed, shown, spaced}
 use Rattle.model.specs.Report.{lineOf}
 use Rattle.model.specs.SheetCall.{graphLines}
 use Rattle.report.proofs.Digits.{digits-within}
-use Rattle.graphlines.specs.Rows.{rowLine, rowLines, printRoom, Printed, Printable}
+use Rattle.graphlines.specs.Rows.{rowLine, rowLines, nodeFront, printRoom, Printed, Printable}
 use Rattle.graphlines.proofs.Rows.{side-length, row-within, nodePart, edgePart, graph-parts}
 
 -- a table of numbers that are printed
@@ -50,29 +50,29 @@ module _ {A : Type 0} where
   take-in : (n : ℕ) (l : List A) {x : A} → x ∈ take n l → x ∈ l
   take-in n l {x} m = subst (λ k. x ∈ k) (take-append-drop n l) (Memᴰ·append-left (drop n l) m)
 
-module _ (width : ℕ) (wide : 0 < width) (t : List ℤ) (h : AllPrinted t) where
+module _ (width front : ℕ) (some : 0 < front) (few : front ≤ width) (t : List ℤ) (h : AllPrinted t) where
   -- the line of a row
-  row-short : (i : ℕ) → width * i + width ≤ length t → length (rowLine width t i) ≤ 2 + 16 * width
+  row-short : (i : ℕ) → width * i + front ≤ length t → length (rowLine width front t i) ≤ 2 + 16 * front
   unfolding rowLine
   row-short i inside =
-      let row = take width (drop (width * i) t) in
-      let size : length row ≡ width = length-take-le width (drop (width * i) t) (omega (arith, length-drop (width * i) t)) in
+      let row = take front (drop (width * i) t) in
+      let size : length row ≡ front = length-take-le front (drop (width * i) t) (omega (arith, length-drop (width * i) t)) in
       omega (
         arith,
         size,
         side-length row (omega (arith, size)),
-        line-short row (omega (arith, size)) (λ v m. h v (drop-in (width * i) t (take-in width (drop (width * i) t) m))),
+        line-short row (omega (arith, size)) (λ v m. h v (drop-in (width * i) t (take-in front (drop (width * i) t) m))),
       )
 
   -- the lines of n rows, each of at most `most` bytes
-  rows-short : (most n : ℕ) → 2 + 16 * width ≤ most → width * n ≤ length t → length (rowLines width t n) ≤ most * n
+  rows-short : (most n : ℕ) → 2 + 16 * front ≤ most → width * n ≤ length t → length (rowLines width front t n) ≤ most * n
   unfolding rowLines
   rows-short most zero k inside = omega arith
   rows-short most (suc n) k inside =
-      let whole = row-within width n (suc n) (omega arith) in
+      let whole = row-within width front few n (suc n) (omega arith) in
       omega (
         arith,
-        length-append (rowLines width t n) (rowLine width t n),
+        length-append (rowLines width front t n) (rowLine width front t n),
         rows-short most n k (omega (arith, whole)),
         row-short n (omega (arith, whole)),
       )
@@ -85,8 +85,8 @@ printable-length ns es p =
       arith,
       ap length (graph-parts ns es),
       length-append (nodePart ns) (edgePart es),
-      rows-short nodeWidth (omega arith) ns (p .nodeNumbers) 66 (length ns / nodeWidth) (omega arith) (omega arith),
-      rows-short edgeWidth (omega arith) es (p .edgeNumbers) 50 (length es / edgeWidth) (omega arith) (omega arith),
+      rows-short nodeWidth nodeFront (omega arith) (omega arith) ns (p .nodeNumbers) 66 (length ns / nodeWidth) (omega arith) (omega arith),
+      rows-short edgeWidth edgeWidth (omega arith) (omega arith) es (p .edgeNumbers) 50 (length es / edgeWidth) (omega arith) (omega arith),
       p .nodes,
       p .edges,
     )

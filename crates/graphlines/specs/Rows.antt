@@ -9,14 +9,18 @@ use Rattle.model.specs.Limits.{nodeWidth, edgeWidth, maxNodes, maxEdges, maxUni
 use Rattle.model.specs.Bytes.{Bytes}
 use Rattle.model.specs.Report.{lineOf}
 
--- the line of row i of a table with so many numbers a row, on side 0
-unfoldable pub rowLine : ℕ → List ℤ → ℕ → Bytes
-rowLine width t i = lineOf (pos 0 ∷ take width (drop (width * i) t))
+-- the line of row i of a table with so many numbers a row, on side 0: the first `front` of them
+unfoldable pub rowLine : (width front : ℕ) → List ℤ → ℕ → Bytes
+rowLine width front t i = lineOf (pos 0 ∷ take front (drop (width * i) t))
 
 -- the lines of its first n rows
-unfoldable pub rowLines : ℕ → List ℤ → ℕ → Bytes
-rowLines width t zero = []
-rowLines width t (suc n) = rowLines width t n ++ rowLine width t n
+unfoldable pub rowLines : (width front : ℕ) → List ℤ → ℕ → Bytes
+rowLines width front t zero = []
+rowLines width front t (suc n) = rowLines width front t n ++ rowLine width front t n
+
+-- numbers of a node row that are printed: kind, base, range and unit
+abbrev pub nodeFront : ℕ
+nodeFront = 4
 
 -- bytes of the buffer that two tables are printed into
 abbrev pub printRoom : ℕ

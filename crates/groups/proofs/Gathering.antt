@@ -10,6 +10,7 @@ use lib.Seq.{drop-drop}
 use Rattle.integers.proofs.Linear.{ints, neg, diff}
 use Rattle.lists.specs.Lists.{_∈_}
 use Rattle.lists.proofs.Membership.{map-in}
+use Rattle.model.specs.declared.WalkKind.{WalkKind}
 use Rattle.model.specs.Quantities.{Subtractable}
 use Rattle.model.specs.Graph.{graphOf, node, firstBit}
 use Rattle.model.specs.Paths.{Leaf}
@@ -37,7 +38,7 @@ use Rattle.groups.specs.Banks.{raisedRow, Raisable, bankWith, Gathering}
 use Rattle.groups.proofs.Raising.{raised-records}
 
 -- before the first bank there is no row
-pub gathering-start : {ns es : List ℤ} {plan : List ℕ} {root : ℕ} {s : List ℤ} {n : ℕ} → Swept ns es plan root s → n ≡ freeRow s → Gathering ns es plan root [] s n
+pub gathering-start : {kind : WalkKind} {ns es : List ℤ} {plan : List ℕ} {root : ℕ} {s : List ℤ} {n : ℕ} → Swept kind ns es plan root s → n ≡ freeRow s → Gathering kind ns es plan root [] s n
 gathering-start {s = s} {n = n} w at =
     record {
       state = w;
@@ -64,8 +65,8 @@ records-split t f n m h k =
     ∙ ap (λ (l : List ℤ). recordsAt t f (n - f) ++ map ofDisplacement (rowsOf l (m - n))) (drop-drop (rowWidth * (n - f)) (rowWidth * f) t ∙ ap (λ (c : ℕ). drop c t) cut)
 
 -- one more bank, whose leaf's rows are appended
-module _ {ns es : List ℤ} {plan : List ℕ} {root leaf : ℕ} {s t : List ℤ} {n m : ℕ} (o : Appendable ns es plan leaf s n) (w : Swept ns es plan root s)
-    (a : LeafAppended (graphOf ns es) (pos root) (pos leaf) s t n m) {at : ℤ} (small : SmallAddress at)
+module _ {kind : WalkKind} {ns es : List ℤ} {plan : List ℕ} {root leaf : ℕ} {s t : List ℤ} {n m : ℕ} (o : Appendable ns es plan leaf s n) (w : Swept kind ns es plan root s)
+    (a : LeafAppended kind (graphOf ns es) (pos root) (pos leaf) s t n m) {at : ℤ} (small : SmallAddress at)
   where
     -- there is room for them
     leaf-room : rowWidth * (n + length (a .rows)) ≤ length s
@@ -104,7 +105,7 @@ module _ {ns es : List ℤ} {plan : List ℕ} {root leaf : ℕ} {s t : List ℤ}
         }
 
     -- and are then those of the bank
-    module _ {banks : List Bank} {u : List ℤ} (v : Gathering ns es plan root banks s n) (r : Appended (map (raisedRow at) (rowsFrom t n m)) t u n m) where
+    module _ {banks : List Bank} {u : List ℤ} (v : Gathering kind ns es plan root banks s n) (r : Appended (map (raisedRow at) (rowsFrom t n m)) t u n m) where
       raised-room : rowWidth * (n + length (map (raisedRow at) (rowsFrom t n m))) ≤ length t
       raised-room =
           omega (arith, length-map (rowsFrom t n m) (raisedRow at), rowsFrom-length t n m, leaf-raisable .order, leaf-raisable .within)
@@ -113,7 +114,7 @@ module _ {ns es : List ℤ} {plan : List ℕ} {root leaf : ℕ} {s t : List ℤ}
       kept : Agree n s u
       kept = agree-trans (appended-agrees leaf-room (a .appended)) (appended-agrees raised-room r)
 
-      swept : Swept ns es plan root u × (freeRow u ≡ freeRow s)
+      swept : Swept kind ns es plan root u × (freeRow u ≡ freeRow s)
       swept = swept-agrees w (agree-less (v .behind) kept)
 
       -- the records of the banks so far, and those of the bank
@@ -131,11 +132,11 @@ module _ {ns es : List ℤ} {plan : List ℕ} {root leaf : ℕ} {s t : List ℤ}
           ∙ ap₂ (λ (k l : List Record). k ++ l) (agree-records (freeRow s) (n - freeRow s) (omega (arith, v .behind)) kept) behind
 
       -- what the bank has
-      bank-exact : (x y : ℤ) → HasSome bankRows x y ↔ BankReached (graphOf ns es) (pos root) (bankWith leaf at) x y
+      bank-exact : (x y : ℤ) → HasSome bankRows x y ↔ BankReached kind (graphOf ns es) (pos root) (bankWith leaf at) x y
       bank-exact x y =
           Iff·trans (raised-some at (map ofDisplacement (a .rows)) x y) (Iff·trans (a .exact x (y -ℤ at)) (bank-lower (bankWith leaf at) x y))
 
-      pub gathering-more : Gathering ns es plan root (banks ++ (bankWith leaf at ∷ [])) u m
+      pub gathering-more : Gathering kind ns es plan root (banks ++ (bankWith leaf at ∷ [])) u m
       unfolding pathCount
       gathering-more =
           let g = graphOf ns es in

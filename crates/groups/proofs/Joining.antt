@@ -6,6 +6,7 @@ use native.Mathlib.Omega.{arith}
 use lib.IntN.{ℤ, pos, _-ℤ_}
 use lib.ListN.{length, length-map}
 use Rattle.integers.proofs.Linear.{ints}
+use Rattle.model.specs.declared.WalkKind.{WalkKind}
 use Rattle.model.specs.Graph.{graphOf}
 use Rattle.model.specs.Bitmapping.{Record}
 use Rattle.model.specs.Runs.{normal}
@@ -28,7 +29,7 @@ use Rattle.arrivals.proofs.Agreeing.{agree-trans, agree-front}
 use Rattle.arrivals.proofs.Swept.{swept-tables, swept-root, swept-room, swept-agrees}
 use Rattle.groups.specs.Banks.{bankWith, Gathering, Joinable, ListAnswered, GroupAnswered, Answered, Askable}
 
-module _ {ns es : List ℤ} {plan : List ℕ} {root : ℕ} {banks : List Bank} {s : List ℤ} {n : ℕ} (w : Gathering ns es plan root banks s n) where
+module _ {kind : WalkKind} {ns es : List ℤ} {plan : List ℕ} {root : ℕ} {banks : List Bank} {s : List ℤ} {n : ℕ} (w : Gathering kind ns es plan root banks s n) where
   -- the records of the banks
   abbrev gathered : List Record
   gathered = recordsAt s (freeRow s) (n - freeRow s)
@@ -42,7 +43,7 @@ module _ {ns es : List ℤ} {plan : List ℕ} {root : ℕ} {banks : List Bank} {
       record { full = full; high = omega (arith, ints, stands .1) }
 
   -- normalised they are the list of the group
-  gathered-list : normal gathered ≡ groupList (graphOf ns es) (pos root) banks
+  gathered-list : normal gathered ≡ groupList kind (graphOf ns es) (pos root) banks
   gathered-list = normal-unique (w .full) (w .exact) (group-list banks (λ b m. taken-fit (swept-tables (w .state) .graph) (w .leaves b m)))
 
   -- how many they are
@@ -56,7 +57,7 @@ module _ {ns es : List ℤ} {plan : List ℕ} {root : ℕ} {banks : List Bank} {
         record { order = omega (arith, at, w .behind); within = w .within; spareRoom = omega (arith, at, room); small = rw at gathered-small }
 
     -- and that is the list of the group
-    pub group-answered : {u : List ℤ} {p : ListRows} → Normalised s u first n p → GroupAnswered ns es plan root banks u p
+    pub group-answered : {u : List ℤ} {p : ListRows} → Normalised s u first n p → GroupAnswered kind ns es plan root banks u p
     group-answered {u} {p} q =
         let count : p .count ≡ length (normal gathered) = rw at at (q .count) in
         let agrees : Agree (freeRow s) s u = rw at at (q .agrees) in
@@ -88,6 +89,7 @@ module _ {ns es : List ℤ} {plan : List ℕ} {leaf : ℕ} {s spare : List ℤ} 
   pub askable-appendable : {first : ℕ} → first ≡ freeRow s → Appendable ns es plan leaf s first
   askable-appendable at =
       record {
+        kind = o .kind;
         root = o .root;
         state = o .state;
         block = o .block;
@@ -97,13 +99,14 @@ module _ {ns es : List ℤ} {plan : List ℕ} {leaf : ℕ} {s spare : List ℤ} 
       }
 
   -- and joined
-  pub askable-joinable : {u : List ℤ} {n : ℕ} {at : ℤ} → Gathering ns es plan (o .root) (bankWith leaf at ∷ []) u n → Joinable u n spare
+  pub askable-joinable : {u : List ℤ} {n : ℕ} {at : ℤ} → Gathering (o .kind) ns es plan (o .root) (bankWith leaf at ∷ []) u n → Joinable u n spare
   unfolding pathCount
   askable-joinable {at = at} w =
       record {
         nodes = ns;
         edges = es;
         plan = plan;
+        kind = o .kind;
         root = o .root;
         banks = bankWith leaf at ∷ [];
         gathering = w;
@@ -111,8 +114,8 @@ module _ {ns es : List ℤ} {plan : List ℕ} {leaf : ℕ} {s spare : List ℤ} 
       }
 
 -- the list of a group of one bank that begins at 0 is the list of its leaf
-pub one-answered : {ns es : List ℤ} {plan : List ℕ} {root : ℕ} (leaf : ℕ) {at : ℤ} {u : List ℤ} {p : ListRows} → at ≡ pos 0
-    → GroupAnswered ns es plan root (bankWith leaf at ∷ []) u p → Answered ns es plan root leaf u p
-one-answered {ns} {es} {plan} {root} leaf {u = u} {p = p} e a =
-    let list = ap (λ (at : ℤ). groupList (graphOf ns es) (pos root) (bankWith leaf at ∷ [])) e ∙ group-one (graphOf ns es) (pos root) (pos leaf) in
-    subst (λ (l : List Record). ListAnswered ns es plan root l u p) list a
+pub one-answered : {kind : WalkKind} {ns es : List ℤ} {plan : List ℕ} {root : ℕ} (leaf : ℕ) {at : ℤ} {u : List ℤ} {p : ListRows} → at ≡ pos 0
+    → GroupAnswered kind ns es plan root (bankWith leaf at ∷ []) u p → Answered kind ns es plan root leaf u p
+one-answered {kind} {ns} {es} {plan} {root} leaf {u = u} {p = p} e a =
+    let list = ap (λ (at : ℤ). groupList kind (graphOf ns es) (pos root) (bankWith leaf at ∷ [])) e ∙ group-one kind (graphOf ns es) (pos root) (pos leaf) in
+    subst (λ (l : List Record). ListAnswered kind ns es plan root l u p) list a

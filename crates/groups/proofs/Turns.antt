@@ -8,6 +8,7 @@ use lib.ListN.{length, length-append, take, drop, take-append-drop}
 use Rattle.integers.proofs.Linear.{ints}
 use Rattle.lists.specs.Lists.{_∈_, keep}
 use Rattle.lists.proofs.Kept.{keep-append}
+use Rattle.model.specs.declared.WalkKind.{WalkKind}
 use Rattle.model.specs.Limits.{pairWidth, maxPaths}
 use Rattle.model.specs.Rows.{Pair, Edge, pairRows}
 use Rattle.model.specs.Graph.{Graph, graphOf}
@@ -55,17 +56,17 @@ part-few g r {pairs} {l} {done} {j} p =
 -- ---- turns
 
 -- the state between two turns: of the group of a row some banks are passed, `row` is the next, and their rows are gathered, whatever root the state at first was
--- swept from
+-- swept from, and by whatever kind of walk
 pub record Turned (ns es : List ℤ) (plan : List ℕ) (pairs : List ℤ) (lowest : ℕ) (old s : List ℤ) (n row : ℕ) : Type 0 where
   pub done : List Pair
   pub passing : Passing pairs (pairAt pairs lowest) done row
-  pub gathering : (root : ℕ) → Swept ns es plan root old → Gathering ns es plan root (map bankOf done) s n
+  pub gathering : (kind : WalkKind) (root : ℕ) → Swept kind ns es plan root old → Gathering kind ns es plan root (map bankOf done) s n
 
 module _ {ns es : List ℤ} {plan : List ℕ} {pairs : List ℤ} {links : List ℕ} {lowest : ℕ} {old spare : List ℤ} (o : GroupAskable ns es plan pairs links lowest old spare)
   where
     -- before the first turn
     pub turn-start : {n : ℕ} → n ≡ freeRow old → Turned ns es plan pairs lowest old old n lowest
-    turn-start at = record { done = []; passing = o .start; gathering = λ root w. gathering-start w at }
+    turn-start at = record { done = []; passing = o .start; gathering = λ kind root w. gathering-start w at }
 
     module _ {s : List ℤ} {n row : ℕ} (t : Turned ns es plan pairs lowest old s n row) where
       module _ (h : row < length pairs / pairWidth) where
@@ -89,10 +90,11 @@ module _ {ns es : List ℤ} {plan : List ℕ} {pairs : List ℤ} {links : List �
               let bank = o .listable (pairAt pairs row) row-in in
               let g = graphOf ns es in
               let r = pos (o .root) in
-              let w = t .gathering (o .root) (o .state) in
+              let w = t .gathering (o .kind) (o .root) (o .state) in
               let more = ap (groupPaths g r) (map-append bankOf (t .done) (pairAt pairs row ∷ [])) ∙ group-paths-append g r (map bankOf (t .done)) (bankOf (pairAt pairs row) ∷ []) in
               let one = group-paths-one g r (bankOf (pairAt pairs row)) in (
                 record {
+                  kind = o .kind;
                   root = o .root;
                   state = w .state;
                   block = rw is (bank .block);
@@ -105,7 +107,7 @@ module _ {ns es : List ℤ} {plan : List ℕ} {pairs : List ℤ} {links : List �
 
           -- and then it is passed
           pub turn-next : {u : List ℤ} {m : ℕ}
-              → ((root : ℕ) (banks : List Bank) → Gathering ns es plan root banks s n → Gathering ns es plan root (banks ++ (bankWith leaf at ∷ [])) u m)
+              → ((kind : WalkKind) (root : ℕ) (banks : List Bank) → Gathering kind ns es plan root banks s n → Gathering kind ns es plan root (banks ++ (bankWith leaf at ∷ [])) u m)
               → Turned ns es plan pairs lowest old u m (nextRow links row)
           turn-next {u} {m} more =
               let bank : bankWith leaf at ≡ bankOf (pairAt pairs row) = ap₂ (λ (l a : ℤ). record { leaf = l; at = a }) is begins in
@@ -114,22 +116,23 @@ module _ {ns es : List ℤ} {plan : List ℕ} {pairs : List ℤ} {links : List �
               record {
                 done = t .done ++ (pairAt pairs row ∷ []);
                 passing = passed;
-                gathering = λ root w. subst (λ (bs : List Bank). Gathering ns es plan root bs u m) all (more root (map bankOf (t .done)) (t .gathering root w));
+                gathering = λ kind root w. subst (λ (bs : List Bank). Gathering kind ns es plan root bs u m) all (more kind root (map bankOf (t .done)) (t .gathering kind root w));
               }
 
       module _ (h : length pairs / pairWidth ≤ row) where
         -- behind the last bank the rows of all are gathered
-        whole : (root : ℕ) → Swept ns es plan root old → Gathering ns es plan root (banksAt pairs lowest) s n
-        whole root w = subst (λ (d : List Pair). Gathering ns es plan root (map bankOf d) s n) (pass-end (t .passing) h) (t .gathering root w)
+        whole : (kind : WalkKind) (root : ℕ) → Swept kind ns es plan root old → Gathering kind ns es plan root (banksAt pairs lowest) s n
+        whole kind root w = subst (λ (d : List Pair). Gathering kind ns es plan root (map bankOf d) s n) (pass-end (t .passing) h) (t .gathering kind root w)
 
         -- and can be joined
         pub turn-joinable : Joinable s n spare
         turn-joinable =
-            let w = whole (o .root) (o .state) in
+            let w = whole (o .kind) (o .root) (o .state) in
             record {
               nodes = ns;
               edges = es;
               plan = plan;
+              kind = o .kind;
               root = o .root;
               banks = banksAt pairs lowest;
               gathering = w;
@@ -138,6 +141,6 @@ module _ {ns es : List ℤ} {plan : List ℕ} {pairs : List ℤ} {links : List �
 
         -- to the list of the group
         pub turn-answered : {u : List ℤ} {p : ListRows}
-            → ((ns es : List ℤ) (plan : List ℕ) (root : ℕ) (banks : List Bank) → Gathering ns es plan root banks s n → GroupAnswered ns es plan root banks u p)
-            → (root : ℕ) → Swept ns es plan root old → GroupAnswered ns es plan root (banksAt pairs lowest) u p
-        turn-answered joined root w = joined ns es plan root (banksAt pairs lowest) (whole root w)
+            → ((kind : WalkKind) (ns es : List ℤ) (plan : List ℕ) (root : ℕ) (banks : List Bank) → Gathering kind ns es plan root banks s n → GroupAnswered kind ns es plan root banks u p)
+            → (kind : WalkKind) (root : ℕ) → Swept kind ns es plan root old → GroupAnswered kind ns es plan root (banksAt pairs lowest) u p
+        turn-answered joined kind root w = joined kind ns es plan root (banksAt pairs lowest) (whole kind root w)

@@ -4,6 +4,7 @@ ghost use mathlib.Core.Path.{_≡_};
 ghost use mathlib.Core.List.{List, [], _∷_, _++_, map};
 ghost use Prim.Native.Nat.{ℕ};
 ghost use lib.IntN.{ℤ};
+ghost use Rattle.model.specs.declared.WalkKind.{WalkKind};
 ghost use Rattle.model.specs.Quantities.{Subtractable};
 ghost use Rattle.model.specs.Groups.{Bank};
 ghost use Rattle.sorting.specs.Rows.{rowsFrom};
@@ -65,8 +66,8 @@ pub fn append_bank(
 ) -> usize
     requires { ⌜ Appendable (now nodes) (now edges) (now plan) leaf (now state) n × SmallAddress (at .0) ⌝ }
     ensures { λ r. ⌜
-        ((root : ℕ) (banks : List Bank) → Gathering (now (nodes .entry)) (now (edges .entry)) (now (plan .entry)) root banks (now (state .entry)) n
-        → Gathering (now (nodes .entry)) (now (edges .entry)) (now (plan .entry)) root (banks ++ (bankWith leaf (at .0) ∷ [])) (now (state .exit)) r) ⌝ }
+        ((kind : WalkKind) (root : ℕ) (banks : List Bank) → Gathering kind (now (nodes .entry)) (now (edges .entry)) (now (plan .entry)) root banks (now (state .entry)) n
+        → Gathering kind (now (nodes .entry)) (now (edges .entry)) (now (plan .entry)) root (banks ++ (bankWith leaf (at .0) ∷ [])) (now (state .exit)) r) ⌝ }
 {
     let end = append_rows(nodes, edges, plan, leaf, state, n);
     raise_rows(state, n, end, at);
@@ -78,8 +79,8 @@ pub fn append_bank(
 pub fn join_banks(state: &mut [i64], n: usize, spare: &mut [i64]) -> ListRows
     requires { ⌜ Joinable (now state) n (now spare) ⌝ }
     ensures { λ r. ⌜
-        ((ns es : List ℤ) (plan : List ℕ) (root : ℕ) (banks : List Bank) → Gathering ns es plan root banks (now (state .entry)) n
-        → GroupAnswered ns es plan root banks (now (state .exit)) r) ⌝ }
+        ((kind : WalkKind) (ns es : List ℤ) (plan : List ℕ) (root : ℕ) (banks : List Bank) → Gathering kind ns es plan root banks (now (state .entry)) n
+        → GroupAnswered kind ns es plan root banks (now (state .exit)) r) ⌝ }
 {
     let first = free_row(state);
     if n == first {
@@ -91,8 +92,8 @@ pub fn join_banks(state: &mut [i64], n: usize, spare: &mut [i64]) -> ListRows
     normalise_between(state, first, n, spare)
 }
 
-// Lists the bitmapping list of the root that the state is swept from and a leaf: rows by displacement, sorted, in the free part of the state. What stands
-// in `spare` afterwards is space that was worked in.
+// Lists the bitmapping list of the root that the state is swept from and a leaf, for the kind of walk that it is swept by: rows by displacement, sorted, in the
+// free part of the state. What stands in `spare` afterwards is space that was worked in.
 pub fn list_at(
     nodes: &[i64],
     edges: &[i64],
@@ -103,8 +104,8 @@ pub fn list_at(
 ) -> ListRows
     requires { ⌜ Askable (now nodes) (now edges) (now plan) leaf (now state) (now spare) ⌝ }
     ensures { λ r. ⌜
-        ((root : ℕ) → Swept (now (nodes .entry)) (now (edges .entry)) (now (plan .entry)) root (now (state .entry))
-        → Answered (now (nodes .entry)) (now (edges .entry)) (now (plan .entry)) root leaf (now (state .exit)) r) ⌝ }
+        ((kind : WalkKind) (root : ℕ) → Swept kind (now (nodes .entry)) (now (edges .entry)) (now (plan .entry)) root (now (state .entry))
+        → Answered kind (now (nodes .entry)) (now (edges .entry)) (now (plan .entry)) root leaf (now (state .exit)) r) ⌝ }
 {
     let first = free_row(state);
     let n = append_bank(nodes, edges, plan, leaf, leaf_bit(0), state, first);
@@ -125,8 +126,8 @@ pub fn list_group(
 ) -> ListRows
     requires { ⌜ GroupAskable (now nodes) (now edges) (now plan) (now pairs) (now links) lowest (now state) (now spare) ⌝ }
     ensures { λ r. ⌜
-        ((root : ℕ) → Swept (now (nodes .entry)) (now (edges .entry)) (now (plan .entry)) root (now (state .entry))
-        → GroupAnswered (now (nodes .entry)) (now (edges .entry)) (now (plan .entry)) root (banksAt (now (pairs .entry)) lowest) (now (state .exit)) r) ⌝ }
+        ((kind : WalkKind) (root : ℕ) → Swept kind (now (nodes .entry)) (now (edges .entry)) (now (plan .entry)) root (now (state .entry))
+        → GroupAnswered kind (now (nodes .entry)) (now (edges .entry)) (now (plan .entry)) root (banksAt (now (pairs .entry)) lowest) (now (state .exit)) r) ⌝ }
 {
     let count = pairs.len() / PAIR_WIDTH;
     let mut n = free_row(state);

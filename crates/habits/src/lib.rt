@@ -2,6 +2,7 @@
 // roots and leaves keep their rows.
 pub mod arrangements;
 
+use generator::accesses;
 use generator::maps;
 use generator::maps::Shape;
 use generator::numbers::depth_of;
@@ -45,14 +46,20 @@ const SMALLER_UNIT: usize = 11;
 
 const BLOCK_SHORTENED: usize = 12;
 
-pub const CROSSWISE: usize = 13;
+const ACCESS_CHANGED: usize = 13;
 
-const ANOTHER_MAP: usize = 14;
+const KINDS_PARTED: usize = 14;
 
-const CLIPPING_BRIDGE: usize = 15;
+const KINDS_UNLIKE: usize = 15;
 
-// Draws of a habit: sixteen habits, and some of them more than once.
-const HABIT_DRAWS: usize = 56;
+pub const CROSSWISE: usize = 16;
+
+const ANOTHER_MAP: usize = 17;
+
+const CLIPPING_BRIDGE: usize = 18;
+
+// Draws of a habit: nineteen habits, and some of them more than once.
+const HABIT_DRAWS: usize = 68;
 
 // Bits of the largest unit, of which a bridge moves addresses by a multiple, and of a bridge's window.
 const LARGEST_UNIT: usize = 128;
@@ -94,6 +101,7 @@ fn bridge_of(unit: usize, kind: usize) -> Node {
         base: 0,
         range: quotient(BRIDGE_BITS, unit),
         unit: unit,
+        access: rows::READ_WRITE,
     }
 }
 
@@ -137,6 +145,7 @@ fn resized(node: Node, base: usize, range: usize) -> Node {
         base: base,
         range: range,
         unit: node.unit,
+        access: node.access,
     }
 }
 
@@ -253,16 +262,50 @@ pub(crate) fn part_node(
     first
 }
 
-// Parts a node between roots and leaves.
-fn halve(map: &mut Map, shape: Shape, habit: usize, seed: &mut usize) -> Shape {
-    let v = sum(shape.roots, draw(seed, less(shape.inner, shape.roots)));
-    if part_node(map, v, shape.nodes, habit, seed) == 0 {
+// Makes two nodes of one on which both kinds of walk may stand: one of nodes v and w for reads, the other for writes. Gives whether it was one.
+fn part_kinds(map: &mut Map, v: usize, w: usize, seed: &mut usize) -> bool {
+    let node = rows::node_of(map, v);
+    if node.access != rows::READ_WRITE {
+        return false;
+    }
+    let access = accesses::draw_other(rows::READ_WRITE, seed);
+    rows::put_node(map, w, node);
+    rows::put_access(map, v, access);
+    rows::put_access(map, w, accesses::opposite(access));
+    true
+}
+
+// Parts node v, and makes node w of a part. Gives whether there is one.
+fn part_by(map: &mut Map, v: usize, w: usize, habit: usize, seed: &mut usize) -> bool {
+    if habit == KINDS_PARTED {
+        return part_kinds(map, v, w, seed);
+    }
+    part_node(map, v, w, habit, seed) > 0
+}
+
+fn halve(map: &mut Map, shape: Shape, v: usize, habit: usize, seed: &mut usize) -> Shape {
+    if !part_by(map, v, shape.nodes, habit, seed) {
         return shape;
     }
     let edge_count = share_edges(map, shape.edges, v, shape.nodes);
     grown(shape, sum(shape.nodes, 1), edge_count)
 }
 
+// Makes two nodes of one by kind of walk, cuts the first units of one off, and puts an edge beside one of the other: what one kind of walk lacks often
+// lies below what the other has too much.
+fn unlike(map: &mut Map, shape: Shape, v: usize, seed: &mut usize) -> Shape {
+    if !part_kinds(map, v, shape.nodes, seed) {
+        return shape;
+    }
+    let edges = share_edges(map, shape.edges, v, shape.nodes);
+    raise_base(map, v, seed);
+    let e = sum(shape.edges, draw(seed, less(edges, shape.edges)));
+    copy_edge(map, e, edges);
+    move_offset(map, edges, seed);
+    grown(shape, sum(shape.nodes, 1), sum(edges, 1))
+}
+
+// Makes two nodes of one between roots and leaves.
 fn try_halve(map: &mut Map, shape: Shape, habit: usize, seed: &mut usize) -> Shape {
     if !has_room(shape) {
         return shape;
@@ -270,7 +313,11 @@ fn try_halve(map: &mut Map, shape: Shape, habit: usize, seed: &mut usize) -> Sha
     if shape.inner == shape.roots {
         return shape;
     }
-    halve(map, shape, habit, seed)
+    let v = sum(shape.roots, draw(seed, less(shape.inner, shape.roots)));
+    if habit == KINDS_UNLIKE {
+        return unlike(map, shape, v, seed);
+    }
+    halve(map, shape, v, habit, seed)
 }
 
 // Doubles an offset.
@@ -309,15 +356,23 @@ pub(crate) fn halve_unit(map: &mut Map, shape: Shape, v: usize) {
         base: times(node.base, 2),
         range: times(node.range, 2),
         unit: node.unit / 2,
+        access: node.access,
     };
     rows::put_node(map, v, halved);
     double_offsets(map, shape.edges, v);
 }
 
-// Draws all nodes and edges again.
+// Draws all nodes and edges again, and the nodes' accesses.
 fn draw_again(map: &mut Map, shape: Shape, seed: &mut usize) {
     maps::draw_nodes(map, shape, maps::TREE, maps::UNITS, seed);
     maps::draw_edges(map, shape, maps::TREE, seed);
+    accesses::draw_accesses(map, shape, accesses::draw_closed(seed), seed);
+}
+
+// Gives a node another access.
+fn change_access(map: &mut Map, v: usize, seed: &mut usize) {
+    let access = rows::node_size(map, v, rows::ACCESS);
+    rows::put_access(map, v, accesses::draw_other(access, seed));
 }
 
 // The node that a habit cuts units off: any, or a leaf where a block is shortened.
@@ -335,6 +390,7 @@ fn change_node(map: &mut Map, shape: Shape, habit: usize, seed: &mut usize) {
         BASE_RAISED => {
             raise_base(map, draw(seed, shape.inner), seed);
         }
+        ACCESS_CHANGED => change_access(map, draw(seed, shape.nodes), seed),
         _ => {}
     }
 }
@@ -362,7 +418,7 @@ fn change_rows(map: &mut Map, shape: Shape, habit: usize, seed: &mut usize) -> S
 // Whether a habit adds or leaves out rows.
 fn changes_rows(habit: usize) -> bool {
     match habit {
-        BRIDGE | CLIPPING_BRIDGE | EDGE_LEFT_OUT..=PARTED => true,
+        BRIDGE | CLIPPING_BRIDGE | EDGE_LEFT_OUT..=PARTED | KINDS_PARTED | KINDS_UNLIKE => true,
         _ => false,
     }
 }
@@ -395,12 +451,14 @@ pub fn change_often(
 pub fn draw_habit(seed: &mut usize) -> usize {
     let k = draw(seed, HABIT_DRAWS);
     match k {
-        16..=19 => RANGE_CUT,
-        20..=23 => BASE_RAISED,
-        24..=42 => OFFSET_MOVED,
-        43..=45 => BLOCK_SHORTENED,
-        46..=53 => EDGE_BESIDE,
-        54 | 55 => ANOTHER_MAP,
+        19..=22 => RANGE_CUT,
+        23..=26 => BASE_RAISED,
+        27..=45 => OFFSET_MOVED,
+        46..=48 => BLOCK_SHORTENED,
+        49..=56 => EDGE_BESIDE,
+        57 | 58 => ANOTHER_MAP,
+        59..=63 => ACCESS_CHANGED,
+        64..=67 => KINDS_UNLIKE,
         _ => k,
     }
 }

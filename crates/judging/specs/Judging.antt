@@ -1,7 +1,6 @@
 -- Two normal lists and their rows by displacement, three numbers a row: displacement, first, last. Assumes nothing.
 use mathlib.Core.Path.{_≡_}
 use mathlib.Core.Bool.{Bool, true}
-use mathlib.Core.Logic.{_≢_}
 use mathlib.Core.List.{List}
 use Prim.Native.Nat.{ℕ, _*_, _≤_}
 use lib.ListN.{length}
@@ -25,7 +24,7 @@ pub record SmallRows (t : List ℤ) (n : ℕ) : Type 0 where
   pub within : rowWidth * n ≤ length t
   pub small : AllSmallRootBits (displacedOf t n)
 
--- what is judged of two lists: the verdict and, where it is asked for and they are not equal, the lowest address at which they differ
+-- what is judged of two lists: the verdict and, where it is asked for, the lowest address at which they differ, −1 where they differ nowhere
 pub record IsJudged (spec impl : List Record) (asked : Bool) (r : Judged) : Type 0 where
   pub verdict : verdictNumber (r .verdict) ≡ verdict spec impl
-  pub address : asked ≡ true → verdictNumber (r .verdict) ≢ 0 → r .address ≡ lowest spec impl
+  pub address : asked ≡ true → r .address ≡ lowest spec impl

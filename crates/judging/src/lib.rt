@@ -43,17 +43,17 @@ fn lowest_of_rows(
     imp: &mut [i64],
     ni: usize,
     spare: &mut [i64],
-    verdict: Verdict,
+    given: Verdict,
     asked: bool,
 ) -> i64
     requires { ⌜ SmallRows (now spec) ns × SmallRows (now imp) ni × (rowWidth * ns ≤ length (now spare)) × (rowWidth * ni ≤ length (now spare)) ⌝ }
     ensures { λ b. ⌜
-        OfLists (now (spec .entry)) ns (now (imp .entry)) ni (λ l m. asked ≡ true → verdictNumber verdict ≢ 0 → b ≡ lowest l m) ⌝ }
+        OfLists (now (spec .entry)) ns (now (imp .entry)) ni (λ l m. asked ≡ true → verdictNumber given ≡ verdict l m → b ≡ lowest l m) ⌝ }
 {
     if !asked {
         return -1;
     }
-    if let Verdict::Equal = verdict {
+    if let Verdict::Equal = given {
         return -1;
     }
     let s = normalisation::normalise(spec, ns, spare);
@@ -61,7 +61,7 @@ fn lowest_of_rows(
     verdicts::lowest_of(spec, s, imp, i)
 }
 
-// The verdict on two lists and, where `asked` and they are not equal, the lowest address at which they differ. What stands in the three slices afterwards is
+// The verdict on two lists and, where `asked`, the lowest address at which they differ, -1 where they differ nowhere. What stands in the three slices afterwards is
 // space that was worked in.
 pub fn judge(
     spec: &mut [i64],

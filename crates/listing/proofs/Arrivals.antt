@@ -9,6 +9,7 @@ use native.Mathlib.Omega.{arith}
 use lib.IntN.{ℤ, _-ℤ_}
 use lib.ListN.{length, length-append, length-map}
 use Rattle.integers.specs.Integers.{eqZ}
+use Rattle.model.specs.declared.WalkKind.{WalkKind}
 use Rattle.model.specs.Rows.{Edge}
 use Rattle.model.specs.Graph.{Graph, node, bitOffset}
 use Rattle.model.specs.Runs.{leaving, pathsWithin}
@@ -20,14 +21,14 @@ use Rattle.reach.proofs.Reaching.{within-none}
 use Rattle.listing.specs.Listing.{arrivalRow, arrivalRows}
 use Rattle.listing.proofs.Runs.{eqZ-same, eqZ-other, map-flatMap}
 
--- what an edge gives: the rows from the node entered
-abbrev pub arrivalsOver : ℕ → Graph → ℤ → ℤ → Edge → List Row
-arrivalsOver k g l a e = arrivalRows k g (e .to) l (a -ℤ bitOffset g e)
+-- what an edge gives for walks of this kind: the rows from the node entered
+abbrev pub arrivalsOver : WalkKind → ℕ → Graph → ℤ → ℤ → Edge → List Row
+arrivalsOver kind k g l a e = arrivalRows kind k g (e .to) l (a -ℤ bitOffset g e)
 
 -- the node entered and the address there, as they were computed
-pub arrivals-over : (k : ℕ) (g : Graph) (l a : ℤ) (e : Edge) {to b : ℤ} → to ≡ e .to → b ≡ a -ℤ bitOffset g e
-    → arrivalRows k g to l b ≡ arrivalsOver k g l a e
-arrivals-over k g l a e p q = rw (p, q) refl
+pub arrivals-over : (kind : WalkKind) (k : ℕ) (g : Graph) (l a : ℤ) (e : Edge) {to b : ℤ} → to ≡ e .to → b ≡ a -ℤ bitOffset g e
+    → arrivalRows kind k g to l b ≡ arrivalsOver kind k g l a e
+arrivals-over kind k g l a e p q = rw (p, q) refl
 
 -- ---- no more than paths
 
@@ -46,21 +47,21 @@ arriving-length b c xs ys h true true = omega arith
 arriving-length b c xs ys h true false = h
 
 -- there are no more arrivals than paths
-pub arrivals-within-paths : (k : ℕ) (g : Graph) (v l a : ℤ) → length (arrivals k g v l a) ≤ length (pathsWithin k g v l)
+pub arrivals-within-paths : (kind : WalkKind) (k : ℕ) (g : Graph) (v l a : ℤ) → length (arrivals kind k g v l a) ≤ length (pathsWithin k g v l)
 unfolding arrivals pathsWithin
-arrivals-within-paths zero g v l a = arriving-length a [] [] [] (omega arith) (standsOn (node g v) a) (eqZ v l)
-arrivals-within-paths (suc k) g v l a =
-    let beyond : Edge → List ℤ = λ e. arrivals k g (e .to) l (a -ℤ bitOffset g e) in
+arrivals-within-paths kind zero g v l a = arriving-length a [] [] [] (omega arith) (standsOn kind (node g v) a) (eqZ v l)
+arrivals-within-paths kind (suc k) g v l a =
+    let beyond : Edge → List ℤ = λ e. arrivals kind k g (e .to) l (a -ℤ bitOffset g e) in
     arriving-length a [] (flatMap beyond (leaving g v)) (flatMap (onward k g l) (leaving g v))
     (flatMap-length beyond (onward k g l)
-    (λ e. omega (arith, arrivals-within-paths k g (e .to) l (a -ℤ bitOffset g e), length-map (pathsWithin k g (e .to) l) (λ p. e ∷ p)))
+    (λ e. omega (arith, arrivals-within-paths kind k g (e .to) l (a -ℤ bitOffset g e), length-map (pathsWithin k g (e .to) l) (λ p. e ∷ p)))
     (leaving g v))
-    (standsOn (node g v) a) (eqZ v l)
+    (standsOn kind (node g v) a) (eqZ v l)
 
 -- nor more rows
-pub arrivalRows-within-paths : (k : ℕ) (g : Graph) (v l a : ℤ) → length (arrivalRows k g v l a) ≤ length (pathsWithin k g v l)
+pub arrivalRows-within-paths : (kind : WalkKind) (k : ℕ) (g : Graph) (v l a : ℤ) → length (arrivalRows kind k g v l a) ≤ length (pathsWithin k g v l)
 unfolding arrivalRows
-arrivalRows-within-paths k g v l a = omega (arith, arrivals-within-paths k g v l a, length-map (arrivals k g v l a) (arrivalRow (node g l)))
+arrivalRows-within-paths kind k g v l a = omega (arith, arrivals-within-paths kind k g v l a, length-map (arrivals kind k g v l a) (arrivalRow (node g l)))
 
 -- ---- node by node
 
@@ -69,38 +70,38 @@ rows-none f [] h = refl
 rows-none f (x ∷ l) h = absurd (omega arith)
 
 -- from a node with no path to the leaf there is no row
-arrivals-dead : {g : Graph} {l : ℤ} → Fit g l → (k : ℕ) (v a : ℤ) → pathCount g v l ≡ 0 → arrivalRows k g v l a ≡ []
+arrivals-dead : (kind : WalkKind) {g : Graph} {l : ℤ} → Fit g l → (k : ℕ) (v a : ℤ) → pathCount g v l ≡ 0 → arrivalRows kind k g v l a ≡ []
 unfolding arrivalRows
-arrivals-dead {g} {l} f k v a z =
-    rows-none (arrivalRow (node g l)) (arrivals k g v l a) (omega (arith, arrivals-within-paths k g v l a, ap length (within-none k v f z)))
+arrivals-dead kind {g} {l} f k v a z =
+    rows-none (arrivalRow (node g l)) (arrivals kind k g v l a) (omega (arith, arrivals-within-paths kind k g v l a, ap length (within-none k v f z)))
 
 -- an edge that enters a node with no path to the leaf gives no row
-pub arrivals-over-dead : {g : Graph} {l : ℤ} → Fit g l → (k : ℕ) (a : ℤ) (e : Edge) → pathCount g (e .to) l ≡ 0 → arrivalsOver k g l a e ≡ []
-arrivals-over-dead {g} f k a e z = arrivals-dead f k (e .to) (a -ℤ bitOffset g e) z
+pub arrivals-over-dead : (kind : WalkKind) {g : Graph} {l : ℤ} → Fit g l → (k : ℕ) (a : ℤ) (e : Edge) → pathCount g (e .to) l ≡ 0 → arrivalsOver kind k g l a e ≡ []
+arrivals-over-dead kind {g} f k a e z = arrivals-dead kind f k (e .to) (a -ℤ bitOffset g e) z
 
-module _ (g : Graph) (v l a : ℤ) where
+module _ (kind : WalkKind) (g : Graph) (v l a : ℤ) where
   -- where no walk may stand there is none
-  pub arrivals-outside : (k : ℕ) → standsOn (node g v) a ≡ false → arrivalRows k g v l a ≡ []
+  pub arrivals-outside : (k : ℕ) → standsOn kind (node g v) a ≡ false → arrivalRows kind k g v l a ≡ []
   unfolding arrivalRows arrivals
   arrivals-outside zero e = rw e refl
   arrivals-outside (suc k) e = rw e refl
 
   -- at the leaf there is one
-  pub arrivals-leaf : (k : ℕ) → standsOn (node g v) a ≡ true → v ≡ l → arrivalRows k g v l a ≡ arrivalRow (node g l) a ∷ []
+  pub arrivals-leaf : (k : ℕ) → standsOn kind (node g v) a ≡ true → v ≡ l → arrivalRows kind k g v l a ≡ arrivalRow (node g l) a ∷ []
   unfolding arrivalRows arrivals
   arrivals-leaf zero e h = rw (e, eqZ-same h) refl
   arrivals-leaf (suc k) e h = rw (e, eqZ-same h) refl
 
   -- elsewhere there is none over no edge
-  pub arrivals-end : (k : ℕ) → standsOn (node g v) a ≡ true → v ≢ l → k ≡ 0 → arrivalRows k g v l a ≡ []
+  pub arrivals-end : (k : ℕ) → standsOn kind (node g v) a ≡ true → v ≢ l → k ≡ 0 → arrivalRows kind k g v l a ≡ []
   unfolding arrivalRows arrivals
   arrivals-end zero e n z = rw (e, eqZ-other n) refl
   arrivals-end (suc k) e n z = absurd (omega arith)
 
   -- and over some edge there are those of the edges
-  pub arrivals-onward : (k : ℕ) → standsOn (node g v) a ≡ true → v ≢ l → k ≢ 0 → arrivalRows k g v l a ≡ flatMap (arrivalsOver (k - 1) g l a) (leaving g v)
+  pub arrivals-onward : (k : ℕ) → standsOn kind (node g v) a ≡ true → v ≢ l → k ≢ 0 → arrivalRows kind k g v l a ≡ flatMap (arrivalsOver kind (k - 1) g l a) (leaving g v)
   unfolding arrivalRows arrivals
   arrivals-onward zero e n z = absurd (z refl)
   arrivals-onward (suc k) e n z =
       let d : suc k - 1 ≡ k = omega arith in
-      rw (d, e, eqZ-other n) (map-flatMap (arrivalRow (node g l)) (λ d. arrivals k g (d .to) l (a -ℤ bitOffset g d)) (leaving g v))
+      rw (d, e, eqZ-other n) (map-flatMap (arrivalRow (node g l)) (λ d. arrivals kind k g (d .to) l (a -ℤ bitOffset g d)) (leaving g v))

@@ -1,16 +1,20 @@
 -- From a root to a leaf: the edges can be linked, there is room for a row a path, and the rows written give the answer once they are normalised.
 use mathlib.Core.Path.{_≡_, sym, ap, _∙_, subst}
-use mathlib.Core.List.{List, map, map-map}
+use mathlib.Core.Bool.{false}
+use mathlib.Core.List.{List, [], map, map-map}
 use Prim.Native.Nat.{ℕ, _+_, _*_, _≤_}
 use native.Mathlib.Omega.{arith}
 use lib.IntN.{ℤ, pos, _-ℤ_}
 use lib.ListN.{length, drop, replicate, length-append, length-replicate}
+use Rattle.model.specs.declared.WalkKind.{WalkKind}
 use Rattle.model.specs.Limits.{maxNodes, maxEdges, maxChain, maxPaths}
 use Rattle.model.specs.Rows.{nodeRows}
 use Rattle.model.specs.Graph.{Graph, graphOf, node, firstBit}
-use Rattle.model.specs.Runs.{whole, pathsWithin, paths, runs, recordOf, normal, listOf}
+use Rattle.model.specs.Runs.{isOpen, whole, pathsWithin, paths, runs, recordOf, normal, listOf}
 use Rattle.model.specs.Calls.{arrivals, leafBits}
+use Rattle.model.proofs.Walks.{runsFrom, runs-empty}
 use Rattle.tables.proofs.Rows.{nodes-length, edges-length}
+use Rattle.extents.proofs.Bounds.{whole-closed}
 use Rattle.sorting.specs.Rows.{rowWidth}
 use Rattle.sorting.specs.declared.Row.{Row}
 use Rattle.normalisation.specs.Merging.{ofDisplacement, displacedOf, AllSmallLast}
@@ -25,18 +29,25 @@ use Rattle.listing.proofs.Bits.{bits-small, bits-normal}
 use Rattle.listing.proofs.Small.{runs-small}
 
 -- rows behind none whose records are those of runs
-records-listed : (ns es : List ℤ) (r l : ℤ) {old new : List ℤ} {n : ℕ} → Appended (runRows maxChain (graphOf ns es) r l (whole (node (graphOf ns es) r))) old new 0 n
-    → displacedOf new n ≡ map (recordOf (node (graphOf ns es) l)) (runs (graphOf ns es) r l)
+records-listed : (kind : WalkKind) (ns es : List ℤ) (r l : ℤ) {old new : List ℤ} {n : ℕ} → Appended (runRows kind maxChain (graphOf ns es) r l (whole kind (node (graphOf ns es) r))) old new 0 n
+    → displacedOf new n ≡ map (recordOf (node (graphOf ns es) l)) (runs kind (graphOf ns es) r l)
 unfolding runRows runs paths
-records-listed ns es r l a = ap (map ofDisplacement) (append-rows a) ∙ map-map ofDisplacement (runRow (node (graphOf ns es) l)) (runs (graphOf ns es) r l)
+records-listed kind ns es r l a = ap (map ofDisplacement) (append-rows a) ∙ map-map ofDisplacement (runRow (node (graphOf ns es) l)) (runs kind (graphOf ns es) r l)
 
 -- or those of leaf bits
-arrivals-listed : (g : Graph) (r l x : ℤ) {old new : List ℤ} {n : ℕ} → Appended (arrivalRows maxChain g r l x) old new 0 n
-    → displacedOf new n ≡ map bitRecord (map (λ b. b -ℤ firstBit (node g l)) (arrivals maxChain g r l x))
+arrivals-listed : (kind : WalkKind) (g : Graph) (r l x : ℤ) {old new : List ℤ} {n : ℕ} → Appended (arrivalRows kind maxChain g r l x) old new 0 n
+    → displacedOf new n ≡ map bitRecord (map (λ b. b -ℤ firstBit (node g l)) (arrivals kind maxChain g r l x))
 unfolding arrivalRows
-arrivals-listed g r l x a =
+arrivals-listed kind g r l x a =
     let bit : ℤ → ℤ = λ b. b -ℤ firstBit (node g l) in
-    ap (map ofDisplacement) (append-rows a) ∙ map-map ofDisplacement (arrivalRow (node g l)) (arrivals maxChain g r l x) ∙ sym (map-map bitRecord bit (arrivals maxChain g r l x))
+    ap (map ofDisplacement) (append-rows a) ∙ map-map ofDisplacement (arrivalRow (node g l)) (arrivals kind maxChain g r l x) ∙ sym (map-map bitRecord bit (arrivals kind maxChain g r l x))
+
+-- the bitmapping list of a root that is closed to the kind is empty: no walk may stand there, so that every run is empty
+pub closed-none : (kind : WalkKind) (g : Graph) (r l : ℤ) → false ≡ isOpen kind (node g r) → listOf kind g r l ≡ []
+unfolding listOf runs paths runsFrom normal
+closed-none kind g r l e =
+    let all = whole kind (node g r) in
+    ap (λ s. normal (map (recordOf (node g l)) s)) (runs-empty kind maxChain g r l all (whole-closed kind (node g r) e))
 
 module _ {ns es : List ℤ} {root leaf : ℕ} {counts : List ℕ} {work : List ℤ} (p : Ready ns es root leaf counts work) where
   -- the edges can be linked
@@ -78,44 +89,44 @@ module _ {ns es : List ℤ} {root leaf : ℕ} {counts : List ℕ} {work : List �
     rows-written a = (omega (arith, rows-room, a .count, append-length rows-room a), omega (arith, few, p .few, a .count))
 
   -- there is room for the rows of the runs
-  pub runs-room : rowWidth * (0 + length (runRows maxChain (graphOf ns es) (pos root) (pos leaf) (whole (node (graphOf ns es) (pos root))))) ≤ length work
-  runs-room =
+  pub runs-room : (kind : WalkKind) → rowWidth * (0 + length (runRows kind maxChain (graphOf ns es) (pos root) (pos leaf) (whole kind (node (graphOf ns es) (pos root))))) ≤ length work
+  runs-room kind =
       let g = graphOf ns es in
-      let all = whole (node g (pos root)) in
-      rows-room (runRows maxChain g (pos root) (pos leaf) all) (runRows-within-paths maxChain g (pos root) (pos leaf) all)
+      let all = whole kind (node g (pos root)) in
+      rows-room (runRows kind maxChain g (pos root) (pos leaf) all) (runRows-within-paths kind maxChain g (pos root) (pos leaf) all)
 
   -- and for those of the arrivals
-  pub arrivals-room : (x : ℤ) → rowWidth * (0 + length (arrivalRows maxChain (graphOf ns es) (pos root) (pos leaf) x)) ≤ length work
-  arrivals-room x =
+  pub arrivals-room : (kind : WalkKind) (x : ℤ) → rowWidth * (0 + length (arrivalRows kind maxChain (graphOf ns es) (pos root) (pos leaf) x)) ≤ length work
+  arrivals-room kind x =
       let g = graphOf ns es in
-      rows-room (arrivalRows maxChain g (pos root) (pos leaf) x) (arrivalRows-within-paths maxChain g (pos root) (pos leaf) x)
+      rows-room (arrivalRows kind maxChain g (pos root) (pos leaf) x) (arrivalRows-within-paths kind maxChain g (pos root) (pos leaf) x)
 
   module _ {new : List ℤ} {n : ℕ} where
-    module _ (a : Appended (runRows maxChain (graphOf ns es) (pos root) (pos leaf) (whole (node (graphOf ns es) (pos root)))) work new 0 n) where
+    module _ (kind : WalkKind) (a : Appended (runRows kind maxChain (graphOf ns es) (pos root) (pos leaf) (whole kind (node (graphOf ns es) (pos root)))) work new 0 n) where
       -- the rows of the runs can be normalised
       pub runs-normalisable : (rowWidth * n ≤ length new) × (rowWidth * n ≤ rowWidth * maxPaths) × AllSmallLast (displacedOf new n)
       runs-normalisable =
           let g = graphOf ns es in
-          let all = whole (node g (pos root)) in
-          let room = rows-written (runRows maxChain g (pos root) (pos leaf) all) (runRows-within-paths maxChain g (pos root) (pos leaf) all) a in
-          (room .0, room .1, subst AllSmallLast (sym (records-listed ns es (pos root) (pos leaf) a)) (runs-small (pos leaf) (p .tables .graph) (p .row)))
+          let all = whole kind (node g (pos root)) in
+          let room = rows-written (runRows kind maxChain g (pos root) (pos leaf) all) (runRows-within-paths kind maxChain g (pos root) (pos leaf) all) a in
+          (room .0, room .1, subst AllSmallLast (sym (records-listed kind ns es (pos root) (pos leaf) a)) (runs-small kind (pos leaf) (p .tables .graph) (p .row)))
 
       -- and give the bitmapping list
-      pub runs-normal : normal (displacedOf new n) ≡ listOf (graphOf ns es) (pos root) (pos leaf)
+      pub runs-normal : normal (displacedOf new n) ≡ listOf kind (graphOf ns es) (pos root) (pos leaf)
       unfolding listOf
-      runs-normal = ap normal (records-listed ns es (pos root) (pos leaf) a)
+      runs-normal = ap normal (records-listed kind ns es (pos root) (pos leaf) a)
 
-    module _ (x : ℤ) (a : Appended (arrivalRows maxChain (graphOf ns es) (pos root) (pos leaf) x) work new 0 n) where
+    module _ (kind : WalkKind) (x : ℤ) (a : Appended (arrivalRows kind maxChain (graphOf ns es) (pos root) (pos leaf) x) work new 0 n) where
       -- so can those of the arrivals
       pub arrivals-normalisable : (rowWidth * n ≤ length new) × (rowWidth * n ≤ rowWidth * maxPaths) × AllSmallLast (displacedOf new n)
       arrivals-normalisable =
           let g = graphOf ns es in
-          let room = rows-written (arrivalRows maxChain g (pos root) (pos leaf) x) (arrivalRows-within-paths maxChain g (pos root) (pos leaf) x) a in
-          (room .0, room .1, rw (arrivals-listed g (pos root) (pos leaf) x a) (bits-small (map (λ b. b -ℤ firstBit (node g (pos leaf))) (arrivals maxChain g (pos root) (pos leaf) x))))
+          let room = rows-written (arrivalRows kind maxChain g (pos root) (pos leaf) x) (arrivalRows-within-paths kind maxChain g (pos root) (pos leaf) x) a in
+          (room .0, room .1, rw (arrivals-listed kind g (pos root) (pos leaf) x a) (bits-small (map (λ b. b -ℤ firstBit (node g (pos leaf))) (arrivals kind maxChain g (pos root) (pos leaf) x))))
 
       -- and give the leaf bits
-      pub arrivals-normal : normal (displacedOf new n) ≡ map bitRecord (leafBits (graphOf ns es) (pos root) (pos leaf) x)
+      pub arrivals-normal : normal (displacedOf new n) ≡ map bitRecord (leafBits kind (graphOf ns es) (pos root) (pos leaf) x)
       unfolding leafBits
       arrivals-normal =
           let g = graphOf ns es in
-          ap normal (arrivals-listed g (pos root) (pos leaf) x a) ∙ bits-normal (map (λ b. b -ℤ firstBit (node g (pos leaf))) (arrivals maxChain g (pos root) (pos leaf) x))
+          ap normal (arrivals-listed kind g (pos root) (pos leaf) x a) ∙ bits-normal (map (λ b. b -ℤ firstBit (node g (pos leaf))) (arrivals kind maxChain g (pos root) (pos leaf) x))

@@ -7,6 +7,7 @@ use Prim.Native.Nat.{ℕ, _+_, _*_, _≤_}
 use lib.IntN.{ℤ, pos, _-ℤ_}
 use lib.ListN.{length, take, drop}
 use Rattle.lists.specs.Lists.{keep}
+use Rattle.model.specs.declared.WalkKind.{WalkKind}
 use Rattle.model.specs.Limits.{maxPaths}
 use Rattle.model.specs.Rows.{Node}
 use Rattle.model.specs.Graph.{Graph, graphOf, NodeRow, node, firstBit}
@@ -56,9 +57,9 @@ pub record Appended (rows : List Row) (old new : List ℤ) (n r : ℕ) : Type 0 
 abbrev pub runRow : Node → Run → Row
 runRow leaf r = byDisplacement (recordOf leaf r)
 
--- the rows of the runs along all paths over at most k edges from v to the leaf l, from run r at v, but for the empty ones
-unfoldable pub runRows : ℕ → Graph → ℤ → ℤ → Run → List Row
-runRows k g v l r = map (runRow (node g l)) (keep (λ s. not (empty s)) (map (λ p. along g p r) (pathsWithin k g v l)))
+-- the rows of the runs along all paths over at most k edges from v to the leaf l, from run r at v, for walks of this kind, but for the empty ones
+unfoldable pub runRows : WalkKind → ℕ → Graph → ℤ → ℤ → Run → List Row
+runRows kind k g v l r = map (runRow (node g l)) (keep (λ s. not (empty s)) (map (λ p. along kind g p r) (pathsWithin k g v l)))
 
 -- the record of bit 0 alone, with a displacement: a list of such records is a list of distinct numbers, ascending
 abbrev pub bitRecord : ℤ → Record
@@ -68,6 +69,6 @@ bitRecord b = record { first = pos 0; last = pos 0; displacement = b }
 abbrev pub arrivalRow : Node → ℤ → Row
 arrivalRow leaf a = byDisplacement (bitRecord (a -ℤ firstBit leaf))
 
--- the rows of the bit addresses at the leaf l that a at node v becomes, over at most k edges
-unfoldable pub arrivalRows : ℕ → Graph → ℤ → ℤ → ℤ → List Row
-arrivalRows k g v l a = map (arrivalRow (node g l)) (arrivals k g v l a)
+-- the rows of the bit addresses at the leaf l that a at node v becomes by walks of this kind, over at most k edges
+unfoldable pub arrivalRows : WalkKind → ℕ → Graph → ℤ → ℤ → ℤ → List Row
+arrivalRows kind k g v l a = map (arrivalRow (node g l)) (arrivals kind k g v l a)

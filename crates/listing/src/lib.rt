@@ -1,5 +1,5 @@
-// The walk of one bit address and the listing of the runs of all paths, from a root to a leaf. Both recurse over the edges that can still reach the
-// leaf, with the remaining chain length falling at each call.
+// The walk of one bit address and the listing of the runs of all paths, from a root to a leaf, for a kind of walk. Both recurse over the edges that can
+// still reach the leaf, with the remaining chain length falling at each call.
 ghost use mathlib.Core.Path.{_≡_};
 ghost use mathlib.Core.List.{List, [], _∷_, map};
 ghost use Prim.Native.Nat.{_+_, _*_, _≤_, _<_};
@@ -19,6 +19,7 @@ use model::MAX_CHAIN;
 use model::MAX_EDGES;
 use model::MAX_NODES;
 use model::MAX_NUMBERS;
+use model::WalkKind;
 use runs::Clipped;
 use runs::Run;
 use sorting::Row;
@@ -87,8 +88,8 @@ fn edge_behind(next: &[usize], e: usize) -> usize
     link
 }
 
-// Lists the runs at the leaf of a run at node v, over at most `left` edges: a row each, behind the first n rows of `out`. Returns how many rows
-// stand there then. Goes over the linked edges alone, and over those that some bit of the run crosses.
+// Lists the runs at the leaf of a run at node v, over at most `left` edges, for walks of this kind: a row each, behind the first n rows of `out`. Returns
+// how many rows stand there then. Goes over the linked edges alone, and over those that some bit of the run crosses.
 fn list_from(
     nodes: &[i64],
     edges: &[i64],
@@ -98,6 +99,7 @@ fn list_from(
     v: usize,
     run: Run,
     left: usize,
+    kind: WalkKind,
     out: &mut [i64],
     n: usize,
 ) -> usize
@@ -105,9 +107,9 @@ fn list_from(
         LinkedTo (now nodes) (now edges) leaf (now head) (now next)
         × NodeRow (graphOf (now nodes) (now edges)) (pos v)
         × SmallRun (runOf run)
-        × (rowWidth * (n + length (runRows left (graphOf (now nodes) (now edges)) (pos v) (pos leaf) (runOf run))) ≤ length (now out)) ⌝ }
+        × (rowWidth * (n + length (runRows kind left (graphOf (now nodes) (now edges)) (pos v) (pos leaf) (runOf run))) ≤ length (now out)) ⌝ }
     ensures { λ r. ⌜
-        Appended (runRows left (graphOf (now (nodes .entry)) (now (edges .entry))) (pos v) (pos leaf) (runOf run))
+        Appended (runRows kind left (graphOf (now (nodes .entry)) (now (edges .entry))) (pos v) (pos leaf) (runOf run))
         (now (out .entry)) (now (out .exit)) n r ⌝ }
 {
     if v == leaf {
@@ -119,7 +121,7 @@ fn list_from(
     let mut m = n;
     let mut e = head[v];
     while e < edges.len() / EDGE_WIDTH {
-        let crossed = steps::step(nodes, edges, e, run);
+        let crossed = steps::step(nodes, edges, e, run, kind);
         if let Clipped::Left(entered) = crossed {
             let to = tables::edge_to(edges, e);
             m = list_from(
@@ -131,6 +133,7 @@ fn list_from(
                 to,
                 entered,
                 left - 1,
+                kind,
                 out,
                 m,
             );
@@ -140,8 +143,8 @@ fn list_from(
     m
 }
 
-// Walks bit address a at node v to the leaf, over at most `left` edges: a row for each arrival, its leaf bit and 0 twice, behind the first n rows
-// of `out`. Returns how many rows stand there then. From an address outside the node there is none. Over an edge an address goes as a run does: moved by the bit
+// Walks bit address a at node v to the leaf by walks of this kind, over at most `left` edges: a row for each arrival, its leaf bit and 0 twice, behind the first n rows
+// of `out`. Returns how many rows stand there then. Where a walk may not stand on the node there is none. Over an edge an address goes as a run does: moved by the bit
 // offset, and then it stands on the node entered or ends.
 fn walk_from(
     nodes: &[i64],
@@ -152,18 +155,19 @@ fn walk_from(
     v: usize,
     a: Bits,
     left: usize,
+    kind: WalkKind,
     out: &mut [i64],
     n: usize,
 ) -> usize
     requires { ⌜
         LinkedTo (now nodes) (now edges) leaf (now head) (now next)
         × NodeRow (graphOf (now nodes) (now edges)) (pos v)
-        × (rowWidth * (n + length (arrivalRows left (graphOf (now nodes) (now edges)) (pos v) (pos leaf) (a .0))) ≤ length (now out)) ⌝ }
+        × (rowWidth * (n + length (arrivalRows kind left (graphOf (now nodes) (now edges)) (pos v) (pos leaf) (a .0))) ≤ length (now out)) ⌝ }
     ensures { λ r. ⌜
-        Appended (arrivalRows left (graphOf (now (nodes .entry)) (now (edges .entry))) (pos v) (pos leaf) (a .0))
+        Appended (arrivalRows kind left (graphOf (now (nodes .entry)) (now (edges .entry))) (pos v) (pos leaf) (a .0))
         (now (out .entry)) (now (out .exit)) n r ⌝ }
 {
-    if !extents::stands(nodes, v, a) {
+    if !extents::stands(nodes, v, a, kind) {
         return n;
     }
     if v == leaf {
@@ -177,37 +181,66 @@ fn walk_from(
     while e < edges.len() / EDGE_WIDTH {
         let to = tables::edge_to(edges, e);
         let moved = extents::moved(nodes, edges, e, a);
-        m = walk_from(nodes, edges, head, next, leaf, to, moved, left - 1, out, m);
+        m = walk_from(
+            nodes,
+            edges,
+            head,
+            next,
+            leaf,
+            to,
+            moved,
+            left - 1,
+            kind,
+            out,
+            m,
+        );
         e = edge_behind(next, e);
     }
     m
 }
 
-// Lists the bitmapping list of a root and a leaf, in n log n steps for n paths, each of at most MAX_CHAIN edges: its records stand in front of
-// `work`, first, last and displacement of each. Returns how many they are. What stands behind them is space that was worked in.
+// Lists the bitmapping list of a root and a leaf for walks of this kind, in n log n steps for n paths, each of at most MAX_CHAIN edges: its records stand
+// in front of `work`, first, last and displacement of each. Returns how many they are: none where the root is closed to the kind. What stands behind them is space that was worked in.
 pub fn list_pair(
     nodes: &[i64],
     edges: &[i64],
     root: usize,
     leaf: usize,
+    kind: WalkKind,
     counts: &[usize],
     work: &mut [i64],
 ) -> usize
     requires { ⌜ Ready (now nodes) (now edges) root leaf (now counts) (now work) ⌝ }
-    ensures { λ r. ⌜ r ≡ length (listOf (graphOf (now (nodes .entry)) (now (edges .entry))) (pos root) (pos leaf)) ⌝ }
-    ensures { λ r. ⌜ take (rowWidth * r) (now (work .exit)) ≡ numbersOf (listOf (graphOf (now (nodes .entry)) (now (edges .entry))) (pos root) (pos leaf)) ⌝ }
+    ensures { λ r. ⌜ r ≡ length (listOf kind (graphOf (now (nodes .entry)) (now (edges .entry))) (pos root) (pos leaf)) ⌝ }
+    ensures { λ r. ⌜ take (rowWidth * r) (now (work .exit)) ≡ numbersOf (listOf kind (graphOf (now (nodes .entry)) (now (edges .entry))) (pos root) (pos leaf)) ⌝ }
 {
+    let root_open = extents::is_open(nodes, root, kind);
+    if !root_open {
+        return 0;
+    }
     let mut head = [0usize; MAX_NODES];
     let mut next = [0usize; MAX_EDGES];
     let mut spare = [0i64; MAX_NUMBERS];
     reach::link_edges(nodes, edges, counts, &mut head, &mut next);
     let run = extents::whole(nodes, root);
     let left = MAX_CHAIN;
-    let n = list_from(nodes, edges, &head, &next, leaf, root, run, left, work, 0);
+    let n = list_from(
+        nodes,
+        edges,
+        &head,
+        &next,
+        leaf,
+        root,
+        run,
+        left,
+        kind,
+        work,
+        0,
+    );
     normalisation::normalise(work, n, &mut spare)
 }
 
-// Walks a bit address from a root to a leaf: the distinct leaf bits, ascending, stand in front of `work`, each as the displacement of a record of
+// Walks a bit address from a root to a leaf by walks of this kind: the distinct leaf bits, ascending, stand in front of `work`, each as the displacement of a record of
 // bit 0. Returns how many they are. What stands behind them is space that was worked in.
 pub fn walk_pair(
     nodes: &[i64],
@@ -215,14 +248,15 @@ pub fn walk_pair(
     root: usize,
     leaf: usize,
     address: i64,
+    kind: WalkKind,
     counts: &[usize],
     work: &mut [i64],
 ) -> usize
     requires { ⌜ Ready (now nodes) (now edges) root leaf (now counts) (now work) ⌝ }
-    ensures { λ r. ⌜ r ≡ length (leafBits (graphOf (now (nodes .entry)) (now (edges .entry))) (pos root) (pos leaf) address) ⌝ }
+    ensures { λ r. ⌜ r ≡ length (leafBits kind (graphOf (now (nodes .entry)) (now (edges .entry))) (pos root) (pos leaf) address) ⌝ }
     ensures { λ r. ⌜
         take (rowWidth * r) (now (work .exit))
-        ≡ numbersOf (map bitRecord (leafBits (graphOf (now (nodes .entry)) (now (edges .entry))) (pos root) (pos leaf) address)) ⌝ }
+        ≡ numbersOf (map bitRecord (leafBits kind (graphOf (now (nodes .entry)) (now (edges .entry))) (pos root) (pos leaf) address)) ⌝ }
 {
     let mut head = [0usize; MAX_NODES];
     let mut next = [0usize; MAX_EDGES];
@@ -237,6 +271,7 @@ pub fn walk_pair(
         root,
         Bits::of(address),
         MAX_CHAIN,
+        kind,
         work,
         0,
     );

@@ -40,7 +40,7 @@ file-several fileTable.Nodes = omega arith
 file-several fileTable.Edges = omega arith
 file-several fileTable.Pairs = omega arith
 
--- and at most 5, optional ones among them
+-- and at most 6, optional ones among them
 pub file-few : (f : FileTable) → length (allNames (tableOf f)) ≤ maxNames
 unfolding nodeTable edgeTable pairTable
 file-few fileTable.Nodes = omega arith

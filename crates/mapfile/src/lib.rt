@@ -37,7 +37,7 @@ enum FileTable {
     Pairs,
 }
 
-// The columns of the names of the node table, in a names line with so many fields.
+// The columns of the names of the node table, in a names line with so many fields, which may lack `access`.
 fn node_columns(text: &[u8], from: usize, fields: usize) -> Columns
     requires { ⌜ (from ≤ length (now text)) × (fields ≡ length (lineFields (now text) from)) ⌝ }
     ensures { λ r. ⌜ ColumnsGiven nodeTable (firstLine (drop from (now (text .entry)))) r ⌝ }
@@ -47,7 +47,8 @@ fn node_columns(text: &[u8], from: usize, fields: usize) -> Columns
     let cs = columns::with_name(cs, text, from, b"kind");
     let cs = columns::with_name(cs, text, from, b"base");
     let cs = columns::with_name(cs, text, from, b"range");
-    columns::with_name(cs, text, from, b"unit")
+    let cs = columns::with_name(cs, text, from, b"unit");
+    columns::with_optional(cs, text, from, b"access")
 }
 
 // The columns of the names of the edge table.

@@ -10,6 +10,7 @@ use lib.ListN.{length, length-map}
 use Rattle.integers.proofs.Linear.{ints}
 use Rattle.lists.specs.Lists.{_∈_, keep}
 use Rattle.lists.proofs.Kept.{keep-length}
+use Rattle.model.specs.declared.WalkKind.{WalkKind}
 use Rattle.model.specs.Limits.{lastAddress, maxPaths}
 use Rattle.model.specs.Graph.{Graph, NodeRow, node}
 use Rattle.model.specs.Paths.{Leaf}
@@ -42,36 +43,36 @@ list-small list within s m =
     record { low = bit (s .first) (omega (arith, ints)) full .0; full = full; high = omega (arith, ints, bit (s .last) full (omega (arith, ints)) .1) }
 
 -- a bitmapping list has at most as many records as there are paths
-pub list-few : (g : Graph) (r l : ℤ) → length (listOf g r l) ≤ length (paths g r l)
+pub list-few : (kind : WalkKind) (g : Graph) (r l : ℤ) → length (listOf kind g r l) ≤ length (paths g r l)
 unfolding listOf runs
-list-few g r l =
-    let all = map (λ p. along g p (whole (node g r))) (paths g r l) in
+list-few kind g r l =
+    let all = map (λ p. along kind g p (whole kind (node g r))) (paths g r l) in
     let kept = keep (λ s. not (empty s)) all in
     omega (
       arith,
       normal-length (map (recordOf (node g l)) kept),
       length-map kept (recordOf (node g l)),
       keep-length (λ s. not (empty s)) all,
-      length-map (paths g r l) (λ p. along g p (whole (node g r))),
+      length-map (paths g r l) (λ p. along kind g p (whole kind (node g r))),
     )
 
-module _ {g : Graph} {r : ℤ} (k : Taken g) (root : NodeRow g r) where
+module _ (kind : WalkKind) {g : Graph} {r : ℤ} (k : Taken g) (root : NodeRow g r) where
   -- the bitmapping list of a leaf
-  pub leaf-list : {l : ℤ} → Leaf g l → length (paths g r l) ≤ maxPaths → PairList (listOf g r l)
+  pub leaf-list : {l : ℤ} → Leaf g l → length (paths g r l) ≤ maxPaths → PairList (listOf kind g r l)
   leaf-list {l} leaf few =
       let list = list-of-reached (taken-fit k leaf) in
       record {
         normal = list-normal list;
         small = list-small list (λ x y w. taken-address k root (reached-address w));
-        few = omega (arith, list-few g r l, few);
+        few = omega (arith, list-few kind g r l, few);
       }
 
   -- the list of a group
-  pub group-pair-list : (bs : List Bank) → ((b : Bank) → b ∈ bs → Leaf g (b .leaf)) → groupPaths g r bs ≤ maxPaths → PairList (groupList g r bs)
+  pub group-pair-list : (bs : List Bank) → ((b : Bank) → b ∈ bs → Leaf g (b .leaf)) → groupPaths g r bs ≤ maxPaths → PairList (groupList kind g r bs)
   group-pair-list bs leaves few =
       let list = group-list bs (λ b m. taken-fit k (leaves b m)) in
       record {
         normal = list-normal list;
         small = list-small list (λ x y (b, m, w). taken-address k root (reached-address (w .reached)));
-        few = omega (arith, group-list-few g r bs, few);
+        few = omega (arith, group-list-few kind g r bs, few);
       }

@@ -10,6 +10,7 @@ use borrow.Rule.Slice.PartMut.{midOf, putMid, same-len-mid, take-put}
 use Rattle.integers.proofs.Linear.{ints}
 use Rattle.lists.specs.Lists.{_∈_}
 use Rattle.lists.proofs.Membership.{map-in}
+use Rattle.model.specs.declared.WalkKind.{WalkKind}
 use Rattle.model.specs.Limits.{pairWidth, maxPairs, maxPaths}
 use Rattle.model.specs.Rows.{Pair, pairRows}
 use Rattle.model.specs.Graph.{Graph, graphOf}
@@ -17,7 +18,7 @@ use Rattle.model.specs.Paths.{Root, Leaf, Way, stay}
 use Rattle.model.specs.Bitmapping.{Record}
 use Rattle.model.specs.Runs.{paths, listOf}
 use Rattle.model.specs.Groups.{Bank, groupList, groupPaths}
-use Rattle.model.specs.Compare.{Tables, specGraph, implGraph, rootRows, leafRows, banks, groups}
+use Rattle.model.specs.Compare.{Tables, specGraph, implGraph, rootRows, leafRows, groups}
 use Rattle.model.proofs.Visits.{visits-in}
 use Rattle.model.proofs.GroupRows.{group-leaf, bank-out}
 use Rattle.tables.specs.Tables.{pairAt}
@@ -48,7 +49,7 @@ root-number {r = r} top = pos-natAbs r (yes-nonNeg (top .row .low))
 
 -- ---- the two lists of a pair
 
-module _ {t : Tables} {i j : ℕ} {sp mp links : List ℕ} {ss ms e : List ℤ} (k : PairReady t i sp mp links ss ms e) {group : ℕ} (h : group < groupCount links)
+module _ {kind : WalkKind} {t : Tables} {i j : ℕ} {sp mp links : List ℕ} {ss ms e : List ℤ} (k : PairReady kind t i sp mp links ss ms e) {group : ℕ} (h : group < groupCount links)
     (lowest : j ≡ groupRow links group) where
   -- the root row is there
   row-in : pairAt (t .rootPairs) i ∈ rootRows t
@@ -76,25 +77,29 @@ module _ {t : Tables} {i j : ℕ} {sp mp links : List ℕ} {ss ms e : List ℤ} 
 
   -- the list of the specification leaf, and that of the group
   abbrev pub specList : List Record
-  specList = listOf (specGraph t) (pairAt (t .rootPairs) i .spec) (pairAt (t .leafPairs) j .spec)
+  specList = listOf kind (specGraph t) (pairAt (t .rootPairs) i .spec) (pairAt (t .leafPairs) j .spec)
 
   abbrev pub implList : List Record
-  implList = groupList (implGraph t) (pairAt (t .rootPairs) i .impl) (banksAt (t .leafPairs) j)
+  implList = groupList kind (implGraph t) (pairAt (t .rootPairs) i .impl) (banksAt (t .leafPairs) j)
 
   pub spec-list : PairList specList
-  spec-list = leaf-list (k .ready .plans .inputs .spec .graph) (roots .0 .row) spec-leaf (few .0)
+  spec-list = leaf-list kind (k .ready .plans .inputs .spec .graph) (roots .0 .row) spec-leaf (few .0)
+
+  -- each bank of the group is a leaf
+  bank-leaf : (b : Bank) → b ∈ banksAt (t .leafPairs) j → Leaf (implGraph t) (b .leaf)
+  bank-leaf b m =
+      let (p, n, s, q) = bank-out t (pairAt (t .leafPairs) j) m in
+      subst (Leaf (implGraph t)) (sym (ap (λ (c : Bank). c .leaf) q)) (k .ready .plans .inputs .leaves p n .1)
 
   pub impl-list : PairList implList
-  impl-list =
-      group-pair-list (k .ready .plans .inputs .impl .graph) (roots .1 .row) (banksAt (t .leafPairs) j) (λ b m.
-      let (p, n, s, q) = bank-out t (pairAt (t .leafPairs) j) m in
-      subst (Leaf (implGraph t)) (sym (ap (λ (c : Bank). c .leaf) q)) (k .ready .plans .inputs .leaves p n .1)) (few .1)
+  impl-list = group-pair-list kind (k .ready .plans .inputs .impl .graph) (roots .1 .row) (banksAt (t .leafPairs) j) bank-leaf (few .1)
 
   -- each can be asked
   pub spec-askable : {v : ℕ} → pos v ≡ pairAt (t .leafPairs) j .spec → Askable (t .specNodes) (t .specEdges) sp v ss e
   unfolding pathCount
   spec-askable is =
       record {
+        kind = kind;
         root = natAbs (pairAt (t .rootPairs) i .spec);
         state = k .spec;
         block = rw is spec-leaf;
@@ -107,6 +112,7 @@ module _ {t : Tables} {i j : ℕ} {sp mp links : List ℕ} {ss ms e : List ℤ} 
   impl-askable same =
       let inputs = k .ready .plans .inputs in
       record {
+        kind = kind;
         root = natAbs (pairAt (t .rootPairs) i .impl);
         state = k .impl;
         linked = k .ready .plans .linked;
@@ -125,13 +131,13 @@ module _ {t : Tables} {i j : ℕ} {sp mp links : List ℕ} {ss ms e : List ℤ} 
 
   -- and then they are answered
   pub spec-answered : {v : ℕ} → pos v ≡ pairAt (t .leafPairs) j .spec → {s : List ℤ} {p : ListRows}
-      → Answered (t .specNodes) (t .specEdges) sp (natAbs (pairAt (t .rootPairs) i .spec)) v s p
-      → ListAnswered (t .specNodes) (t .specEdges) sp (natAbs (pairAt (t .rootPairs) i .spec)) specList s p
+      → Answered kind (t .specNodes) (t .specEdges) sp (natAbs (pairAt (t .rootPairs) i .spec)) v s p
+      → ListAnswered kind (t .specNodes) (t .specEdges) sp (natAbs (pairAt (t .rootPairs) i .spec)) specList s p
   spec-answered is a = rw (is, root-number (roots .0)) at a
 
   pub impl-answered : {s : List ℤ} {p : ListRows}
-      → GroupAnswered (t .implNodes) (t .implEdges) mp (natAbs (pairAt (t .rootPairs) i .impl)) (banksAt (t .leafPairs) j) s p
-      → ListAnswered (t .implNodes) (t .implEdges) mp (natAbs (pairAt (t .rootPairs) i .impl)) implList s p
+      → GroupAnswered kind (t .implNodes) (t .implEdges) mp (natAbs (pairAt (t .rootPairs) i .impl)) (banksAt (t .leafPairs) j) s p
+      → ListAnswered kind (t .implNodes) (t .implEdges) mp (natAbs (pairAt (t .rootPairs) i .impl)) implList s p
   impl-answered a = rw (root-number (roots .1)) at a
 
 -- ---- one list in its state
@@ -140,7 +146,7 @@ module _ {t : Tables} {i j : ℕ} {sp mp links : List ℕ} {ss ms e : List ℤ} 
 abbrev pub fromRow : ℕ → List ℤ → List ℤ
 fromRow u s = midOf (rowWidth * u) (length s - rowWidth * u) s
 
-module _ {ns es : List ℤ} {plan : List ℕ} {root : ℕ} {l : List Record} (k : PairList l) {s : List ℤ} {p : ListRows} (a : ListAnswered ns es plan root l s p) where
+module _ {kind : WalkKind} {ns es : List ℤ} {plan : List ℕ} {root : ℕ} {l : List Record} (k : PairList l) {s : List ℤ} {p : ListRows} (a : ListAnswered kind ns es plan root l s p) where
   -- its records are its rows
   pub side-rows : displacedOf (fromRow (p .row) s) (p .count) ≡ sortedByDisplacement l
   side-rows = rw (part-lent (rowWidth * p .row) s) (a .rows)
@@ -159,7 +165,7 @@ module _ {ns es : List ℤ} {plan : List ℕ} {root : ℕ} {l : List Record} (k 
 
   -- whatever is written in their place, the graph is swept as before
   pub side-swept : (new : List ℤ) → length new ≡ length (fromRow (p .row) s)
-      → Swept ns es plan root (putMid (rowWidth * p .row) (length s - rowWidth * p .row) s new)
+      → Swept kind ns es plan root (putMid (rowWidth * p .row) (length s - rowWidth * p .row) s new)
   side-swept new q =
       let u = rowWidth * p .row in
       a .free (putMid u (length s - u) s new) (same-len-mid u (length s - u) s new q) (take-put u (length s - u) s new (omega (arith, a .within)))

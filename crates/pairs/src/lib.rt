@@ -1,15 +1,17 @@
-// One pair of a comparison: the list of its specification leaf and that of its group are asked of two graphs that are swept from its roots, and are judged.
+// One pair of a comparison for a kind of walk: the list of its specification leaf and that of its group are asked of two graphs that are swept for the kind from its
+// roots, and are judged.
 ghost use Rattle.pairing.specs.Pairs.{tablesOf};
 ghost use Rattle.pairs.specs.Found.{Findable, FoundAnyRoot};
 use groups::list_at;
 use groups::list_group;
 use judging::judge;
 use pairing::spec_node;
+use reporting::Lengths;
 use sorting::ROW_WIDTH;
 use totals::Found;
 
-// What is found of one pair, once both graphs are swept from the roots of its root row: the list of the specification leaf and that of the group of
-// `leaf_row`, its lowest, are asked, and the two are judged; where `asked` and the lists are not equal the lowest address at which they differ is looked for, else it is -1. What stands in `spare` afterwards is space that was
+// What is found of one pair for the kind of walk that both graphs are swept for, from the roots of its root row: the list of the specification leaf and that of the group of
+// `leaf_row`, its lowest, are asked, and the two are judged; where `asked` the lowest address at which they differ is looked for. What stands in `spare` afterwards is space that was
 // worked in.
 pub fn pair_found(
     spec_nodes: &[i64],
@@ -68,8 +70,10 @@ pub fn pair_found(
     let verdict = judged.verdict;
     Found {
         verdict: verdict,
-        spec: spec.count,
-        implementation: implementation.count,
+        lengths: Lengths {
+            spec: spec.count,
+            implementation: implementation.count,
+        },
         address: judged.address,
     }
 }

@@ -10,6 +10,7 @@ use lib.IntN.{ℤ}
 use lib.ListN.{length, take, drop, length-map}
 use lib.Seq.{length-take-le}
 use Rattle.integers.proofs.Tests.{Test, passed, failed, ltb?}
+use Rattle.model.specs.declared.WalkKind.{WalkKind}
 use Rattle.model.specs.Limits.{recordWidth, maxPaths}
 use Rattle.model.specs.Graph.{graphOf}
 use Rattle.model.specs.Bitmapping.{Record}
@@ -62,14 +63,14 @@ lent-within room = go (ltb room maxPaths) (ltb? room maxPaths)
 
 -- ---- the answer
 
-module _ (ns es : List ℤ) (r l : ℤ) where
+module _ (kind : WalkKind) (ns es : List ℤ) (r l : ℤ) where
   -- where list gives records, they are no more than a list can have, and their numbers fit
-  pub given-fit : (room : ℕ) (records : List Record) → listAnswer ns es r l room ≡ full records → (length records ≤ maxPaths) × (recordWidth * length records ≤ room)
+  pub given-fit : (room : ℕ) (records : List Record) → listAnswer kind ns es r l room ≡ full records → (length records ≤ maxPaths) × (recordWidth * length records ≤ room)
   unfolding listAnswer
-  given-fit room records e = (omega (arith, ap length (given .1), list-few ns es r l (given .0)), fit (ltb room size) (ltb? room size))
+  given-fit room records e = (omega (arith, ap length (given .1), list-few kind ns es r l (given .0)), fit (ltb room size) (ltb? room size))
     where
       all : List Record
-      all = listOf (graphOf ns es) r l
+      all = listOf kind (graphOf ns es) r l
 
       size : ℕ
       size = length (numbersOf all)
@@ -84,26 +85,26 @@ module _ (ns es : List ℤ) (r l : ℤ) where
       fit false (failed k) = omega (arith, ap length (given .1), numbers-length all)
 
   -- more room than the longest list needs changes nothing
-  pub answer-lent : (room : ℕ) → listAnswer ns es r l (recordWidth * room) ≡ listAnswer ns es r l (lentNumbers room)
+  pub answer-lent : (room : ℕ) → listAnswer kind ns es r l (recordWidth * room) ≡ listAnswer kind ns es r l (lentNumbers room)
   unfolding listAnswer answer
   answer-lent room = go (ltb room maxPaths) (ltb? room maxPaths)
     where
       all : List Record
-      all = listOf (graphOf ns es) r l
+      all = listOf kind (graphOf ns es) r l
 
       size : ℕ
       size = length (numbersOf all)
 
-      many : maxPaths ≤ room → (c : Option Refusal) → checked c ≡ checked (checkAsked ns es r l) → listAnswer ns es r l (recordWidth * room) ≡ listAnswer ns es r l (recordWidth * maxPaths)
+      many : maxPaths ≤ room → (c : Option Refusal) → checked c ≡ checked (checkAsked ns es r l) → listAnswer kind ns es r l (recordWidth * room) ≡ listAnswer kind ns es r l (recordWidth * maxPaths)
       many k none e =
-          let few = list-few ns es r l e in
+          let few = list-few kind ns es r l e in
           single-full all ns es r l size (recordWidth * room) e (omega (arith, numbers-length all))
           ∙ sym (single-full all ns es r l size (recordWidth * maxPaths) e (omega (arith, numbers-length all)))
       many k (some x) e = single-refused all ns es r l size (recordWidth * room) e ∙ sym (single-refused all ns es r l size (recordWidth * maxPaths) e)
 
-      go : (t : Bool) → Test (room < maxPaths) (maxPaths ≤ room) t → listAnswer ns es r l (recordWidth * room) ≡ listAnswer ns es r l (lentNumbers room)
-      go true (passed k) = ap (listAnswer ns es r l) (sym (lent-few k))
-      go false (failed k) = many k (checkAsked ns es r l) refl ∙ ap (listAnswer ns es r l) (sym (lent-many k))
+      go : (t : Bool) → Test (room < maxPaths) (maxPaths ≤ room) t → listAnswer kind ns es r l (recordWidth * room) ≡ listAnswer kind ns es r l (lentNumbers room)
+      go true (passed k) = ap (listAnswer kind ns es r l) (sym (lent-few k))
+      go false (failed k) = many k (checkAsked ns es r l) refl ∙ ap (listAnswer kind ns es r l) (sym (lent-many k))
 
 -- ---- how many records are written
 
@@ -117,38 +118,38 @@ count-full : (given : Written) {n : ℕ} → writtenAnswer given ≡ full n → 
 count-full (written.Count n) e = cc
 count-full (written.Refused reason) e = let z : _≡_ {A = ℕ} 0 1 = cc in absurd (omega arith)
 
-module _ (ns es : List ℤ) (r l : ℤ) (room : ℕ) where
+module _ (kind : WalkKind) (ns es : List ℤ) (r l : ℤ) (room : ℕ) where
   -- no more than a list can have, and than there is room for
-  count-fit : (given : Written) → writtenAnswer given ≡ lengthOf (listAnswer ns es r l (recordWidth * room)) → (countOf given ≤ maxPaths) × (countOf given ≤ room)
+  count-fit : (given : Written) → writtenAnswer given ≡ lengthOf (listAnswer kind ns es r l (recordWidth * room)) → (countOf given ≤ maxPaths) × (countOf given ≤ room)
   unfolding lengthOf
-  count-fit given e = go (listAnswer ns es r l (recordWidth * room)) refl
+  count-fit given e = go (listAnswer kind ns es r l (recordWidth * room)) refl
     where
-      go : (x : Answer (List Record)) → listAnswer ns es r l (recordWidth * room) ≡ x → (countOf given ≤ maxPaths) × (countOf given ≤ room)
+      go : (x : Answer (List Record)) → listAnswer kind ns es r l (recordWidth * room) ≡ x → (countOf given ≤ maxPaths) × (countOf given ≤ room)
       go (refused q) h = let none = count-refused given (e ∙ ap lengthOf h) in (omega arith, omega arith)
       go (full records) h =
           let some = count-full given (e ∙ ap lengthOf h) in
-          let fit = given-fit ns es r l (recordWidth * room) records h in
+          let fit = given-fit kind ns es r l (recordWidth * room) records h in
           (omega (arith, fit .0), omega (arith, fit .1))
 
   -- list was lent the front of the work buffer
   pub front-listed : (work worked : List ℤ) (given : Written) → length work ≡ recordWidth * maxPaths
-      → writtenAnswer given ≡ listGives ns es r l (take (lentNumbers room) work)
-      → worked ≡ listAfter ns es r l (take (lentNumbers room) work) ++ drop (lentNumbers room) work → Listed ns es r l room work given worked
+      → writtenAnswer given ≡ listGives kind ns es r l (take (lentNumbers room) work)
+      → worked ≡ listAfter kind ns es r l (take (lentNumbers room) work) ++ drop (lentNumbers room) work → Listed kind ns es r l room work given worked
   unfolding workAfter listGives
   front-listed work worked given h a b =
       let size = length-take-le (lentNumbers room) work (omega (arith, lent-within room .0)) in
-      let answer = a ∙ ap (λ n. lengthOf (listAnswer ns es r l n)) size ∙ ap lengthOf (sym (answer-lent ns es r l room)) in
+      let answer = a ∙ ap (λ n. lengthOf (listAnswer kind ns es r l n)) size ∙ ap lengthOf (sym (answer-lent kind ns es r l room)) in
       let fit = count-fit given answer in
       record { answer = answer; numbers = b; whole = h; few = fit .0; fit = fit .1 }
 
 -- ---- what the slice of structs then holds
 
-module _ (ns es : List ℤ) (r l : ℤ) (old : List Stored) (work : List ℤ) {given : Written} {worked : List ℤ}
-    (p : Listed ns es r l (length old) work given worked)
+module _ (kind : WalkKind) (ns es : List ℤ) (r l : ℤ) (old : List Stored) (work : List ℤ) {given : Written} {worked : List ℤ}
+    (p : Listed kind ns es r l (length old) work given worked)
   where
     -- the answer of list, as the promise has it
     abbrev listed : Answer (List Record)
-    listed = listAnswer ns es r l (recordWidth * length old)
+    listed = listAnswer kind ns es r l (recordWidth * length old)
 
     -- the slice with the records that the answer tells of
     abbrev pub put : List Stored
@@ -165,7 +166,7 @@ module _ (ns es : List ℤ) (r l : ℤ) (old : List Stored) (work : List ℤ) {g
     numbers-front records e =
         let k = lentNumbers (length old) in
         let size = length-take-le k work (omega (arith, p .whole, lent-within (length old) .0)) in
-        let same : listAnswer ns es r l (length (take k work)) ≡ full records = ap (listAnswer ns es r l) size ∙ sym (answer-lent ns es r l (length old)) ∙ e in
+        let same : listAnswer kind ns es r l (length (take k work)) ≡ full records = ap (listAnswer kind ns es r l) size ∙ sym (answer-lent kind ns es r l (length old)) ∙ e in
         let behind = drop (length (numbersOf records)) (take k work) in (
           behind ++ drop k work,
           p .numbers ∙ ap (λ a. bufferAfter (numbersAnswer a) (take k work) ++ drop k work) same ∙ append-assoc (numbersOf records) behind (drop k work),
@@ -184,11 +185,11 @@ module _ (ns es : List ℤ) (r l : ℤ) (old : List Stored) (work : List ℤ) {g
         ∙ ap (λ t. records ++ t) (storedRecords-drop n old)
 
     -- the room of a slice of structs is that of its records
-    slice-listed : listAnswer ns es r l (recordWidth * length (storedRecords old)) ≡ listed
+    slice-listed : listAnswer kind ns es r l (recordWidth * length (storedRecords old)) ≡ listed
     unfolding storedRecords
-    slice-listed = ap (λ n. listAnswer ns es r l (recordWidth * n)) (length-map old storedRecord)
+    slice-listed = ap (λ n. listAnswer kind ns es r l (recordWidth * n)) (length-map old storedRecord)
 
-    pub records-promise : RecordsPromise ns es r l old work given put worked
+    pub records-promise : RecordsPromise kind ns es r l old work given put worked
     unfolding recordsGives recordsAfter lengthOf bufferAfter
     records-promise =
         record {
@@ -202,7 +203,7 @@ module _ (ns es : List ℤ) (r l : ℤ) (old : List Stored) (work : List ℤ) {g
         after (refused q) e = slice-kept e ∙ sym (ap (λ a. bufferAfter a (storedRecords old)) e)
         after (full records) e = slice-written records e ∙ sym (ap (λ a. bufferAfter a (storedRecords old)) e)
 
-        stands : (n : ℕ) (x : Answer (List Record)) → listed ≡ x → lengthOf listed ≡ full n → RecordsStand (graphOf ns es) r l n (storedRecords old) (storedRecords put)
+        stands : (n : ℕ) (x : Answer (List Record)) → listed ≡ x → lengthOf listed ≡ full n → RecordsStand kind (graphOf ns es) r l n (storedRecords old) (storedRecords put)
         stands n (refused q) e k = let z : _≡_ {A = ℕ} 0 1 = cc (ap lengthOf e) in absurd (omega arith)
         stands n (full records) e k =
             let count : length records ≡ n = cc (ap lengthOf e) in
@@ -210,5 +211,5 @@ module _ (ns es : List ℤ) (r l : ℤ) (old : List Stored) (work : List ℤ) {g
               records = records;
               count = count;
               stands = slice-written records e ∙ ap (λ m. records ++ drop m (storedRecords old)) count;
-              reached = list-given ns es r l (recordWidth * length old) records e;
+              reached = list-given kind ns es r l (recordWidth * length old) records e;
             }

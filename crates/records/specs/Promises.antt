@@ -6,6 +6,7 @@ use Prim.Native.Nat.{ℕ, _*_}
 use lib.Dec.{ltb}
 use lib.IntN.{ℤ}
 use lib.ListN.{length, take, drop}
+use Rattle.model.specs.declared.WalkKind.{WalkKind}
 use Rattle.model.specs.Limits.{recordWidth, maxPaths}
 use Rattle.model.specs.Graph.{Graph, graphOf}
 use Rattle.model.specs.Bitmapping.{Record, IsBitmappingList}
@@ -26,26 +27,26 @@ storedRecords = map storedRecord
 unfoldable pub lentNumbers : ℕ → ℕ
 lentNumbers room = recordWidth * cond (ltb room maxPaths) room maxPaths
 
--- what the work buffer holds afterwards: in front what list leaves in the numbers that it is lent, and past them what it held
-unfoldable pub workAfter : List ℤ → List ℤ → ℤ → ℤ → ℕ → List ℤ → List ℤ
-workAfter ns es r l room work = listAfter ns es r l (take (lentNumbers room) work) ++ drop (lentNumbers room) work
+-- what the work buffer holds afterwards: in front what list for walks of this kind leaves in the numbers that it is lent, and past them what it held
+unfoldable pub workAfter : WalkKind → List ℤ → List ℤ → ℤ → ℤ → ℕ → List ℤ → List ℤ
+workAfter kind ns es r l room work = listAfter kind ns es r l (take (lentNumbers room) work) ++ drop (lentNumbers room) work
 
--- n records stand in front of a slice that held `old`, and they are the bitmapping list of root and leaf: the list of the reached set
-pub record RecordsStand (g : Graph) (root leaf : ℤ) (n : ℕ) (old new : List Record) : Type 0 where
+-- n records stand in front of a slice that held `old`, and they are the bitmapping list of root and leaf for walks of this kind: the list of the reached set
+pub record RecordsStand (kind : WalkKind) (g : Graph) (root leaf : ℤ) (n : ℕ) (old new : List Record) : Type 0 where
   pub records : List Record
   pub count : length records ≡ n
   pub stands : new ≡ records ++ drop n old
-  pub reached : IsBitmappingList g root leaf records
+  pub reached : IsBitmappingList kind g root leaf records
 
--- list_records, of a root and a leaf of the graph of two tables, into a slice that held `old`, with a work buffer that held `work`: what it
+-- list_records, for walks of this kind, of a root and a leaf of the graph of two tables, into a slice that held `old`, with a work buffer that held `work`: what it
 -- returns, and what the slice and the work buffer then hold
-pub record RecordsPromise (ns es : List ℤ) (root leaf : ℤ) (old : List Stored) (work : List ℤ) (given : Written) (new : List Stored)
+pub record RecordsPromise (kind : WalkKind) (ns es : List ℤ) (root leaf : ℤ) (old : List Stored) (work : List ℤ) (given : Written) (new : List Stored)
     (worked : List ℤ) : Type 0 where
   -- how many records, or a refusal
-  pub answer : writtenAnswer given ≡ recordsGives ns es root leaf (storedRecords old)
+  pub answer : writtenAnswer given ≡ recordsGives kind ns es root leaf (storedRecords old)
   -- untouched on a refusal, else the records, and past them what it held
-  pub buffer : storedRecords new ≡ recordsAfter ns es root leaf (storedRecords old)
+  pub buffer : storedRecords new ≡ recordsAfter kind ns es root leaf (storedRecords old)
   -- every number of the work buffer
-  pub numbers : worked ≡ workAfter ns es root leaf (length old) work
+  pub numbers : worked ≡ workAfter kind ns es root leaf (length old) work
   -- where it gives n records, what stands in the slice is the bitmapping list: exactly what is reached
-  pub reached : (n : ℕ) → writtenAnswer given ≡ full n → RecordsStand (graphOf ns es) root leaf n (storedRecords old) (storedRecords new)
+  pub reached : (n : ℕ) → writtenAnswer given ≡ full n → RecordsStand kind (graphOf ns es) root leaf n (storedRecords old) (storedRecords new)

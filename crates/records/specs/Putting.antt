@@ -4,6 +4,7 @@ use mathlib.Core.List.{List, map}
 use Prim.Native.Nat.{ℕ, _*_, _≤_}
 use lib.IntN.{ℤ}
 use lib.ListN.{length}
+use Rattle.model.specs.declared.WalkKind.{WalkKind}
 use Rattle.model.specs.Limits.{recordWidth, maxPaths}
 use Rattle.model.specs.Calls.{listAnswer, lengthOf}
 use Rattle.model.specs.Answers.{writtenAnswer}
@@ -31,12 +32,12 @@ abbrev pub countOf : Written → ℕ
 countOf (written.Count n) = n
 countOf (written.Refused r) = 0
 
--- the list of a root and a leaf was asked for, in a work buffer that held `work`, for a slice of so many records
-pub record Listed (ns es : List ℤ) (root leaf : ℤ) (room : ℕ) (work : List ℤ) (given : Written) (worked : List ℤ) : Type 0 where
+-- the list of a root and a leaf for walks of this kind was asked for, in a work buffer that held `work`, for a slice of so many records
+pub record Listed (kind : WalkKind) (ns es : List ℤ) (root leaf : ℤ) (room : ℕ) (work : List ℤ) (given : Written) (worked : List ℤ) : Type 0 where
   -- how many records, or a refusal
-  pub answer : writtenAnswer given ≡ lengthOf (listAnswer ns es root leaf (recordWidth * room))
+  pub answer : writtenAnswer given ≡ lengthOf (listAnswer kind ns es root leaf (recordWidth * room))
   -- every number of the work buffer, which has room for the longest list
-  pub numbers : worked ≡ workAfter ns es root leaf room work
+  pub numbers : worked ≡ workAfter kind ns es root leaf room work
   pub whole : length work ≡ recordWidth * maxPaths
   -- no more records than a list can have, and than the slice has room for
   pub few : countOf given ≤ maxPaths

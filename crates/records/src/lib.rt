@@ -1,4 +1,4 @@
-// The bitmapping list of a root and a leaf as a slice of records.
+// The bitmapping list of a root and a leaf for a kind of walk, as a slice of records.
 ghost use mathlib.Core.Path.{_≡_};
 ghost use mathlib.Core.List.{_++_};
 ghost use Prim.Native.Nat.{_≤_, _<_};
@@ -11,6 +11,7 @@ ghost use Rattle.records.specs.Putting.{recordAt, recordsIn, countOf, Li
 use model::MAX_NUMBERS;
 use model::MAX_PATHS;
 use model::RECORD_WIDTH;
+use model::WalkKind;
 use model::Written;
 
 // Places of the last bit and of the displacement in a record, behind its first bit.
@@ -49,41 +50,43 @@ fn put_records(numbers: &[i64; MAX_NUMBERS], n: usize, out: &mut [Record])
     }
 }
 
-// The list into the first `numbers` numbers of `work`.
+// The list for walks of this kind into the first `numbers` numbers of `work`.
 fn list_front(
     nodes: &[i64],
     edges: &[i64],
     root: i64,
     leaf: i64,
+    kind: WalkKind,
     numbers: usize,
     work: &mut [i64],
 ) -> Written
     requires { ⌜ numbers ≤ length (now work) ⌝ }
     ensures { λ r. ⌜
-        (writtenAnswer r ≡ listGives (now (nodes .entry)) (now (edges .entry)) root leaf (take numbers (now (work .entry))))
+        (writtenAnswer r ≡ listGives kind (now (nodes .entry)) (now (edges .entry)) root leaf (take numbers (now (work .entry))))
         × (now (work .exit)
-        ≡ listAfter (now (nodes .entry)) (now (edges .entry)) root leaf (take numbers (now (work .entry))) ++ drop numbers (now (work .entry))) ⌝ }
+        ≡ listAfter kind (now (nodes .entry)) (now (edges .entry)) root leaf (take numbers (now (work .entry))) ++ drop numbers (now (work .entry))) ⌝ }
 {
-    bitmapping::list(nodes, edges, root, leaf, &mut work[..numbers])
+    bitmapping::list(nodes, edges, root, leaf, kind, &mut work[..numbers])
 }
 
-// The list into the front of `work`: three numbers for each of `room` records, of which the longest list needs MAX_PATHS.
+// The list for walks of this kind into the front of `work`: three numbers for each of `room` records, of which the longest list needs MAX_PATHS.
 fn list_within(
     nodes: &[i64],
     edges: &[i64],
     root: i64,
     leaf: i64,
+    kind: WalkKind,
     room: usize,
     work: &mut [i64; MAX_NUMBERS],
 ) -> Written
     ensures { λ r. ⌜
-        Listed (now (nodes .entry)) (now (edges .entry)) root leaf room (now (work .entry)) r (now (work .exit)) ⌝ }
+        Listed kind (now (nodes .entry)) (now (edges .entry)) root leaf room (now (work .entry)) r (now (work .exit)) ⌝ }
 {
     let mut records = MAX_PATHS;
     if room < MAX_PATHS {
         records = room;
     }
-    list_front(nodes, edges, root, leaf, RECORD_WIDTH * records, work)
+    list_front(nodes, edges, root, leaf, kind, RECORD_WIDTH * records, work)
 }
 
 // How many records an answer tells of: none where it is a refusal.
@@ -96,21 +99,22 @@ fn count_of(given: Written) -> usize
     }
 }
 
-// The bitmapping list of a root and a leaf: its records in order in the front of `out`, and how many they are. Where the tables, root, leaf or
-// the length of `out` are not as they should be, the first refusal, with `out` untouched. The numbers of the list are made in `work`.
+// The bitmapping list of a root and a leaf for walks of this kind: its records in order in the front of `out`, and how many they are. Where the tables,
+// root, leaf or the length of `out` are not as they should be, the first refusal, with `out` untouched. The numbers of the list are made in `work`.
 pub fn list_records(
     nodes: &[i64],
     edges: &[i64],
     root: i64,
     leaf: i64,
+    kind: WalkKind,
     out: &mut [Record],
     work: &mut [i64; MAX_NUMBERS],
 ) -> Written
     ensures { λ r. ⌜
-        RecordsPromise (now (nodes .entry)) (now (edges .entry)) root leaf (now (out .entry)) (now (work .entry))
+        RecordsPromise kind (now (nodes .entry)) (now (edges .entry)) root leaf (now (out .entry)) (now (work .entry))
         r (now (out .exit)) (now (work .exit)) ⌝ }
 {
-    let given = list_within(nodes, edges, root, leaf, out.len(), work);
+    let given = list_within(nodes, edges, root, leaf, kind, out.len(), work);
     let n = count_of(given);
     put_records(work, n, out);
     given

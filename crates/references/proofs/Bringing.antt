@@ -12,16 +12,19 @@ use lib.Signed.{_≤ℤ_}
 use Rattle.integers.specs.Integers.{eqZ}
 use Rattle.integers.proofs.Linear.{ints, sum, diff, neg}
 use Rattle.integers.proofs.Tests.{is-true, is-false, and-in, and-out, eqZ→eq, eqZ-refl}
+use Rattle.model.specs.declared.WalkKind.{WalkKind}
+use Rattle.model.specs.Rows.{Node}
 use Rattle.model.specs.Graph.{Graph, graphOf, NodeRow, node, firstBit, lastBit}
-use Rattle.model.specs.Walk.{StandsOn, Walk}
-use Rattle.model.specs.Runs.{Run, InRun, Joins, empty, whole, shift, clip}
+use Rattle.model.specs.Walk.{Open, StandsOn, Walk}
+use Rattle.model.specs.Runs.{Run, InRun, Joins, Between, empty, shift, clip}
 use Rattle.model.specs.Taken.{TakenTables}
 use Rattle.model.proofs.Walks.{walk-end}
-use Rattle.model.proofs.Steps.{empty-none, shift-joins, shift-empty, shift-full, full-shift, clip-joins, whole-joins}
+use Rattle.model.proofs.Steps.{empty-none, shift-joins, shift-empty, shift-full, full-shift, clip-joins}
 use Rattle.runs.specs.declared.Clipped.{Clipped}
 use Rattle.runs.specs.Clipping.{living, livingOf, SmallRun, SmallOffset, SmallExtent}
 use Rattle.runs.proofs.Runs.{living-none, living-some, left-exact, shift-clippable, shift-last, clip-read, clip-small, clip-inside, clip-roots}
-use Rattle.extents.proofs.Bounds.{whole-small}
+use Rattle.extents.specs.Extents.{bitsOf}
+use Rattle.extents.proofs.Bounds.{bits-small}
 use Rattle.references.specs.References.{Reference, own, Brings, lastRoot, through, narrowed, NarrowedBy, shifted, isNone, unlessNone, InOwner, sameReference}
 
 -- ---- what a part takes of a run
@@ -89,9 +92,9 @@ narrowed-small {part} {r} small s t =
 -- ---- what is brought
 
 -- over an edge: what u brought to the node left, less the bit offset, and f joins to b
-pub through-brings : (g : Graph) (r o : ℤ) (f u : Reference) (x b : ℤ)
-    → Brings g r (through o f u) x b ↔ ((y : ℤ) × Joins (f .run) y b × Brings g r u x (y +ℤ o))
-through-brings g r o f u x b =
+pub through-brings : (kind : WalkKind) (g : Graph) (r o : ℤ) (f u : Reference) (x b : ℤ)
+    → Brings kind g r (through o f u) x b ↔ ((y : ℤ) × Joins (f .run) y b × Brings kind g r u x (y +ℤ o))
+through-brings kind g r o f u x b =
     let p = f .run in
     let d = p .root -ℤ p .low in
     let y = b +ℤ d in
@@ -117,21 +120,31 @@ through-brings g r o f u x b =
     )
 
 -- shifted by o, it brings with b what it brought with b + o
-pub shifted-brings : (g : Graph) (r : ℤ) (o : ℤ) (f : Reference) (x b : ℤ) → Brings g r (shifted o f) x b ↔ Brings g r f x (b +ℤ o)
-shifted-brings g r o f x b = (
+pub shifted-brings : (kind : WalkKind) (g : Graph) (r : ℤ) (o : ℤ) (f : Reference) (x b : ℤ) → Brings kind g r (shifted o f) x b ↔ Brings kind g r f x (b +ℤ o)
+shifted-brings kind g r o f x b = (
   λ h. record { at = h .at; walk = h .walk; joins = shift-joins o (f .run) (h .at) b .0 (h .joins) },
   λ h. record { at = h .at; walk = h .walk; joins = shift-joins o (f .run) (h .at) b .1 (h .joins) },
 )
 
 -- a reference that has no bit address brings nothing
-pub none-brings : (g : Graph) (r : ℤ) (f : Reference) (x b : ℤ) → T (isNone f) → Brings g r f x b → ⊥
-none-brings g r f x b t h = empty-none (f .run) b t (h .joins .inside)
+pub none-brings : (kind : WalkKind) (g : Graph) (r : ℤ) (f : Reference) (x b : ℤ) → T (isNone f) → Brings kind g r f x b → ⊥
+none-brings kind g r f x b t h = empty-none (f .run) b t (h .joins .inside)
+
+-- all bits of a node, each with itself
+pub bits-joins : (n : Node) (x b : ℤ) → Joins (bitsOf n) x b ↔ ((x ≡ b) × Between (firstBit n) (lastBit n) b)
+unfolding bitsOf
+bits-joins n x b =
+    let over = diff x (firstBit n) in
+    let under = diff b (firstBit n) in (
+      λ j. (omega (arith, ints), record { above = j .inside .above; below = j .inside .below }),
+      λ h. record { inside = record { above = h .1 .above; below = h .1 .below }; level = omega (arith, ints) },
+    )
 
 -- that to all that arrives at v brings what walks to v
-pub own-brings : (g : Graph) (r v x b : ℤ) → Brings g r (own g v) x b ↔ Walk g r x v b
-own-brings g r v x b = (
-  λ h. subst (λ (y : ℤ). Walk g r x v y) (whole-joins (node g v) (h .at) b .0 (h .joins) .0) (h .walk),
-  λ w. record { at = b; walk = w; joins = whole-joins (node g v) b b .1 (refl, walk-end w) },
+pub own-brings : (kind : WalkKind) (g : Graph) (r v x b : ℤ) → Brings kind g r (own g v) x b ↔ Walk kind g r x v b
+own-brings kind g r v x b = (
+  λ h. subst (λ (y : ℤ). Walk kind g r x v y) (bits-joins (node g v) (h .at) b .0 (h .joins) .0) (h .walk),
+  λ w. let s = walk-end w in record { at = b; walk = w; joins = bits-joins (node g v) b b .1 (refl, record { above = s .above; below = s .below }) },
 )
 
 -- ---- where references lie
@@ -146,20 +159,20 @@ joins-roots r {y} {b} j =
     let level = j .level in
     (omega (arith, ints, j .inside .above), omega (arith, ints, j .inside .below))
 
--- so those that the bits of a reference stand for are bits of the owner
-pub lying-stands : {g : Graph} {f : Reference} → InOwner g f → (y b : ℤ) → Joins (f .run) y b → StandsOn (node g (f .owner)) y
-lying-stands {f = f} l y b j =
+-- so those that the bits of a reference stand for are bits of the owner, on which a walk may stand where it is open to it
+pub lying-stands : {kind : WalkKind} {g : Graph} {f : Reference} → Open kind (node g (f .owner) .access) → InOwner g f → (y b : ℤ) → Joins (f .run) y b → StandsOn kind (node g (f .owner)) y
+lying-stands {f = f} o l y b j =
     let roots = joins-roots (f .run) j in
-    record { above = omega (arith, ints, l .above, roots .0); below = omega (arith, ints, l .below, roots .1) }
+    record { access = o; above = omega (arith, ints, l .above, roots .0); below = omega (arith, ints, l .below, roots .1) }
 
 -- all that arrives at a node lies there
 pub own-lying : {ns es : List ℤ} {v : ℤ} → TakenTables ns es → NodeRow (graphOf ns es) v → InOwner (graphOf ns es) (own (graphOf ns es) v)
-unfolding whole
+unfolding bitsOf
 own-lying {ns} {es} {v} tables row =
     let n = node (graphOf ns es) v in
     record {
       row = row;
-      small = whole-small n (tables .graph .good v row);
+      small = bits-small n (tables .graph .good v row);
       above = omega (arith, ints);
       below = omega (arith, ints, diff (lastBit n) (firstBit n), sum (firstBit n) (lastBit n -ℤ firstBit n));
     }

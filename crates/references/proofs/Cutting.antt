@@ -13,6 +13,7 @@ use Rattle.integers.proofs.Linear.{ints, sum, diff}
 use Rattle.integers.proofs.Tests.{test?, is-true, is-false}
 use Rattle.lists.specs.Lists.{_∈_}
 use Rattle.lists.proofs.Membership.{cond-out, cond-false, map-in, map-out, flatMap-in, flatMap-out}
+use Rattle.model.specs.declared.WalkKind.{WalkKind}
 use Rattle.model.specs.Graph.{Graph}
 use Rattle.model.specs.Walk.{Walk}
 use Rattle.model.specs.Bitmapping.{Record, Has}
@@ -147,9 +148,9 @@ cut-rows-few f [] = omega arith
 cut-rows-few f (s ∷ l) = omega (arith, length-append (cutRow f s) (cutRows f l), cut-row-few f s, cut-rows-few f l)
 
 -- by a list that has exactly what arrives at the owner, the rows have exactly what the reference brings
-pub cut-rows-brings : (g : Graph) (r : ℤ) (f : Reference) (l : List Record) → ((x b : ℤ) → Held l x b ↔ Walk g r x (f .owner) b) → (x b : ℤ)
-    → Held (map ofDisplacement (cutRows f l)) x b ↔ Brings g r f x b
-cut-rows-brings g r f l arrives x b = (
+pub cut-rows-brings : (kind : WalkKind) (g : Graph) (r : ℤ) (f : Reference) (l : List Record) → ((x b : ℤ) → Held l x b ↔ Walk kind g r x (f .owner) b) → (x b : ℤ)
+    → Held (map ofDisplacement (cutRows f l)) x b ↔ Brings kind g r f x b
+cut-rows-brings kind g r f l arrives x b = (
   λ (q, m, h).
       let (s, n, e, full) = cut-rows-out f l m in
       let (y, k, j) = cut-has f s x b .0 (subst (λ (z : Record). Has z x b) e h) in

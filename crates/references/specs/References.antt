@@ -8,17 +8,18 @@ use lib.Signed.{_≤ℤ_, _<ℤ_}
 use lib.ListN.{length, drop}
 use Rattle.integers.specs.Integers.{eqZ}
 use Rattle.lists.specs.Lists.{_∈_}
+use Rattle.model.specs.declared.WalkKind.{WalkKind}
 use Rattle.model.specs.Limits.{addressRoom}
 use Rattle.model.specs.Graph.{Graph, NodeRow, node, firstBit, lastBit}
 use Rattle.model.specs.Walk.{Walk}
 use Rattle.model.specs.Bitmapping.{Record}
-use Rattle.model.specs.Runs.{Run, InRun, Joins, empty, whole, shift, clip}
+use Rattle.model.specs.Runs.{Run, InRun, Joins, empty, shift, clip}
 use Rattle.sorting.specs.declared.Row.{Row}
 use Rattle.sorting.specs.Rows.{rowWidth, rowAt, Ascending}
 use Rattle.normalisation.specs.Merging.{byDisplacement, displacedOf}
 use Rattle.runs.specs.declared.Clipped.{Clipped}
 use Rattle.runs.specs.Clipping.{runOf, ExactlyOrNone, SmallRun}
-use Rattle.extents.specs.Extents.{SmallAddress}
+use Rattle.extents.specs.Extents.{SmallAddress, bitsOf}
 use Rattle.references.specs.declared.Reference.{Reference as Held}
 use Rattle.references.specs.declared.Brought.{Brought}
 use Rattle.references.specs.declared.Brought.the-variants.{Left, Nothing}
@@ -32,14 +33,14 @@ pub record Reference : Type 0 where
 abbrev pub referenceOf : Held → Reference
 referenceOf f = record { owner = pos (f .owner); run = runOf (f .run) }
 
--- all that arrives at v
+-- all that arrives at v, by walks of either kind: the bits of v are taken without regard to which walks may stand on it
 abbrev pub own : Graph → ℤ → Reference
-own g v = record { owner = v; run = whole (node g v) }
+own g v = record { owner = v; run = bitsOf (node g v) }
 
--- by the reference, root bit x arrives with bit address b: it walks to a bit address of the owner, which the run joins to b
-pub record Brings (g : Graph) (r : ℤ) (f : Reference) (x b : ℤ) : Type 0 where
+-- by the reference, root bit x arrives with bit address b: by a walk of this kind it becomes a bit address of the owner, which the run joins to b
+pub record Brings (kind : WalkKind) (g : Graph) (r : ℤ) (f : Reference) (x b : ℤ) : Type 0 where
   pub at : ℤ
-  pub walk : Walk g r x (f .owner) at
+  pub walk : Walk kind g r x (f .owner) at
   pub joins : Joins (f .run) at b
 
 -- the bit address of the owner that the highest bit of a run stands for

@@ -145,10 +145,10 @@ pub fn numbers_length(vs: &[i64]) -> usize
 
 // Writes the line of names above the pairs.
 pub fn put_heading(out: &mut [u8]) -> usize
-    requires { ⌜ length (bytes "root leaf verdict spec impl\n") ≤ length (now out) ⌝ }
-    ensures { λ r. ⌜ Put (bytes "root leaf verdict spec impl\n") (now (out .entry)) (now (out .exit)) r ⌝ }
+    requires { ⌜ length (bytes "root leaf verdict rspec rimpl wspec wimpl\n") ≤ length (now out) ⌝ }
+    ensures { λ r. ⌜ Put (bytes "root leaf verdict rspec rimpl wspec wimpl\n") (now (out .entry)) (now (out .exit)) r ⌝ }
 {
-    put_text(out, b"root leaf verdict spec impl\n")
+    put_text(out, b"root leaf verdict rspec rimpl wspec wimpl\n")
 }
 
 // Writes the empty line below the pairs and the line of names above the result.

@@ -14,26 +14,33 @@ use Rattle.model.specs.Report.{lineOf}
 use Rattle.model.specs.declared.Verdict.{Verdict}
 use Rattle.model.specs.declared.Verdict.the-variants as verdicts
 use Rattle.report.proofs.Lines.{shown-short}
-use Rattle.reporting.specs.Lines.{lengthStride, verdictStride, lineNumbers, lineOfNumber, linesOf}
+use Rattle.reporting.specs.Lines.{lengthStride, verdictStride, withLengths, withoutLengths, lineNumbers, lineOfNumber, linesOf}
 
 -- ---- one number
 
+-- two lengths that are put behind a number are taken from it again
+lengths-taken : (n a b : ℕ) → a < lengthStride → b < lengthStride
+    → (withoutLengths (withLengths n a b) ≡ n) × (withLengths n a b / lengthStride % lengthStride ≡ a) × (withLengths n a b % lengthStride ≡ b)
+lengths-taken n a b ha hb =
+    let last : ((n * lengthStride + a) * lengthStride + b) / lengthStride ≡ n * lengthStride + a = omega arith in
+    let both : (n * lengthStride + a) / lengthStride ≡ n = omega arith in
+    let first : (n * lengthStride + a) % lengthStride ≡ a = omega arith in
+    rw last (both, first, omega arith)
+
 -- what is packed into a number is taken out of it again
-pub number-line : (i j v m n : ℕ) → j < rootStride → v < verdictStride → m < lengthStride → n < lengthStride
-    → lineOfNumber ((((i * rootStride + j) * verdictStride + v) * lengthStride + m) * lengthStride + n)
-    ≡ lineOf (pos i ∷ pos j ∷ pos v ∷ pos m ∷ pos n ∷ [])
+pub number-line : (i j v a b c d : ℕ) → j < rootStride → v < verdictStride → a < lengthStride → b < lengthStride → c < lengthStride → d < lengthStride
+    → lineOfNumber (withLengths (withLengths ((i * rootStride + j) * verdictStride + v) a b) c d)
+    ≡ lineOf (pos i ∷ pos j ∷ pos v ∷ pos a ∷ pos b ∷ pos c ∷ pos d ∷ [])
 unfolding lineOfNumber lineNumbers
-number-line i j v m n hj hv hm hn =
+number-line i j v a b c d hj hv ha hb hc hd =
     let judged = (i * rootStride + j) * verdictStride + v in
-    let impl : ((judged * lengthStride + m) * lengthStride + n) / lengthStride ≡ judged * lengthStride + m = omega arith in
-    let spec : (judged * lengthStride + m) / lengthStride ≡ judged = omega arith in
+    let reading = lengths-taken judged a b ha hb in
+    let writing = lengths-taken (withLengths judged a b) c d hc hd in
     let place : judged / verdictStride ≡ i * rootStride + j = omega arith in
     let root : (i * rootStride + j) / rootStride ≡ i = omega arith in
     let leaf : (i * rootStride + j) % rootStride ≡ j = omega arith in
     let verdict : judged % verdictStride ≡ v = omega arith in
-    let length : (judged * lengthStride + m) % lengthStride ≡ m = omega arith in
-    let last : ((judged * lengthStride + m) * lengthStride + n) % lengthStride ≡ n = omega arith in
-    rw (impl, spec, place, root, leaf, verdict, length, last) refl
+    rw (writing .0, writing .1, writing .2, reading .0, reading .1, reading .2, place, root, leaf, verdict) refl
 
 -- a verdict's number goes into it
 pub verdict-small : (v : Verdict) → verdictNumber v < verdictStride
@@ -57,7 +64,7 @@ unfolding lineOf
 line-short vs = omega (arith, fields-short vs, length-append (spaced (map shown vs)) (lineFeed ∷ []))
 
 -- the line of a number is short
-pub number-short : (n : ℕ) → length (lineOfNumber n) ≤ 111
+pub number-short : (n : ℕ) → length (lineOfNumber n) ≤ 155
 unfolding lineOfNumber lineNumbers
 number-short n = line-short (lineNumbers n)
 

@@ -14,13 +14,13 @@ use Rattle.reporting.proofs.Lines.{line-short}
 
 -- the texts of the report
 abbrev pub heading : Bytes
-heading = bytes "root leaf verdict spec impl\n"
+heading = bytes "root leaf verdict rspec rimpl wspec wimpl\n"
 
 abbrev pub middle : Bytes
 middle = bytes "\nverdict equal partial different root leaf address\n"
 
 -- the lengths of the texts
-pub heading-length : length heading ≡ 28
+pub heading-length : length heading ≡ 42
 unfolding bytes
 heading-length = refl
 
@@ -41,7 +41,7 @@ pub report-parts : (lines : Bytes) (r : Result) → reportFrom lines r ≡ (head
 unfolding reportFrom
 report-parts lines r = simp append-assoc
 
-pub report-length : (lines : Bytes) (r : Result) → length (reportFrom lines r) ≡ 28 + length lines + length (resultLines r)
+pub report-length : (lines : Bytes) (r : Result) → length (reportFrom lines r) ≡ 42 + length lines + length (resultLines r)
 report-length lines r =
     ap length (report-parts lines r) ∙ length-append (heading ++ lines) (resultLines r)
     ∙ omega (arith, length-append heading lines, heading-length)
@@ -56,10 +56,10 @@ unfolding resultLine
 result-short r = line-short (resultNumbers r)
 
 -- a report without lines is its texts and that line, and short
-pub fixed-length : (r : Result) → length (reportFrom [] r) ≡ 79 + length (resultLine r)
+pub fixed-length : (r : Result) → length (reportFrom [] r) ≡ 93 + length (resultLine r)
 fixed-length r = omega (arith, report-length [] r, result-length r)
 
-pub fixed-short : (r : Result) → length (reportFrom [] r) ≤ 234
+pub fixed-short : (r : Result) → length (reportFrom [] r) ≤ 248
 fixed-short r = omega (arith, fixed-length r, result-short r)
 
 -- the report of the findings is made from their lines and their full result

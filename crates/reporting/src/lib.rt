@@ -1,56 +1,82 @@
 // The report, from the lines of the pairs, each of them one number, and the full result of a comparison, into a lent buffer.
 ghost use mathlib.Core.Path.{_≡_};
 ghost use mathlib.Core.List.{[], _∷_};
-ghost use Prim.Native.Nat.{_≤_};
+ghost use Prim.Native.Nat.{_*_, _≤_, _<_};
 ghost use lib.IntN.{pos};
 ghost use lib.ListN.{length, take};
 ghost use Rattle.model.specs.Answers.{verdictNumber, comparisonResult};
 ghost use Rattle.model.specs.Report.{lineOf};
 ghost use Rattle.report.specs.Put.{Put};
-ghost use Rattle.reporting.specs.Lines.{lineNumbers, resultNumbers, lineOfNumber, linesOf, resultLines, reportFrom, SmallLine, SmallResult};
+ghost use Rattle.reporting.specs.Lines.{lengthStride, judgedRoom, withLengths, lineNumbers, resultNumbers, lineOfNumber, linesOf, resultLines, reportFrom, SmallPlace, SmallLengths, SmallResult};
 use model::Comparison;
 use model::ROOT_STRIDE;
 use model::Verdict;
 use model::verdict_number;
 
 // What the number of a line without the length of a list counts for, and what the place of a pair without its verdict does.
-const LENGTH_STRIDE: usize = 4096;
+const LENGTH_STRIDE: usize = 1025;
 
 const VERDICT_STRIDE: usize = 4;
 
 // The lengths of the texts above the lines of the pairs and above the result.
-const HEADING_LENGTH: usize = 28;
+const HEADING_LENGTH: usize = 42;
 
 const MIDDLE_LENGTH: usize = 51;
 
-// The line of a pair with these rows, this verdict and these list lengths, as one number.
+// The lengths of the two lists of a pair for one kind of walk.
+pub struct Lengths {
+    pub spec: usize,
+    pub implementation: usize,
+}
+
+// A number with the lengths of two lists behind it, each a digit of base LENGTH_STRIDE.
+fn with_lengths(number: usize, lengths: Lengths) -> usize
+    requires { ⌜ SmallLengths lengths × (number < lengthStride * lengthStride * judgedRoom) ⌝ }
+    ensures { λ r. ⌜ r ≡ withLengths number (lengths .spec) (lengths .implementation) ⌝ }
+{
+    (number * LENGTH_STRIDE + lengths.spec) * LENGTH_STRIDE + lengths.implementation
+}
+
+// The line of a pair with these rows, this verdict and these list lengths, for reading and for writing, as one number.
 pub fn line_number(
     root_row: usize,
     leaf_row: usize,
     verdict: Verdict,
-    spec: usize,
-    implementation: usize,
+    reading: Lengths,
+    writing: Lengths,
 ) -> usize
-    requires { ⌜ SmallLine «root_row» «leaf_row» spec implementation ⌝ }
+    requires { ⌜ SmallPlace «root_row» «leaf_row» × SmallLengths reading × SmallLengths writing ⌝ }
     ensures { λ r. ⌜
         lineOfNumber r
-        ≡ lineOf (pos «root_row» ∷ pos «leaf_row» ∷ pos (verdictNumber verdict) ∷ pos spec ∷ pos implementation ∷ []) ⌝ }
+        ≡ lineOf
+        (pos «root_row»
+        ∷ pos «leaf_row»
+        ∷ pos (verdictNumber verdict)
+        ∷ pos (reading .spec)
+        ∷ pos (reading .implementation)
+        ∷ pos (writing .spec)
+        ∷ pos (writing .implementation)
+        ∷ []) ⌝ }
 {
     let place = root_row * ROOT_STRIDE + leaf_row;
     let judged = place * VERDICT_STRIDE + verdict_number(verdict);
-    (judged * LENGTH_STRIDE + spec) * LENGTH_STRIDE + implementation
+    let read = with_lengths(judged, reading);
+    with_lengths(read, writing)
 }
 
-// The five numbers that one number stands for.
-fn line_numbers(number: usize) -> [i64; 5]
+// The seven numbers that one number stands for.
+fn line_numbers(number: usize) -> [i64; 7]
     ensures { λ v. ⌜ v ≡ lineNumbers number ⌝ }
 {
-    let judged = number / LENGTH_STRIDE / LENGTH_STRIDE;
+    let read = number / LENGTH_STRIDE / LENGTH_STRIDE;
+    let judged = read / LENGTH_STRIDE / LENGTH_STRIDE;
     let place = judged / VERDICT_STRIDE;
     [
         (place / ROOT_STRIDE) as i64,
         (place % ROOT_STRIDE) as i64,
         (judged % VERDICT_STRIDE) as i64,
+        (read / LENGTH_STRIDE % LENGTH_STRIDE) as i64,
+        (read % LENGTH_STRIDE) as i64,
         (number / LENGTH_STRIDE % LENGTH_STRIDE) as i64,
         (number % LENGTH_STRIDE) as i64,
     ]

@@ -2,7 +2,7 @@
 -- table.
 use mathlib.Core.Path.{_≡_, refl, sym, ap, subst, _∙_}
 use mathlib.Core.Bool.{Bool, true, false, cond}
-use mathlib.Core.Logic.{inl}
+use mathlib.Core.Logic.{inl, ⊎-elim}
 use mathlib.Core.List.{List, [], _∷_, _++_, map, flatMap, append-assoc, List·Memᴰ·head, List·Memᴰ·tail, List·Memᴰ·not-nil}
 use Prim.Native.Nat.{ℕ, suc, _%_, _<_, _≤_, _^_}
 use native.Mathlib.Omega.{arith}
@@ -11,19 +11,21 @@ use lib.ListN.{length}
 use Rattle.integers.proofs.Linear.{ints}
 use Rattle.lists.specs.Lists.{_∈_, keep}
 use Rattle.lists.proofs.Membership.{map-out}
-use Rattle.model.specs.Limits.{maxEdges, maxDigits}
+use Rattle.lists.proofs.Distinct.{front-distinct}
+use Rattle.model.specs.Limits.{nodeWidth, edgeWidth, maxEdges, maxDigits}
 use Rattle.model.specs.Rows.{Node, Edge, nodesFrom, edgesFrom, nodeRows, edgeRows}
+use Rattle.model.specs.Graph.{graphOf, readWrite}
 use Rattle.model.specs.Bytes.{Bytes, bytes, lineFeed, spaced, same}
 use Rattle.model.specs.MapFile.{Values, GoodFields, GoodRow, nodeTable, edgeTable}
 use Rattle.model.specs.FileRules.{rowLine, tableLines, MeetsNone, AllMeetNone, numbersUnder, nodeNumbers, edgeNumbers}
 use Rattle.model.specs.Report.{lineOf}
-use Rattle.model.specs.Sheet.{SheetLine, GoodSheet, sheetNodes, sheetEdges}
+use Rattle.model.specs.Sheet.{SheetLine, GoodSheet, sheetNodes, sheetEdges, sheetGraph}
 use Rattle.model.specs.SheetCall.{nodeLine, edgeLine, graphLines}
 use Rattle.filerules.proofs.Words.{node-regular, edge-regular}
 use Rattle.graphlines.specs.Rows.{Printed}
 use Rattle.sheetgraph.specs.Tables.{MapTables}
 use Rattle.sheetgraph.proofs.Room.{sheet-printable}
-use Rattle.sheetlaws.proofs.Graph.{nodes-length, edges-length}
+use Rattle.sheetlaws.proofs.Graph.{nodes-length, edges-length, node-out}
 
 -- a value of at most 18 digits
 record Short (v : ℤ) : Type 0 where
@@ -42,11 +44,11 @@ choice-short false p q = q
 
 -- ---- nodes
 
--- the row of a node on side 0
+-- the row of a node on side 0, below names without access
 nodeValues : Node → Values
 nodeValues n name =
     cond (same name (bytes "side")) (pos 0) (cond (same name (bytes "kind")) (n .kind) (cond (same name (bytes "base")) (n .base)
-    (cond (same name (bytes "range")) (n .range) (n .unit))))
+    (cond (same name (bytes "range")) (n .range) (cond (same name (bytes "unit")) (n .unit) (pos 0)))))
 
 node-line : (n : Node) → nodeLine n ≡ rowLine (nodeTable .names) (nodeValues n)
 unfolding nodeLine lineOf rowLine nodeTable bytes same nodeValues
@@ -57,13 +59,19 @@ unfolding flatMap
 node-lines [] = refl
 node-lines (n ∷ rows) = cc (node-line n, node-lines rows)
 
+-- what stands under the one optional name, access, is 0
+node-absent : (n : Node) (name : Bytes) → name ∈ nodeTable .optional → nodeValues n name ≡ pos 0
+unfolding nodeTable bytes same nodeValues
+node-absent n name (List·Memᴰ·head e) = ap (nodeValues n) e
+node-absent n name (List·Memᴰ·tail m) = absurd (List·Memᴰ·not-nil m)
+
 node-good : (n : Node) → Short (n .kind) → Short (n .base) → Short (n .range) → Short (n .unit) → GoodRow nodeTable (nodeTable .names) (nodeValues n)
 unfolding nodeTable nodeValues
 node-good n k b r u =
     record {
       short = λ name m. choice-short (same name (bytes "side")) zero-short (choice-short (same name (bytes "kind")) k (choice-short (same name (bytes "base")) b
-          (choice-short (same name (bytes "range")) r u))) .digits;
-      absent = λ name m. absurd (List·Memᴰ·not-nil m);
+          (choice-short (same name (bytes "range")) r (choice-short (same name (bytes "unit")) u zero-short)))) .digits;
+      absent = λ name m out. node-absent n name m;
     }
 
 nodes-good : (i : ℕ) (ns : List ℤ) → ((v : ℤ) → v ∈ ns → Short v) → (n : Node) → n ∈ nodesFrom i ns → GoodRow nodeTable (nodeTable .names) (nodeValues n)
@@ -72,25 +80,37 @@ nodes-good i [] h n m = absurd (List·Memᴰ·not-nil m)
 nodes-good i (k ∷ []) h n m = absurd (List·Memᴰ·not-nil m)
 nodes-good i (k ∷ b ∷ []) h n m = absurd (List·Memᴰ·not-nil m)
 nodes-good i (k ∷ b ∷ r ∷ []) h n m = absurd (List·Memᴰ·not-nil m)
-nodes-good i (k ∷ b ∷ r ∷ u ∷ rest) h n (List·Memᴰ·head e) =
+nodes-good i (k ∷ b ∷ r ∷ u ∷ []) h n m = absurd (List·Memᴰ·not-nil m)
+nodes-good i (k ∷ b ∷ r ∷ u ∷ a ∷ rest) h n (List·Memᴰ·head e) =
     subst (λ (x : Node). GoodRow nodeTable (nodeTable .names) (nodeValues x)) (sym e)
     (node-good _ (h k (List·Memᴰ·head refl)) (h b (List·Memᴰ·tail (List·Memᴰ·head refl))) (h r (List·Memᴰ·tail (List·Memᴰ·tail (List·Memᴰ·head refl))))
     (h u (List·Memᴰ·tail (List·Memᴰ·tail (List·Memᴰ·tail (List·Memᴰ·head refl))))))
-nodes-good i (k ∷ b ∷ r ∷ u ∷ rest) h n (List·Memᴰ·tail m) =
-    nodes-good (suc i) rest (λ v w. h v (List·Memᴰ·tail (List·Memᴰ·tail (List·Memᴰ·tail (List·Memᴰ·tail w))))) n m
+nodes-good i (k ∷ b ∷ r ∷ u ∷ a ∷ rest) h n (List·Memᴰ·tail m) =
+    nodes-good (suc i) rest (λ v w. h v (List·Memᴰ·tail (List·Memᴰ·tail (List·Memᴰ·tail (List·Memᴰ·tail (List·Memᴰ·tail w)))))) n m
 
 nodes-meet-none : (before : List Values) (rows : List Node) → AllMeetNone (nodeTable .conditions) before (map nodeValues rows)
 unfolding AllMeetNone MeetsNone nodeTable bytes same nodeValues
 nodes-meet-none before [] = tt
 nodes-meet-none before (n ∷ rows) = (((λ h. h .0 refl), tt), nodes-meet-none (nodeValues n ∷ before) rows)
 
-nodes-back : (i : ℕ) (ns : List ℤ) → length ns % 4 ≡ 0 → nodeNumbers (pos 0) (map nodeValues (nodesFrom i ns)) ≡ ns
+-- the numbers of the rows are those of the table where every node may be read and written
+nodes-back : (i : ℕ) (ns : List ℤ) → length ns % nodeWidth ≡ 0 → ((n : Node) → n ∈ nodesFrom i ns → n .access ≡ readWrite)
+    → nodeNumbers (pos 0) (map nodeValues (nodesFrom i ns)) ≡ ns
 unfolding nodesFrom nodeNumbers numbersUnder flatMap keep bytes same nodeValues
-nodes-back i [] h = refl
-nodes-back i (k ∷ []) h = absurd (omega (arith, h))
-nodes-back i (k ∷ b ∷ []) h = absurd (omega (arith, h))
-nodes-back i (k ∷ b ∷ r ∷ []) h = absurd (omega (arith, h))
-nodes-back i (k ∷ b ∷ r ∷ u ∷ rest) h = ap {B = List ℤ} (λ l. k ∷ b ∷ r ∷ u ∷ l) (nodes-back (suc i) rest (omega (arith, h)))
+nodes-back i [] h opened = refl
+nodes-back i (k ∷ []) h opened = absurd (omega (arith, h))
+nodes-back i (k ∷ b ∷ []) h opened = absurd (omega (arith, h))
+nodes-back i (k ∷ b ∷ r ∷ []) h opened = absurd (omega (arith, h))
+nodes-back i (k ∷ b ∷ r ∷ u ∷ []) h opened = absurd (omega (arith, h))
+nodes-back i (k ∷ b ∷ r ∷ u ∷ a ∷ rest) h opened =
+    let own : pos 0 ≡ a = sym (opened _ (List·Memᴰ·head refl)) in
+    let later = nodes-back (suc i) rest (omega (arith, h)) (λ n m. opened n (List·Memᴰ·tail m)) in
+    ap {B = List ℤ} (λ l. k ∷ b ∷ r ∷ u ∷ pos 0 ∷ l) later ∙ ap (λ c. k ∷ b ∷ r ∷ u ∷ c ∷ rest) own
+
+-- every node of a sheet may be read and written
+nodes-open : (ls : List SheetLine) (n : Node) → n ∈ nodeRows (sheetNodes ls) → n .access ≡ readWrite
+unfolding sheetGraph graphOf
+nodes-open ls n m = ⊎-elim (λ w. ap (λ k. k .access) (w .1)) (λ w. ap (λ k. k .access) (w .3)) (node-out ls m)
 
 -- ---- edges
 
@@ -132,7 +152,7 @@ unfolding AllMeetNone MeetsNone edgeTable bytes same edgeValues
 edges-meet-none before [] = tt
 edges-meet-none before (e ∷ rows) = (((λ h. h .0 refl), tt), edges-meet-none (edgeValues e ∷ before) rows)
 
-edges-back : (i : ℕ) (es : List ℤ) → length es % 3 ≡ 0 → edgeNumbers (pos 0) (map edgeValues (edgesFrom i es)) ≡ es
+edges-back : (i : ℕ) (es : List ℤ) → length es % edgeWidth ≡ 0 → edgeNumbers (pos 0) (map edgeValues (edgesFrom i es)) ≡ es
 unfolding edgesFrom edgeNumbers numbersUnder flatMap keep bytes same edgeValues
 edges-back i [] h = refl
 edges-back i (f ∷ []) h = absurd (omega (arith, h))
@@ -142,8 +162,7 @@ edges-back i (f ∷ t ∷ o ∷ rest) h = ap {B = List ℤ} (λ l. f ∷ t ∷ o
 -- ---- both tables
 
 node-fields : GoodFields nodeTable (nodeTable .names)
-unfolding nodeTable
-node-fields = record { once = node-regular .once; each = λ n m. m; known = λ n m. inl m }
+node-fields = record { once = front-distinct (nodeTable .names) (nodeTable .optional) (node-regular .once); each = λ n m. m; known = λ n m. inl m }
 
 edge-fields : GoodFields edgeTable (edgeTable .names)
 unfolding edgeTable
@@ -180,6 +199,6 @@ sheet-tables ls g few =
       };
       writes = rw (node-lines (nodeRows ns), edge-lines (edgeRows es))
           (lines-written (flatMap (rowLine (nodeTable .names)) (map nodeValues (nodeRows ns))) (flatMap (rowLine (edgeTable .names)) (map edgeValues (edgeRows es))));
-      specNodes = nodes-back 0 ns (omega (arith, nodes-length ls));
+      specNodes = nodes-back 0 ns (omega (arith, nodes-length ls)) (nodes-open ls);
       specEdges = edges-back 0 es (omega (arith, edges-length ls));
     }

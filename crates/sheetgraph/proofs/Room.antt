@@ -27,7 +27,8 @@ node-printed kind range k r (List·Memᴰ·head e) = subst Printed (sym e) k
 node-printed kind range k r (List·Memᴰ·tail (List·Memᴰ·head e)) = subst Printed (sym e) (small-printed 0 (omega arith))
 node-printed kind range k r (List·Memᴰ·tail (List·Memᴰ·tail (List·Memᴰ·head e))) = subst Printed (sym e) r
 node-printed kind range k r (List·Memᴰ·tail (List·Memᴰ·tail (List·Memᴰ·tail (List·Memᴰ·head e)))) = subst Printed (sym e) (small-printed 8 (omega arith))
-node-printed kind range k r (List·Memᴰ·tail (List·Memᴰ·tail (List·Memᴰ·tail (List·Memᴰ·tail m)))) = absurd (List·Memᴰ·not-nil m)
+node-printed kind range k r (List·Memᴰ·tail (List·Memᴰ·tail (List·Memᴰ·tail (List·Memᴰ·tail (List·Memᴰ·head e))))) = subst Printed (sym e) (small-printed 0 (omega arith))
+node-printed kind range k r (List·Memᴰ·tail (List·Memᴰ·tail (List·Memᴰ·tail (List·Memᴰ·tail (List·Memᴰ·tail m))))) = absurd (List·Memᴰ·not-nil m)
 
 module _ {ls : List SheetLine} (g : GoodSheet ls) where
   -- the numbers of the node table

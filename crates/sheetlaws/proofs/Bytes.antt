@@ -9,10 +9,12 @@ use lib.Signed.{_≤ℤ_, _<ℤ_}
 use Rattle.integers.proofs.Linear.{plus, minus, ints, sum, diff, one-sided}
 use Rattle.integers.proofs.Products.{times}
 use Rattle.lists.specs.Lists.{_∈_}
+use Rattle.model.specs.declared.WalkKind.{WalkKind}
 use Rattle.model.specs.Limits.{sheetBytes, byteBits}
 use Rattle.model.specs.Graph.{firstBit, lastBit}
 use Rattle.model.specs.Walk.{StandsOn}
 use Rattle.model.specs.Sheet.{SheetLine, Given}
+use Rattle.model.proofs.Walks.{access-open}
 use Rattle.sheetlaws.proofs.Lines.{LineBounds}
 use Rattle.sheetlaws.proofs.Graph.{nodeOf}
 
@@ -22,15 +24,17 @@ use Rattle.sheetlaws.proofs.Graph.{nodeOf}
 abbrev pub BitWithin : ℤ → ℤ → Type 0
 BitWithin bytes a = (pos 0 ≤ℤ a) × (a <ℤ (bytes *ℤ pos byteBits))
 
--- a walk may stand on a node of base 0 and unit 8 with the bits of its bytes
-pub byte-node-stands : (kind range : ℤ) (row : ℕ) (a : ℤ) → StandsOn (nodeOf kind range row) a ↔ BitWithin range a
+-- a walk of either kind may stand on a node of base 0 and unit 8 with the bits of its bytes
+pub byte-node-stands : (kind : WalkKind) (nodeKind range : ℤ) (row : ℕ) (a : ℤ) → StandsOn kind (nodeOf nodeKind range row) a ↔ BitWithin range a
 unfolding firstBit lastBit
-byte-node-stands kind range row a =
+byte-node-stands kind nodeKind range row a =
     let end = sum (pos 0) range in
     let bits = times (pos 0 +ℤ range) (pos byteBits) refl in
     let last = diff ((pos 0 +ℤ range) *ℤ pos byteBits) (pos 1) in
-    let all = times range (pos byteBits) refl in
-    (λ s. omega (arith, ints, s .above, s .below), λ s. omega (arith, ints, s .0, s .1))
+    let all = times range (pos byteBits) refl in (
+      λ s. omega (arith, ints, s .above, s .below),
+      λ s. record { access = access-open kind refl; above = omega (arith, ints, s .0, s .1); below = omega (arith, ints, s .0, s .1) },
+    )
 
 -- ---- the bits of a line
 

@@ -11,7 +11,7 @@ use lib.Seq.{getD-append-add}
 use Rattle.lists.specs.Lists.{_∈_}
 use Rattle.model.specs.Limits.{nodeWidth, edgeWidth, maxNodes, sheetBytes, byteBits}
 use Rattle.model.specs.Rows.{Node, Edge, nodesFrom, edgesFrom}
-use Rattle.model.specs.Graph.{graphOf, noNode, node, space, block}
+use Rattle.model.specs.Graph.{graphOf, noNode, node, space, block, readWrite}
 use Rattle.model.specs.Sheet.{SheetLine, GoodSheet, initiators, blocks, placeAmong, initiatorRow, blockRow, sizeOf, byteNode, sheetNodes, edgeOf, sheetEdges, sheetGraph}
 use Rattle.sheetlaws.proofs.Rows.{counted, counted-length, counted-at, counted-in, counted-out, rows-read, rows-all, written-length}
 use Rattle.sheetlaws.proofs.Places.{place-within, place-at}
@@ -19,7 +19,7 @@ use Rattle.sheetlaws.proofs.Lines.{initiators-few, blocks-few}
 
 -- ---- the numbers of the tables
 
--- four numbers for each initiator and each block
+-- five numbers for each initiator and each block
 pub nodes-length : (ls : List SheetLine) → length (sheetNodes ls) ≡ nodeWidth * (length (initiators ls) + length (blocks ls))
 unfolding sheetNodes byteNode
 nodes-length ls =
@@ -43,9 +43,9 @@ nodes-few {ls} g = omega (arith, nodes-length ls, initiators-few g, blocks-few g
 
 -- ---- the rows of the tables
 
--- node row i of base 0 and unit 8
+-- node row i of base 0 and unit 8, which may be read and written
 abbrev pub nodeOf : ℤ → ℤ → ℕ → Node
-nodeOf kind range i = record { row = i; kind = kind; base = pos 0; range = range; unit = pos byteBits }
+nodeOf kind range i = record { row = i; kind = kind; base = pos 0; range = range; unit = pos byteBits; access = readWrite }
 
 -- a space of 2^48 bytes
 abbrev pub spaceNode : ℕ → ℤ → Node

@@ -13,7 +13,7 @@ use Rattle.model.specs.Limits.{nodeWidth, edgeWidth, maxNodes, maxEdges, maxUni
 use Rattle.model.specs.Rows.{Node, Edge, nodeRows, edgeRows}
 use Rattle.model.specs.Graph.{graphOf, NodeRow, node, space, block}
 use Rattle.model.specs.Paths.{Cycle, LongChain}
-use Rattle.model.specs.Refusals.{NoneHolds, refuse, _next_, Kind, BadShape, broken, tooMany, BadNode, unknownKind, unknownUnit, lowBase, lowRange, highEnd, BadEdge, noFrom, noTo, lowOffset, highOffset, shapeConditions, nodeConditions, edgeConditions, rowConditions, graphConditions, checkConditions}
+use Rattle.model.specs.Refusals.{NoneHolds, refuse, _next_, Kind, BadShape, broken, tooMany, BadNode, unknownKind, unknownUnit, unknownAccess, lowBase, lowRange, highEnd, BadEdge, noFrom, noTo, lowOffset, highOffset, shapeConditions, nodeConditions, edgeConditions, rowConditions, graphConditions, checkConditions}
 use Rattle.model.specs.Calls.{full, checkAnswer}
 use Rattle.model.specs.Sheet.{SheetLine, GoodSheet, sizeOf, sheetNodes, sheetEdges, sheetGraph}
 use Rattle.model.proofs.Settled.{none-next, none-flatMap}
@@ -31,6 +31,7 @@ shape-none width most xs whole few (tooMany h) = omega arith
 byte-node-good : (kind range : ℤ) (i : ℕ) → Kind kind → pos 1 ≤ℤ range → range ≤ℤ pos sheetBytes → BadNode (nodeOf kind range i) → ⊥
 byte-node-good kind range i known low high (unknownKind n) = n known
 byte-node-good kind range i known low high (unknownUnit n) = n (inl refl)
+byte-node-good kind range i known low high (unknownAccess n) = n (inl refl)
 byte-node-good kind range i known low high (lowBase h) = omega (arith, ints)
 byte-node-good kind range i known low high (lowRange h) = omega (arith, ints)
 byte-node-good kind range i known low high (highEnd h) = omega (arith, ints, sum (pos 0) range)

@@ -29,6 +29,9 @@ module _ {A : Type 0} where
         let third : i + 2 ≡ suc (suc i) = omega arith in
         rw (second, third)
 
-    -- the stores of four numbers
-    pub sets-four : (x y z u : A) → set (set (set (set l i x) (i + 1) y) (i + 2) z) (i + 3) u ≡ sets l i (x ∷ y ∷ z ∷ u ∷ [])
-    sets-four x y z u = let fourth : i + 3 ≡ suc (suc (suc i)) = omega arith in ap (λ m. set m (i + 3) u) (sets-three x y z) ∙ rw (fourth)
+    -- the stores of five numbers
+    pub sets-five : (x y z u v : A) → set (set (set (set (set l i x) (i + 1) y) (i + 2) z) (i + 3) u) (i + 4) v ≡ sets l i (x ∷ y ∷ z ∷ u ∷ v ∷ [])
+    sets-five x y z u v =
+        let fourth : i + 3 ≡ suc (suc (suc i)) = omega arith in
+        let fifth : i + 4 ≡ suc (suc (suc (suc i))) = omega arith in
+        ap (λ m. set (set m (i + 3) u) (i + 4) v) (sets-three x y z) ∙ rw (fourth, fifth)

@@ -28,7 +28,7 @@ module _ {ls : List SheetLine} {lines spaces sizes : List ℤ} (t : Tabled ls li
       let leaves = ranged-nodes (sizes-ranged (t .good) (t .sizes)) block (sizeOf ls) (λ v h m. t .sizes .size v h) in
       cc (roots, leaves)
 
-  -- four numbers for each
+  -- five numbers for each
   pub nodes-tabled-length : length (sheetNodes ls) ≡ nodeWidth * (length (present spaces sheetNumbers) + length (present sizes sheetNumbers))
   nodes-tabled-length =
       omega (

@@ -20,6 +20,7 @@ use model::BYTE_BITS;
 use model::EDGE_WIDTH;
 use model::MAX_EDGES;
 use model::NODE_WIDTH;
+use model::READ_WRITE;
 use model::Reason;
 use model::SHEET_BYTES;
 use model::SHEET_NUMBERS;
@@ -68,7 +69,7 @@ fn number_rows(ranges: &[i64], first: usize, rows: &mut [usize]) -> usize
     row
 }
 
-// Puts a node of base 0 and unit 8 at a place of the node table.
+// Puts a node of base 0 and unit 8, which may be read and written, at a place of the node table.
 fn put_node(nodes: &mut [i64], at: usize, kind: i64, range: i64)
     requires { ⌜ at + nodeWidth ≤ length (now nodes) ⌝ }
     ensures { λ _. ⌜ now (nodes .exit) ≡ sets (now (nodes .entry)) at (byteNode kind range) ⌝ }
@@ -77,6 +78,7 @@ fn put_node(nodes: &mut [i64], at: usize, kind: i64, range: i64)
     nodes[at + 1] = 0;
     nodes[at + 2] = range;
     nodes[at + 3] = BYTE_BITS;
+    nodes[at + 4] = READ_WRITE;
 }
 
 // Puts a node for each number on the sheet, ascending, from a place of the node table on. Returns the place behind them.

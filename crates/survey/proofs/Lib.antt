@@ -1,4 +1,3 @@
 pub mod Passing
-pub mod Ready
 pub mod Unplanned
 pub mod Putting

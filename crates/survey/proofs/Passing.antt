@@ -1,6 +1,5 @@
--- Findings that are kept one after the other: those kept, with those that are left, are all of them.
+-- The findings of root rows, kept row by row.
 use mathlib.Core.Path.{_≡_, refl, sym, ap, subst, _∙_}
-use mathlib.Core.Bool.{Bool}
 use mathlib.Core.List.{List, [], _∷_, _++_, map, map-append, append-assoc, append-nil, flatMap}
 use Prim.Native.Nat.{ℕ, suc, _+_, _*_, _/_, _≤_, _<_}
 use native.Mathlib.Nat.{mul-le-mul}
@@ -17,17 +16,14 @@ use Rattle.model.specs.Report.{findingLine}
 use Rattle.model.proofs.Visits.{visits-length}
 use Rattle.tables.specs.Tables.{pairAt}
 use Rattle.tables.proofs.Rows.{pairs-rest, pairs-end, pairs-length}
-use Rattle.grouping.specs.Links.{groupCount, groupRow, Linked}
-use Rattle.grouping.proofs.Passing.{group-next}
 use Rattle.pathlimit.specs.Inputs.{Inputs}
-use Rattle.pairs.specs.Found.{findingAt}
 use Rattle.reporting.specs.Lines.{maxVisits}
-use Rattle.reporting.proofs.Lines.{flatMap-append}
-use Rattle.totals.specs.declared.Found.{Found}
 use Rattle.totals.specs.declared.Kept.{Kept}
-use Rattle.totals.specs.Kept.{IsFinding, Bare, KeptOf, KeptNone, isAsked, RoomFor, Added, EqualAdded}
+use Rattle.totals.specs.Kept.{Bare, KeptOf, KeptNone, EqualAdded}
 use Rattle.totals.proofs.Keeping.{kept-bytes}
-use Rattle.survey.specs.Survey.{rowFindings, RowRoom, RowKept, Surveyed}
+use Rattle.rootrows.specs.RootRow.{rowFindings, RowRoom, RowKept}
+use Rattle.rootrows.proofs.Passing.{row-count, Passed, passed-on, passed-end, planned-count, passed-bytes}
+use Rattle.survey.specs.Survey.{Surveyed}
 
 -- ---- what is left
 
@@ -42,17 +38,6 @@ rows-next ps i h = subst (λ (k : ℕ). rowsLeft ps i ≡ pairAt ps i ∷ rowsLe
 -- behind the last row there is none
 rows-none : (ps : List ℤ) (i : ℕ) → length ps / pairWidth ≤ i → rowsLeft ps i ≡ []
 rows-none ps i h = pairs-end ps i (omega arith)
-
--- the findings of root row i from group k on
-abbrev pub pairsLeft : Tables → ℕ → ℕ → List Finding
-pairsLeft t i k = map (findingOf t) (map (λ l. record { root = pairAt (t .rootPairs) i; leaf = l }) (drop k (groups t)))
-
-module _ (t : Tables) {links : List ℕ} (linked : Linked (t .leafPairs) links) (i k : ℕ) where
-  pub pairs-next : k < groupCount links → pairsLeft t i k ≡ findingAt t i (groupRow links k) ∷ pairsLeft t i (k + 1)
-  pairs-next h = rw (add-one k, group-next linked k h) refl
-
-  pub pairs-none : groupCount links ≤ k → pairsLeft t i k ≡ []
-  pairs-none h = rw (drop-of-length-le (groups t) {i = k} (omega (arith, h, linked .count))) refl
 
 -- the findings from root row i on
 unfoldable pub findingsLeft : Tables → ℕ → List Finding
@@ -72,12 +57,6 @@ findings-none t i h = rw (rows-none (t .rootPairs) i h) refl
 
 -- ---- how many there are
 
--- as many findings of a root row as groups
-pub row-count : (t : Tables) (i : ℕ) → length (rowFindings t i) ≡ length (groups t)
-row-count t i =
-    let visited : Pair → Visit = λ l. record { root = pairAt (t .rootPairs) i; leaf = l } in
-    length-map (map visited (groups t)) (findingOf t) ∙ length-map (groups t) visited
-
 -- in all, root rows times groups
 pub findings-count : (t : Tables) → length (findings t) ≡ length (t .rootPairs) / pairWidth * length (groups t)
 unfolding findings
@@ -96,68 +75,6 @@ pub findings-few : {t : Tables} → Inputs t → length (findings t) ≤ maxVisi
 findings-few {t} k =
     let roots : length (t .rootPairs) / pairWidth ≤ maxPairs = omega (arith, k .rootShape .few) in
     omega (arith, findings-count t, mul-le-mul roots (groups-few k))
-
--- ---- what is kept
-
--- findings are kept that are, with those that are left, all of these
-pub record Passed (all left : List Finding) (lines : List ℕ) (k : Kept) : Type 0 where
-  pub fs : List Finding
-  pub kept : KeptOf fs lines k
-  pub split : fs ++ left ≡ all
-
-module _ {all : List Finding} {lines : List ℕ} {k : Kept} where
-  -- some of those that are left are kept behind them
-  pub passed-on : {gs left : List Finding} {lines′ : List ℕ} {k′ : Kept} → Passed all (gs ++ left) lines k
-      → ((fs : List Finding) → KeptOf fs lines k → KeptOf (fs ++ gs) lines′ k′) → Passed all left lines′ k′
-  passed-on {gs} {left} p more = record { fs = p .fs ++ gs; kept = more (p .fs) (p .kept); split = append-assoc (p .fs) gs left ∙ p .split }
-
-  -- where none is left all are kept
-  pub passed-end : Passed all [] lines k → KeptOf all lines k
-  passed-end p = subst (λ (l : List Finding). KeptOf l lines k) (sym (append-nil (p .fs)) ∙ p .split) (p .kept)
-
-  -- as many as all
-  pub planned-count : {left : List Finding} (p : Passed all left lines k) → length (p .fs) + length left ≡ length all
-  planned-count {left} p = sym (length-append (p .fs) left) ∙ ap length (p .split)
-
-  -- and no more bytes than those of all
-  pub passed-bytes : {left : List Finding} → Passed all left lines k → k .bytes ≤ length (flatMap findingLine all)
-  passed-bytes {left} p =
-      omega (
-        arith,
-        p .kept .bytes,
-        ap (λ (l : List Finding). length (flatMap findingLine l)) (p .split),
-        ap length (flatMap-append findingLine (p .fs) left),
-        length-append (flatMap findingLine (p .fs)) (flatMap findingLine left),
-      )
-
--- ---- the pairs of a root row
-
-module _ (t : Tables) {links : List ℕ} (linked : Linked (t .leafPairs) links) (i k : ℕ) where
-  module _ (h : k < groupCount links) where
-    -- there is room for what is found of root row i and group k
-    pub pair-room : {lines lines′ : List ℕ} {kept kept′ : Kept} → RowRoom t lines kept
-        → ((fs : List Finding) → KeptOf fs lines kept → Passed (fs ++ rowFindings t i) (pairsLeft t i k) lines′ kept′) → RoomFor 1 kept′
-    pair-room {lines′ = lines′} room passed =
-        let p = passed (room .fs) (room .kept) in
-        record {
-          fs = p .fs;
-          lines = lines′;
-          kept = p .kept;
-          few = omega (arith, planned-count p, ap length (pairs-next t linked i k h), length-append (room .fs) (rowFindings t i), row-count t i, room .few);
-        }
-
-    -- and once it is added one more is kept
-    pub pair-passed : {all : List Finding} {asked : Bool} {f : Found} {lines lines′ : List ℕ} {kept kept′ : Kept} {j : ℕ} → j ≡ groupRow links k
-        → Passed all (pairsLeft t i k) lines kept → IsFinding (findingAt t i j) asked f → asked ≡ isAsked kept → Added kept lines i j f kept′ lines′
-        → Passed all (pairsLeft t i (k + 1)) lines′ kept′
-    unfolding findingOf
-    pair-passed {all} {asked} {f} {lines} {kept = kept} {j = j} at p q e a =
-        let next = pairs-next t linked i k h ∙ ap (λ (g : ℕ). findingAt t i g ∷ pairsLeft t i (k + 1)) (sym at) in
-        passed-on (subst (λ (l : List Finding). Passed all l lines kept) next p) (λ fs were. a .kept fs (findingAt t i j) refl refl (subst (λ (b : Bool). IsFinding (findingAt t i j) b f) e q) were)
-
-  -- behind the last group all are kept
-  pub pairs-passed : groupCount links ≤ k → {all : List Finding} {lines : List ℕ} {kept : Kept} → Passed all (pairsLeft t i k) lines kept → KeptOf all lines kept
-  pairs-passed h {all} {lines} {kept} p = passed-end (subst (λ (l : List Finding). Passed all l lines kept) (pairs-none t linked i k h) p)
 
 -- ---- the root rows
 

@@ -15,8 +15,9 @@ use Rattle.reporting.proofs.Lines.{flatMap-append}
 use Rattle.pathlimit.specs.Inputs.{Inputs}
 use Rattle.totals.specs.declared.Kept.{Kept}
 use Rattle.totals.specs.Kept.{KeptOf}
-use Rattle.survey.specs.Survey.{rowFindings}
-use Rattle.survey.proofs.Passing.{findingsLeft, findings-all, findings-next, findings-none, row-count, groups-few}
+use Rattle.rootrows.specs.RootRow.{rowFindings}
+use Rattle.rootrows.proofs.Passing.{row-count}
+use Rattle.survey.proofs.Passing.{findingsLeft, findings-all, findings-next, findings-none, groups-few}
 
 -- the lines of the root rows before row i are written: with those of the root rows that are left they are the lines of all
 pub record Putting (t : Tables) (i : ℕ) (old out : Bytes) (at : ℕ) : Type 0 where

@@ -6,9 +6,7 @@ use native.Mathlib.Omega.{arith}
 use lib.ListN.{length}
 use Rattle.lists.specs.Lists.{_∈_}
 use Rattle.lists.proofs.Membership.{map-out}
-use Rattle.model.specs.Runs.{listOf}
-use Rattle.model.specs.Groups.{groupList}
-use Rattle.model.specs.Compare.{Tables, specGraph, implGraph, rootRows, banks, groups, visits, Finding, findingOf, findings}
+use Rattle.model.specs.Compare.{Tables, specGraph, implGraph, rootRows, banks, groups, visits, Finding, specList, implList, findingOf, findings}
 use Rattle.model.proofs.Visits.{visits-in}
 use Rattle.model.proofs.Groups.{group-list-few}
 use Rattle.model.proofs.GroupRows.{group-leaf}
@@ -27,9 +25,10 @@ findings-bare {t} k none f n =
     let (p, q) = visits-in (rootRows t) (groups t) .0 m in
     let own = group-leaf t q in
     record {
-      spec = ap (λ (g : Finding). g .spec) e
-          ∙ no-records (listOf (specGraph t) (v .root .spec) (v .leaf .spec)) (omega (arith, list-few (specGraph t) (v .root .spec) (v .leaf .spec), spec-unreached (k .plans) none p own));
-      impl = ap (λ (g : Finding). g .impl) e
-          ∙ no-records (groupList (implGraph t) (v .root .impl) (banks t (v .leaf)))
-          (omega (arith, group-list-few (implGraph t) (v .root .impl) (banks t (v .leaf)), group-unreached (k .plans) none p own));
+      spec = λ kind.
+          ap (λ (g : Finding). g .spec kind) e
+          ∙ no-records (specList t v kind) (omega (arith, list-few kind (specGraph t) (v .root .spec) (v .leaf .spec), spec-unreached (k .plans) none p own));
+      impl = λ kind.
+          ap (λ (g : Finding). g .impl kind) e
+          ∙ no-records (implList t v kind) (omega (arith, group-list-few kind (implGraph t) (v .root .impl) (banks t (v .leaf)), group-unreached (k .plans) none p own));
     }

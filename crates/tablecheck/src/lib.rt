@@ -33,8 +33,8 @@ pub enum Outcome {
     Refused(Reason),
 }
 
-// Lines that are held: as many as 65,536 bytes may have, with five digits, four spaces and a line feed each.
-const LINE_ROOM: usize = 6554;
+// Lines that are held: as many as 65,536 bytes may have, with seven digits, six spaces and a line feed each.
+const LINE_ROOM: usize = 4681;
 
 // Writes the lines of all pairs: those that are held where they are all there, else those of a second survey.
 fn put_pairs(

@@ -17,7 +17,7 @@ use Rattle.model.specs.Rows.{Node, Edge}
 use Rattle.model.specs.Graph.{Graph, NodeRow, firstBit, lastBit}
 use Rattle.model.specs.Quantities.{Addable, Scalable, Movable}
 use Rattle.model.specs.Refusals.{BadNode, AddressUnit}
-use Rattle.model.specs.Checks.{isKind, isUnit, goodExtent, goodNode, isRow, goodOffset, goodEdge}
+use Rattle.model.specs.Checks.{isKind, isUnit, isAccess, goodExtent, goodNode, isRow, goodOffset, goodEdge}
 use Rattle.model.proofs.GraphChecks.{GoodExtent, extent?, isRow?, GoodOffset, offset?}
 use Rattle.model.proofs.Taken.{node-bounds, unit-size, parts-within, bounds-full, bounds-address}
 
@@ -49,7 +49,7 @@ pub offset-decides : (g : Graph) (e : Edge) → Decides (GoodOffset g e) (goodOf
 offset-decides g e = test-map (λ h. h) (⊎-elim (λ h k. omega (arith, ints, h, k .0)) (λ h k. omega (arith, ints, h, k .1))) (offset? g e)
 
 -- the test on a node row is that on its kind and unit, then that on base and range
-pub node-parts : (n : Node) → goodNode n ≡ isKind (n .kind) && isUnit (n .unit) && goodExtent n
+pub node-parts : (n : Node) → goodNode n ≡ isKind (n .kind) && isUnit (n .unit) && isAccess (n .access) && goodExtent n
 unfolding goodNode
 node-parts n = refl
 

@@ -92,17 +92,19 @@ nodes-rest ns i h =
       drop-next ns (nodeWidth * i) (nodeWidth * i + 1) (omega arith) (omega arith),
       drop-next ns (nodeWidth * i + 1) (nodeWidth * i + 2) (omega arith) (omega arith),
       drop-next ns (nodeWidth * i + 2) (nodeWidth * i + 3) (omega arith) (omega arith),
-      drop-next ns (nodeWidth * i + 3) (nodeWidth * suc i) (omega arith) (omega arith),
+      drop-next ns (nodeWidth * i + 3) (nodeWidth * i + 4) (omega arith) (omega arith),
+      drop-next ns (nodeWidth * i + 4) (nodeWidth * suc i) (omega arith) (omega arith),
     )
 
--- fewer than four numbers are no row
+-- fewer than five numbers are no row
 nodes-short : (i : ℕ) (l : List ℤ) → length l < nodeWidth → nodesFrom i l ≡ []
 unfolding nodesFrom
 nodes-short i [] h = refl
 nodes-short i (k ∷ []) h = refl
 nodes-short i (k ∷ b ∷ []) h = refl
 nodes-short i (k ∷ b ∷ r ∷ []) h = refl
-nodes-short i (k ∷ b ∷ r ∷ u ∷ l) h = absurd (omega arith)
+nodes-short i (k ∷ b ∷ r ∷ u ∷ []) h = refl
+nodes-short i (k ∷ b ∷ r ∷ u ∷ a ∷ l) h = absurd (omega arith)
 
 -- the node rows from row i on, where it is not there
 pub nodes-end : (ns : List ℤ) (i : ℕ) → length ns < nodeWidth * i + nodeWidth → nodesFrom i (drop (nodeWidth * i) ns) ≡ []

@@ -15,7 +15,7 @@ use Rattle.tables.specs.declared.EdgeRow.{EdgeRow}
 -- row v of a node table
 abbrev pub nodeAt : List ℤ → ℕ → Node
 nodeAt ns v =
-    record { row = v; kind = getD ns (nodeWidth * v) (pos 0); base = getD ns (nodeWidth * v + 1) (pos 0); range = getD ns (nodeWidth * v + 2) (pos 0); unit = getD ns (nodeWidth * v + 3) (pos 0) }
+    record { row = v; kind = getD ns (nodeWidth * v) (pos 0); base = getD ns (nodeWidth * v + 1) (pos 0); range = getD ns (nodeWidth * v + 2) (pos 0); unit = getD ns (nodeWidth * v + 3) (pos 0); access = getD ns (nodeWidth * v + 4) (pos 0) }
 
 -- row e of an edge table
 abbrev pub edgeAt : List ℤ → ℕ → Edge
@@ -29,7 +29,7 @@ pairAt ps k =
 
 -- what was read of a node row, as row v
 abbrev pub nodeOf : ℕ → NodeRow → Node
-nodeOf v n = record { row = v; kind = n .kind; base = n .base .0; range = n .range .0; unit = n .unit }
+nodeOf v n = record { row = v; kind = n .kind; base = n .base .0; range = n .range .0; unit = n .unit; access = n .access }
 
 -- what was read of an edge row, as row e
 abbrev pub edgeOf : ℕ → EdgeRow → Edge

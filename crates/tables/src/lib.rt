@@ -8,7 +8,7 @@ ghost use Rattle.model.specs.Limits.{nodeWidth, edgeWidth, maxUnits};
 ghost use Rattle.model.specs.Rows.{nodeRows, edgeRows};
 ghost use Rattle.model.specs.Graph.{Graph, graphOf, firstBit, lastBit};
 ghost use Rattle.model.specs.Refusals.{BadNode, AddressUnit};
-ghost use Rattle.model.specs.Checks.{firstOf, checkShape, isKind, isUnit, goodExtent, goodNode, checkNode, isRow, goodOffset, goodEdge, checkEdge};
+ghost use Rattle.model.specs.Checks.{firstOf, checkShape, isKind, isUnit, isAccess, goodExtent, goodNode, checkNode, isRow, goodOffset, goodEdge, checkEdge};
 ghost use Rattle.model.specs.Calls.{answer};
 ghost use Rattle.model.specs.Answers.{checkedAnswer};
 ghost use Rattle.tables.specs.Tables.{nodeAt, edgeAt, nodeOf, edgeOf, checkRows};
@@ -20,10 +20,13 @@ use model::MAX_EDGES;
 use model::MAX_NODES;
 use model::MAX_UNITS;
 use model::NODE_WIDTH;
+use model::READ_ONLY;
+use model::READ_WRITE;
 use model::Reason;
 use model::SEGMENT;
 use model::SPACE;
 use model::Units;
+use model::WRITE_ONLY;
 
 // A node row.
 pub struct NodeRow {
@@ -31,6 +34,7 @@ pub struct NodeRow {
     pub base: Units,
     pub range: Units,
     pub unit: i64,
+    pub access: i64,
 }
 
 // An edge row.
@@ -49,11 +53,13 @@ pub fn node_at(nodes: &[i64], v: usize) -> NodeRow
     let base = nodes[NODE_WIDTH * v + 1];
     let range = nodes[NODE_WIDTH * v + 2];
     let unit = nodes[NODE_WIDTH * v + 3];
+    let access = nodes[NODE_WIDTH * v + 4];
     NodeRow {
         kind: kind,
         base: Units::of(base),
         range: Units::of(range),
         unit: unit,
+        access: access,
     }
 }
 
@@ -134,6 +140,19 @@ fn is_unit(unit: i64) -> bool
     unit == 128
 }
 
+// Whether the number is an access.
+fn is_access(access: i64) -> bool
+    ensures { λ r. ⌜ r ≡ isAccess access ⌝ }
+{
+    if access == READ_WRITE {
+        return true;
+    }
+    if access == READ_ONLY {
+        return true;
+    }
+    access == WRITE_ONLY
+}
+
 // Whether base and range of a node row keep their limits. Each is held to the highest end before they are added: the sum of any two might not fit.
 fn good_extent(n: NodeRow) -> bool
     ensures { λ r. ⌜ r ≡ goodExtent (nodeOf 0 n) ⌝ }
@@ -164,6 +183,9 @@ pub fn good_node(n: NodeRow) -> bool
         return false;
     }
     if !is_unit(n.unit) {
+        return false;
+    }
+    if !is_access(n.access) {
         return false;
     }
     good_extent(n)

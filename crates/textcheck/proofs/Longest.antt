@@ -1,4 +1,4 @@
--- How long a report can be: 131 bytes and 20 for each pair. Numbers are counted by their digits: rows have at most three, lists at most four, counts
+-- How long a report can be: 145 bytes and 30 for each pair. Numbers are counted by their digits: rows have at most three, lists at most four, counts
 -- seven and an address seventeen.
 use mathlib.Core.Path.{_≡_, refl, ap, subst, _∙_}
 use mathlib.Core.Bool.{Bool, true, false, cond, _&&_}
@@ -13,16 +13,18 @@ use lib.IntN.{ℤ, pos, negsuc}
 use lib.ListN.{length, length-append, length-map}
 use Rattle.integers.proofs.Tests.{Test, passed, failed, eq?}
 use Rattle.integers.proofs.Linear.{le-in}
-use Rattle.lists.specs.Lists.{_∈_, isNil}
+use Rattle.lists.specs.Lists.{_∈_}
 use Rattle.model.specs.Bytes.{Bytes, lineFeed, blank, shown, spaced}
 use Rattle.model.specs.Rows.{Pair}
-use Rattle.model.specs.Limits.{maxPairs}
+use Rattle.model.specs.declared.WalkKind.{WalkKind}
+use Rattle.model.specs.declared.WalkKind.the-variants.{Reading, Writing}
+use Rattle.model.specs.Limits.{maxPairs, maxPaths}
 use Rattle.model.proofs.GroupRows.{group-leaf}
 use Rattle.model.proofs.Groups.{group-list-few}
 use Rattle.model.specs.Compare.{Tables, specGraph, implGraph, banks, visits, Finding, findingOf, verdictOf, Place, nowhere, Result, rootRows, groups, findings, resultOf}
 use Rattle.model.specs.Checks.{checkTables}
 use Rattle.model.specs.Refusals.{NoneHolds, compareConditions, outputConditions}
-use Rattle.model.specs.Report.{lineOf, findingLine, resultLine, report}
+use Rattle.model.specs.Report.{lineOf, noRecord, lengthsOfLists, findingLine, resultLine, report}
 use Rattle.model.specs.TextCheck.{reportConditions}
 use Rattle.model.specs.Demands.{Address, Demand3, FirstDifference}
 use Rattle.model.proofs.Settled.{none-next, settled-none}
@@ -33,7 +35,7 @@ use Rattle.lists.proofs.Membership.{map-out}
 use Rattle.model.proofs.Demand.{compare-full, demand3}
 use Rattle.tables.proofs.Rows.{pair-own}
 use Rattle.report.proofs.Digits.{digits-one, digits-within}
-use Rattle.reporting.specs.Lines.{SmallFinding, SmallResult}
+use Rattle.reporting.specs.Lines.{SmallPlace, SmallResult}
 use Rattle.reporting.proofs.Parts.{report-length, result-length, report-from, result-small}
 use Rattle.prepare.proofs.Checks.{tables-inputs}
 use Rattle.survey.proofs.Passing.{findings-few}
@@ -72,34 +74,42 @@ line-size v (w ∷ vs) =
 
 -- ---- pairs
 
+-- a finding with rows below 1,000 and lists of at most 1,024 records, for both kinds
+record SmallFinding (f : Finding) : Type 0 where
+  place : SmallPlace (f .visit .root .row) (f .visit .leaf .row)
+  spec : (kind : WalkKind) → length (f .spec kind) ≤ maxPaths
+  impl : (kind : WalkKind) → length (f .impl kind) ≤ maxPaths
+
 module _ (f : Finding) (small : SmallFinding f) where
   -- what stands behind the root row
   behind : List ℤ
-  behind = pos (f .visit .leaf .row) ∷ pos (verdictOf f) ∷ pos (length (f .spec)) ∷ pos (length (f .impl)) ∷ []
+  behind = pos (f .visit .leaf .row) ∷ pos (verdictOf f) ∷ map pos (lengthsOfLists f)
 
-  numbers-longest : lineSize (pos (f .visit .root .row) ∷ behind) ≤ 20
-  unfolding behind
+  numbers-longest : lineSize (pos (f .visit .root .row) ∷ behind) ≤ 30
+  unfolding behind lengthsOfLists
   numbers-longest =
       omega (
         arith,
-        shown-within (f .visit .root .row) 2 (omega (arith, small .root)),
-        shown-within (f .visit .leaf .row) 2 (omega (arith, small .leaf)),
+        shown-within (f .visit .root .row) 2 (omega (arith, small .place .root)),
+        shown-within (f .visit .leaf .row) 2 (omega (arith, small .place .leaf)),
         shown-within (verdictOf f) 0 (omega (arith, verdict-low f)),
-        shown-within (length (f .spec)) 3 (omega (arith, small .spec)),
-        shown-within (length (f .impl)) 3 (omega (arith, small .impl)),
+        shown-within (length (f .spec Reading)) 3 (omega (arith, small .spec Reading)),
+        shown-within (length (f .impl Reading)) 3 (omega (arith, small .impl Reading)),
+        shown-within (length (f .spec Writing)) 3 (omega (arith, small .spec Writing)),
+        shown-within (length (f .impl Writing)) 3 (omega (arith, small .impl Writing)),
       )
 
-  -- the line of a pair has at most 20 bytes
-  finding-longest : length (findingLine f) ≤ 20
+  -- the line of a pair has at most 30 bytes
+  finding-longest : length (findingLine f) ≤ 30
   unfolding findingLine behind
-  finding-longest = go (isNil (f .spec) && isNil (f .impl))
+  finding-longest = go (noRecord f)
     where
-      go : (b : Bool) → length (cond b [] (lineOf (pos (f .visit .root .row) ∷ behind))) ≤ 20
+      go : (b : Bool) → length (cond b [] (lineOf (pos (f .visit .root .row) ∷ behind))) ≤ 30
       go true = omega arith
       go false = omega (arith, line-size (pos (f .visit .root .row)) behind, numbers-longest)
 
 -- and the lines of all pairs so many each
-lines-longest : (fs : List Finding) → ((f : Finding) → f ∈ fs → SmallFinding f) → length (flatMap findingLine fs) ≤ 20 * length fs
+lines-longest : (fs : List Finding) → ((f : Finding) → f ∈ fs → SmallFinding f) → length (flatMap findingLine fs) ≤ 30 * length fs
 unfolding flatMap
 lines-longest [] h = omega arith
 lines-longest (f ∷ fs) h =
@@ -147,10 +157,9 @@ module _ (t : Tables) (taken : checkTables t ≡ none) where
       let few = inputs .1 v (w .1) in
       rw (w .2)
       (record {
-        root = low .0;
-        leaf = low .1;
-        spec = omega (arith, list-few (specGraph t) (v .root .spec) (v .leaf .spec), few .0);
-        impl = omega (arith, group-list-few (implGraph t) (v .root .impl) (banks t (v .leaf)), few .1);
+        place = record { root = low .0; leaf = low .1 };
+        spec = λ kind. omega (arith, list-few kind (specGraph t) (v .root .spec) (v .leaf .spec), few .0);
+        impl = λ kind. omega (arith, group-list-few kind (implGraph t) (v .root .impl) (banks t (v .leaf)), few .1);
       })
 
   difference-short : {res : Result} → FirstDifference t res → ShortPlace (res .place)
@@ -192,14 +201,14 @@ findings-count : (t : Tables) → length (findings t) ≡ length (rootRows t) * 
 unfolding findings
 findings-count t = length-map (visits (rootRows t) (groups t)) (findingOf t) ∙ visits-length (rootRows t) (groups t)
 
--- the report of tables that meet no condition has at most 131 bytes and 20 for each pair
+-- the report of tables that meet no condition has at most 145 bytes and 30 for each pair
 pub report-longest : (t : Tables) → NoneHolds (compareConditions t)
-    → length (report (findings t)) ≤ 131 + 20 * (length (rootRows t) * length (groups t))
+    → length (report (findings t)) ≤ 145 + 30 * (length (rootRows t) * length (groups t))
 report-longest t h =
     let taken = settled-none (checkTables t) (compareConditions t) (compare-settled t) .1 h in
     let res = resultOf (findings t) in
     let place = place-short t taken (demand3 t h res (compare-full t h)) in
-    subst (λ (n : ℕ). length (report (findings t)) ≤ 131 + 20 * n) (findings-count t)
+    subst (λ (n : ℕ). length (report (findings t)) ≤ 145 + 30 * n) (findings-count t)
     (omega (
       arith,
       ap length (report-from (findings t)),
@@ -210,7 +219,7 @@ report-longest t h =
     ))
 
 -- so with a buffer of that length no condition is met: refusal 11 is not given
-pub longest-held : (t : Tables) (room : ℕ) → NoneHolds (compareConditions t) → 131 + 20 * (length (rootRows t) * length (groups t)) ≤ room
+pub longest-held : (t : Tables) (room : ℕ) → NoneHolds (compareConditions t) → 145 + 30 * (length (rootRows t) * length (groups t)) ≤ room
     → NoneHolds (reportConditions room t)
 unfolding reportConditions outputConditions
 longest-held t room h fits =

@@ -54,7 +54,7 @@ names-end = refl
 names-before : (fs : List Finding) (vs : List ℤ) → resultLine (resultOf fs) ≡ lineOf vs → LastLine (report fs) (resultLine (resultOf fs))
 unfolding report lineOf
 names-before fs vs e =
-    let names = bytes "root leaf verdict spec impl\n" in
+    let names = bytes "root leaf verdict rspec rimpl wspec wimpl\n" in
     let lines = flatMap findingLine fs in
     let above = bytes "\nverdict equal partial different root leaf address" in
     let line = resultLine (resultOf fs) in

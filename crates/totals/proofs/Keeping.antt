@@ -4,7 +4,7 @@ use mathlib.Core.Bool.{Bool, true, false, cond, _&&_}
 use mathlib.Core.List.{List, [], _∷_, _++_, append-nil, append-assoc, flatMap, List·Memᴰ·head, List·Memᴰ·tail}
 use mathlib.Core.Logic.{_≢_}
 use mathlib.Core.Option.{some}
-use Prim.Native.Nat.{ℕ, suc, _+_, _*_, _≤_, _<_}
+use Prim.Native.Nat.{ℕ, suc, _+_, _*_, _≤_, _<_, max}
 use native.Mathlib.Numerals.{add-one}
 use native.Mathlib.Nat.{add-zero}
 use native.Mathlib.Omega.{arith}
@@ -12,11 +12,12 @@ use lib.IntN.{ℤ, pos}
 use lib.ListN.{length, set, length-append, length-set}
 use lib.Seq.{take-suc-set}
 use Rattle.lists.specs.Lists.{_∈_, isNil}
+use Rattle.model.specs.declared.WalkKind.the-variants.{Reading, Writing}
 use Rattle.model.specs.Answers.{verdictNumber, comparisonResult}
 use Rattle.model.specs.Bitmapping.{Record}
-use Rattle.model.specs.Compare.{Finding, verdictOf, placeOf, resultOf}
+use Rattle.model.specs.Compare.{Finding, verdictOf, lowerOf, lowestOf, placeOf, resultOf}
 use Rattle.model.specs.declared.Comparison.{Comparison}
-use Rattle.model.specs.Report.{lineOf, findingLine}
+use Rattle.model.specs.Report.{lineOf, noRecord, lengthsOfLists, findingLine}
 use Rattle.reporting.specs.Lines.{lineOfNumber, maxVisits, SmallResult}
 use Rattle.reporting.proofs.Lines.{line-short, flatMap-snoc, lines-snoc}
 use Rattle.reporting.proofs.Parts.{result-small}
@@ -27,47 +28,76 @@ use Rattle.totals.proofs.Results.{result-snoc, place-first, oneEqual, r
 
 -- ---- lines
 
--- a finding without a record has no line
-none-test : (s m : List Record) → length s + length m ≡ 0 → isNil s && isNil m ≡ true
-unfolding isNil
-none-test [] [] e = refl
-none-test [] (y ∷ m) e = absurd (omega arith)
-none-test (x ∷ s) m e = absurd (omega arith)
+-- how many records its lists have together
+abbrev pub recordCount : Finding → ℕ
+recordCount f = length (f .spec Reading) + length (f .impl Reading) + (length (f .spec Writing) + length (f .impl Writing))
 
-pub line-none : (f : Finding) → length (f .spec) + length (f .impl) ≡ 0 → findingLine f ≡ []
-unfolding findingLine
-line-none f e = rw (none-test (f .spec) (f .impl) e) refl
+-- whether it has none
+none? : (a b c d : List Record) → length a + length b + (length c + length d) ≡ 0 → isNil a && isNil b && isNil c && isNil d ≡ true
+unfolding isNil
+none? [] [] [] [] e = refl
+none? [] [] [] (y ∷ d) e = absurd (omega arith)
+none? [] [] (y ∷ c) d e = absurd (omega arith)
+none? [] (y ∷ b) c d e = absurd (omega arith)
+none? (y ∷ a) b c d e = absurd (omega arith)
+
+some? : (a b c d : List Record) → length a + length b + (length c + length d) ≢ 0 → isNil a && isNil b && isNil c && isNil d ≡ false
+unfolding isNil
+some? [] [] [] [] n = absurd (n refl)
+some? [] [] [] (y ∷ d) n = refl
+some? [] [] (y ∷ c) d n = refl
+some? [] (y ∷ b) c d n = refl
+some? (y ∷ a) b c d n = refl
+
+-- a finding without a record has no line
+pub line-none : (f : Finding) → recordCount f ≡ 0 → findingLine f ≡ []
+unfolding findingLine noRecord
+line-none f e = rw (none? (f .spec Reading) (f .impl Reading) (f .spec Writing) (f .impl Writing) e) refl
+
+-- what is found for both kinds has as many
+pub found-count : {asked : Bool} {r w : Found} {f : Finding} → IsFinding Reading f asked r → IsFinding Writing f asked w
+    → r .lengths .spec + r .lengths .implementation + (w .lengths .spec + w .lengths .implementation) ≡ recordCount f
+found-count is at = cc (is .spec, is .impl, at .spec, at .impl)
+
+-- the worse of the verdicts that are found is that of the finding
+pub found-verdict : {asked : Bool} {r w : Found} {f : Finding} → IsFinding Reading f asked r → IsFinding Writing f asked w
+    → max (verdictNumber (r .verdict)) (verdictNumber (w .verdict)) ≡ verdictOf f
+unfolding verdictOf
+found-verdict is at = cc (is .verdict, at .verdict)
 
 -- another has one
-some-test : (s m : List Record) → length s + length m ≢ 0 → isNil s && isNil m ≡ false
-unfolding isNil
-some-test [] [] n = absurd (n refl)
-some-test [] (y ∷ m) n = refl
-some-test (x ∷ s) m n = refl
-
-pub line-some : {asked : Bool} {r : Found} (f : Finding) (i j : ℕ) → f .visit .root .row ≡ i → f .visit .leaf .row ≡ j → IsFinding f asked r
-    → r .spec + r .implementation ≢ 0
-    → lineOf (pos i ∷ pos j ∷ pos (verdictNumber (r .verdict)) ∷ pos (r .spec) ∷ pos (r .implementation) ∷ []) ≡ findingLine f
-unfolding findingLine
-line-some f i j e h is n =
-    rw (← e, ← h, is .verdict, is .spec, is .impl, some-test (f .spec) (f .impl) (rw (is .spec, is .impl) at n)) refl
+pub line-some : {asked : Bool} {r w : Found} (f : Finding) (i j v : ℕ) → f .visit .root .row ≡ i → f .visit .leaf .row ≡ j → v ≡ verdictOf f
+    → IsFinding Reading f asked r → IsFinding Writing f asked w → recordCount f ≢ 0
+    → lineOf
+    (pos i
+    ∷ pos j
+    ∷ pos v
+    ∷ pos (r .lengths .spec)
+    ∷ pos (r .lengths .implementation)
+    ∷ pos (w .lengths .spec)
+    ∷ pos (w .lengths .implementation)
+    ∷ [])
+    ≡ findingLine f
+unfolding findingLine noRecord lengthsOfLists
+line-some f i j v e h q is at n =
+    rw (← e, ← h, q, is .spec, is .impl, at .spec, at .impl, some? (f .spec Reading) (f .impl Reading) (f .spec Writing) (f .impl Writing) n) refl
 
 -- a line is short
 line-or-none : (b : Bool) (vs : List ℤ) → length (cond b [] (lineOf vs)) ≤ 22 * length vs + 1
 line-or-none true vs = omega arith
 line-or-none false vs = line-short vs
 
-finding-short : (f : Finding) → length (findingLine f) ≤ 111
-unfolding findingLine
-finding-short f = line-or-none (isNil (f .spec) && isNil (f .impl)) _
+finding-short : (f : Finding) → length (findingLine f) ≤ 155
+unfolding findingLine lengthsOfLists
+finding-short f = line-or-none (noRecord f) _
 
-lines-short : (fs : List Finding) → length (flatMap findingLine fs) ≤ 111 * length fs
+lines-short : (fs : List Finding) → length (flatMap findingLine fs) ≤ 155 * length fs
 unfolding flatMap
 lines-short [] = omega arith
 lines-short (f ∷ fs) = omega (arith, finding-short f, lines-short fs, length-append (findingLine f) (flatMap findingLine fs))
 
 -- the bytes of lines are few
-pub kept-bytes : {fs : List Finding} {lines : List ℕ} {k : Kept} → KeptOf fs lines k → k .bytes ≤ 111 * length fs
+pub kept-bytes : {fs : List Finding} {lines : List ℕ} {k : Kept} → KeptOf fs lines k → k .bytes ≤ 155 * length fs
 kept-bytes {fs} p = omega (arith, p .bytes, lines-short fs)
 
 -- the counts of at most 1,000,000 findings are small
@@ -78,15 +108,15 @@ kept-small {fs} p h = rw (p .result) (result-small fs h)
 -- ---- one more finding
 
 -- the full result with what is found of it
-pub found-result : {fs : List Finding} {lines : List ℕ} {k : Kept} {r : Found} (f : Finding) (i j : ℕ) → f .visit .root .row ≡ i → f .visit .leaf .row ≡ j
-    → IsFinding f (isAsked k) r → KeptOf fs lines k
-    → resultWith (verdictNumber (r .verdict)) (record { root = pos i; leaf = pos j; address = r .address }) (comparisonResult (k .result))
-    ≡ resultOf (fs ++ (f ∷ []))
-unfolding placeOf
-found-result {fs} {k} {r} f i j e h is p =
-    rw (is .verdict, ← e, ← h)
+pub found-result : {fs : List Finding} {lines : List ℕ} {k : Kept} {r w : Found} {a : ℤ} (f : Finding) (i j v : ℕ) → f .visit .root .row ≡ i
+    → f .visit .leaf .row ≡ j → v ≡ verdictOf f → a ≡ lowerOf (r .address) (w .address) → IsFinding Reading f (isAsked k) r → IsFinding Writing f (isAsked k) w
+    → KeptOf fs lines k → resultWith v (record { root = pos i; leaf = pos j; address = a }) (comparisonResult (k .result)) ≡ resultOf (fs ++ (f ∷ []))
+unfolding placeOf lowestOf
+found-result {fs} {k} f i j v e h q low is at p =
+    rw (q, ← e, ← h)
     (place-first (verdictOf f) _ (placeOf (some f)) (comparisonResult (k .result))
-    (λ a n. ap (λ (z : ℤ). record { root = pos (f .visit .root .row); leaf = pos (f .visit .leaf .row); address = z }) (is .address a n))
+    (λ a n.
+    ap (λ (z : ℤ). record { root = pos (f .visit .root .row); leaf = pos (f .visit .leaf .row); address = z }) (low ∙ cc (is .address a, at .address a)))
     ∙ ap (resultWith (verdictOf f) (placeOf (some f))) (p .result) ∙ sym (result-snoc fs f))
 
 module _ {fs : List Finding} {lines : List ℕ} {k : Kept} (p : KeptOf fs lines k) (f : Finding) {result : Comparison}
@@ -142,6 +172,6 @@ kept-equal {fs} {k} [] b p = rw (append-nil fs, add-zero (k .result .equal)) p
 kept-equal {fs} {lines} {k} (g ∷ gs) b p =
     let bare = b g (List·Memᴰ·head refl) in
     let result = ap oneEqual (p .result) ∙ sym (result-bare fs bare) in
-    let one = kept-none p g {result = withEqual 1 k .result} result (line-none g (rw (bare .spec, bare .impl) refl)) in
+    let one = kept-none p g {result = withEqual 1 k .result} result (line-none g (rw (bare .spec Reading, bare .impl Reading, bare .spec Writing, bare .impl Writing) refl)) in
     let sum : k .result .equal + 1 + length gs ≡ k .result .equal + suc (length gs) = omega arith in
     rw (sum, append-assoc fs (g ∷ []) gs) at (kept-equal gs (λ h m. b h (List·Memᴰ·tail m)) one)

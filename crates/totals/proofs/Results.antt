@@ -1,6 +1,6 @@
 -- The full result of findings with one more behind them, and with some that have no record.
-use mathlib.Core.Path.{_≡_, refl, _∙_}
-use mathlib.Core.Bool.{Bool, true, false, not, cond, _&&_}
+use mathlib.Core.Path.{_≡_, refl, sym, ap, _∙_}
+use mathlib.Core.Bool.{Bool, true, false, true≢false, not, cond, _&&_}
 use mathlib.Core.List.{List, [], _∷_, _++_, map}
 use mathlib.Core.Logic.{_≢_}
 use mathlib.Core.Option.{some}
@@ -9,11 +9,12 @@ use native.Mathlib.Numerals.{add-one}
 use native.Mathlib.Omega.{arith}
 use borrow.Author.Tests.{le-ltb}
 use lib.Dec.{eqb}
-use lib.IntN.{pos}
+use lib.IntN.{ℤ, pos}
 use lib.Signed.{ltZ}
-use Rattle.integers.proofs.Tests.{Test, failed, eq?}
+use Rattle.integers.proofs.Tests.{Test, passed, failed, eq?}
+use Rattle.model.specs.declared.WalkKind.the-variants.{Reading, Writing}
 use Rattle.model.specs.Verdicts.{verdict, sameList}
-use Rattle.model.specs.Compare.{Finding, verdictOf, count, largest, firstUnequal, Place, placeOf, Result, resultOf}
+use Rattle.model.specs.Compare.{Finding, kindVerdict, verdictOf, count, largest, firstUnequal, Place, placeOf, Result, resultOf}
 use Rattle.totals.specs.Kept.{Bare, counted, firstPlace, resultWith}
 
 -- ---- one more finding
@@ -77,6 +78,26 @@ place-first v p q r h = rw (go (eqb v 0) (eq? v 0) (ltZ (r .place .root) (pos 0)
     go false (failed n) true h = h refl n
     go false t false h = refl
 
+-- where no pair of a result with one more is unequal, none was before, and that pair is equal
+pub asked-before : {q : Result} (r : Result) (v i j : ℕ) (a : ℤ) → q ≡ resultWith v (record { root = pos i; leaf = pos j; address = a }) r
+    → ltZ (q .place .root) (pos 0) ≡ true → (ltZ (r .place .root) (pos 0) ≡ true) × (v ≡ 0)
+unfolding resultWith
+asked-before r v i j a e h =
+    go (ltZ (r .place .root) (pos 0)) refl (eqb v 0) (eq? v 0) (ap (λ (z : Result). ltZ (z .place .root) (pos 0)) (sym e) ∙ h)
+  where
+    place : Place
+    place = record { root = pos i; leaf = pos j; address = a }
+
+    first : (x : Bool) → ltZ (r .place .root) (pos 0) ≡ false → ltZ (cond (x && false) place (r .place) .root) (pos 0) ≡ true → ⊥
+    first true p k = true≢false (sym k ∙ p)
+    first false p k = true≢false (sym k ∙ p)
+
+    go : (b : Bool) → ltZ (r .place .root) (pos 0) ≡ b → (x : Bool) → Test (v ≡ 0) (v ≢ 0) x → ltZ (cond (not x && b) place (r .place) .root) (pos 0) ≡ true
+        → (b ≡ true) × (v ≡ 0)
+    go true p true (passed z) k = (refl, z)
+    go true p false (failed n) k = absurd (true≢false (sym k ∙ le-ltb i 0 (omega arith)))
+    go false p x t k = absurd (first (not x) p k)
+
 -- a result by its parts
 pub result-parts : (v : ℕ) (place : Place) (r : Result) {q : Result} → q .equal ≡ counted 0 v (r .equal) → q .partial ≡ counted 1 v (r .partial)
     → q .different ≡ counted 2 v (r .different) → q .verdict ≡ max (r .verdict) v → q .place ≡ firstPlace v place (r .place) → q ≡ resultWith v place r
@@ -87,8 +108,8 @@ result-parts v place r a b c d e = λ i. record { equal = a i; partial = b i; di
 
 -- such a finding is equal
 bare-verdict : {f : Finding} → Bare f → verdictOf f ≡ 0
-unfolding verdictOf verdict sameList
-bare-verdict b = rw (b .spec, b .impl) refl
+unfolding verdictOf kindVerdict verdict sameList
+bare-verdict b = rw (b .spec Reading, b .impl Reading, b .spec Writing, b .impl Writing) refl
 
 -- the full result with one more equal pair
 abbrev pub oneEqual : Result → Result

@@ -2,36 +2,37 @@
 use mathlib.Core.Path.{_≡_}
 use mathlib.Core.Bool.{Bool, true, not, cond, _&&_}
 use mathlib.Core.List.{List, [], _∷_, _++_, flatMap}
-use mathlib.Core.Logic.{_≢_}
 use Prim.Native.Nat.{ℕ, suc, _+_, _≤_, max}
 use lib.Dec.{eqb}
 use lib.IntN.{pos}
 use lib.ListN.{length, take}
 use lib.Signed.{ltZ}
 use Rattle.lists.specs.Lists.{_∈_}
+use Rattle.model.specs.declared.WalkKind.{WalkKind}
+use Rattle.model.specs.declared.WalkKind.the-variants.{Reading, Writing}
 use Rattle.model.specs.Answers.{verdictNumber, comparisonResult}
-use Rattle.model.specs.Compare.{Finding, verdictOf, Place, Result, resultOf}
+use Rattle.model.specs.Compare.{Finding, kindVerdict, Place, Result, resultOf}
 use Rattle.model.specs.Report.{findingLine}
 use Rattle.model.specs.Verdicts.{lowest}
-use Rattle.reporting.specs.Lines.{linesOf, maxVisits, SmallLine}
+use Rattle.reporting.specs.Lines.{linesOf, maxVisits, SmallPlace, SmallLengths}
 use Rattle.totals.specs.declared.Found.{Found}
 use Rattle.totals.specs.declared.Kept.{Kept}
 use Rattle.totals.specs.declared.Place as declared
 
 -- ---- one pair
 
--- what is found of a pair is the verdict of its finding, the lengths of its lists and, where the address is asked for and the pair is unequal, the
--- lowest bit address at which they differ
-pub record IsFinding (f : Finding) (asked : Bool) (r : Found) : Type 0 where
-  pub verdict : verdictNumber (r .verdict) ≡ verdictOf f
-  pub spec : r .spec ≡ length (f .spec)
-  pub impl : r .implementation ≡ length (f .impl)
-  pub address : asked ≡ true → verdictOf f ≢ 0 → r .address ≡ lowest (f .spec) (f .impl)
+-- what is found of a pair for a kind of walk is the verdict of its finding for this kind, the lengths of its lists and, where the address is asked for, the lowest
+-- bit address at which they differ, or −1
+pub record IsFinding (kind : WalkKind) (f : Finding) (asked : Bool) (r : Found) : Type 0 where
+  pub verdict : verdictNumber (r .verdict) ≡ kindVerdict f kind
+  pub spec : r .lengths .spec ≡ length (f .spec kind)
+  pub impl : r .lengths .implementation ≡ length (f .impl kind)
+  pub address : asked ≡ true → r .address ≡ lowest (f .spec kind) (f .impl kind)
 
--- neither list has a record
+-- no list of either kind has a record
 pub record Bare (f : Finding) : Type 0 where
-  pub spec : f .spec ≡ []
-  pub impl : f .impl ≡ []
+  pub spec : (kind : WalkKind) → f .spec kind ≡ []
+  pub impl : (kind : WalkKind) → f .impl kind ≡ []
 
 -- ---- the full result with one more pair
 
@@ -83,15 +84,20 @@ pub record RoomFor (n : ℕ) (k : Kept) : Type 0 where
   pub kept : KeptOf fs lines k
   pub few : length fs + n ≤ maxVisits
 
--- what is found of the pair of root row i and the group of lowest row j can be added
-pub record PairAddable (k : Kept) (i j : ℕ) (r : Found) : Type 0 where
+-- what is found of the pair of root row i and the group of lowest row j for reading and for writing can be added
+pub record PairAddable (k : Kept) (i j : ℕ) (reading writing : Found) : Type 0 where
   pub room : RoomFor 1 k
-  pub small : SmallLine i j (r .spec) (r .implementation)
+  pub place : SmallPlace i j
+  pub read : SmallLengths (reading .lengths)
+  pub written : SmallLengths (writing .lengths)
 
 -- it is added: whatever findings were kept, its finding is kept behind them
-pub record Added (k : Kept) (lines : List ℕ) (i j : ℕ) (r : Found) (k′ : Kept) (lines′ : List ℕ) : Type 0 where
-  pub kept : (fs : List Finding) (f : Finding) → f .visit .root .row ≡ i → f .visit .leaf .row ≡ j → IsFinding f (isAsked k) r
+pub record Added (k : Kept) (lines : List ℕ) (i j : ℕ) (reading writing : Found) (k′ : Kept) (lines′ : List ℕ) : Type 0 where
+  pub kept : (fs : List Finding) (f : Finding) → f .visit .root .row ≡ i → f .visit .leaf .row ≡ j
+      → IsFinding Reading f (isAsked k) reading → IsFinding Writing f (isAsked k) writing
       → KeptOf fs lines k → KeptOf (fs ++ (f ∷ [])) lines′ k′
+  -- where an address is still asked for, one was asked for before, and the pair is equal
+  pub asked : isAsked k′ ≡ true → (isAsked k ≡ true) × (max (verdictNumber (reading .verdict)) (verdictNumber (writing .verdict)) ≡ 0)
 
 -- n findings without a record are added
 pub record EqualAdded (k : Kept) (n : ℕ) (k′ : Kept) : Type 0 where

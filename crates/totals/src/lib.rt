@@ -1,25 +1,28 @@
 // What is kept of the pairs of a comparison, taken in visiting order, and how what is found of one pair is added to it: its verdict is counted, the
 // place of the first unequal pair is kept, and the number of its line is stored behind the others.
 ghost use mathlib.Core.Path.{_≡_};
-ghost use Prim.Native.Nat.{_≤_, _<_, max};
+ghost use Prim.Native.Nat.{_≤_, _<_};
 ghost use lib.IntN.{pos};
 ghost use lib.ListN.{set};
 ghost use Rattle.model.specs.Limits.{maxPairs};
 ghost use Rattle.model.specs.Answers.{verdictNumber, comparisonResult};
 ghost use Rattle.reporting.specs.Lines.{maxVisits, SmallResult};
 ghost use Rattle.totals.specs.Kept.{counted, firstPlace, resultWith, asPlace, KeptNone, isAsked, RoomFor, PairAddable, Added, EqualAdded};
+use bothkinds::higher;
+use bothkinds::lower_of;
+use bothkinds::record_count;
 use model::Comparison;
 use model::Verdict;
 use model::verdict_number;
+use reporting::Lengths;
 use reporting::line_length;
 use reporting::line_number;
 
-// What is found of a pair: its verdict, the lengths of its lists, and, where it was asked for and the pair is unequal, the lowest bit address at which
-// they differ.
+// What is found of a pair for one kind of walk: its verdict, the lengths of its lists, and, where it was asked for, the lowest bit address at which they differ, -1
+// where they differ nowhere.
 pub struct Found {
     pub verdict: Verdict,
-    pub spec: usize,
-    pub implementation: usize,
+    pub lengths: Lengths,
     pub address: i64,
 }
 
@@ -76,16 +79,6 @@ fn counted(verdict: usize, given: usize, count: usize) -> usize
     count
 }
 
-// The higher of two verdicts.
-fn higher(one: Verdict, other: Verdict) -> Verdict
-    ensures { λ r. ⌜ verdictNumber r ≡ max (verdictNumber one) (verdictNumber other) ⌝ }
-{
-    if verdict_number(one) < verdict_number(other) {
-        return other;
-    }
-    one
-}
-
 // The place of the first unequal pair, with one more pair of this place.
 fn first_place(first: Place, place: Place, given: usize) -> Place
     ensures { λ r. ⌜ asPlace r ≡ firstPlace given (asPlace place) (asPlace first) ⌝ }
@@ -99,15 +92,20 @@ fn first_place(first: Place, place: Place, given: usize) -> Place
     first
 }
 
-// The full result with one more pair.
-fn with_found(result: Comparison, root_row: usize, leaf_row: usize, found: Found) -> Comparison
+// The full result with one more pair of this verdict and this lowest address.
+fn with_found(
+    result: Comparison,
+    root_row: usize,
+    leaf_row: usize,
+    verdict: Verdict,
+    address: i64,
+) -> Comparison
     requires { ⌜ SmallResult (comparisonResult result) × («root_row» < maxPairs) × («leaf_row» < maxPairs) ⌝ }
     ensures { λ r. ⌜
         comparisonResult r
-        ≡ resultWith (verdictNumber (found .verdict)) (record { root = pos «root_row»; leaf = pos «leaf_row»; address = found .address })
+        ≡ resultWith (verdictNumber verdict) (record { root = pos «root_row»; leaf = pos «leaf_row»; address = address })
         (comparisonResult result) ⌝ }
 {
-    let verdict = found.verdict;
     let given = verdict_number(verdict);
     let whole = result.verdict;
     let first = Place {
@@ -118,7 +116,7 @@ fn with_found(result: Comparison, root_row: usize, leaf_row: usize, found: Found
     let place = Place {
         root: root_row as i64,
         leaf: leaf_row as i64,
-        address: found.address,
+        address: address,
     };
     let first = first_place(first, place, given);
     Comparison {
@@ -141,34 +139,35 @@ fn hold_line(lines: &mut [usize], count: usize, number: usize)
     }
 }
 
-// What is kept with one more pair.
+// What is kept with one more pair, of which this is found for reading and for writing: its verdict is the worse of the two kinds', its address the lower of those
+// that are there, and it has a line where any of its four lists has a record.
 pub fn with_pair(
     lines: &mut [usize],
     kept: Kept,
     root_row: usize,
     leaf_row: usize,
-    found: Found,
+    reading: Found,
+    writing: Found,
 ) -> Kept
-    requires { ⌜ PairAddable kept «root_row» «leaf_row» found ⌝ }
-    ensures { λ r. ⌜ Added kept (now (lines .entry)) «root_row» «leaf_row» found r (now (lines .exit)) ⌝ }
+    requires { ⌜ PairAddable kept «root_row» «leaf_row» reading writing ⌝ }
+    ensures { λ r. ⌜ Added kept (now (lines .entry)) «root_row» «leaf_row» reading writing r (now (lines .exit)) ⌝ }
 {
+    let read = reading.lengths;
+    let written = writing.lengths;
+    let one = reading.verdict;
+    let other = writing.verdict;
+    let verdict = higher(one, other);
+    let address = lower_of(reading.address, writing.address);
     let result = kept.result;
-    let result = with_found(result, root_row, leaf_row, found);
-    if found.spec + found.implementation == 0 {
+    let result = with_found(result, root_row, leaf_row, verdict, address);
+    if record_count(read, written) == 0 {
         return Kept {
             result: result,
             count: kept.count,
             bytes: kept.bytes,
         };
     }
-    let verdict = found.verdict;
-    let number = line_number(
-        root_row,
-        leaf_row,
-        verdict,
-        found.spec,
-        found.implementation,
-    );
+    let number = line_number(root_row, leaf_row, verdict, read, written);
     hold_line(lines, kept.count, number);
     Kept {
         result: result,

@@ -9,6 +9,7 @@ use crate::sets;
 use crate::tally;
 use crate::tally::Counts;
 use crate::walks;
+use crate::walks::Asked;
 use crate::walks::Reached;
 use generator::maps::Shape;
 use generator::numbers::at;
@@ -363,18 +364,18 @@ fn rows_hold(reached: &Reached, addresses: &[i64], table: &[i64], n: usize) -> b
 fn ask(
     nodes: &[i64],
     edges: &[i64],
-    root: usize,
-    leaf: usize,
+    asked: Asked,
     addresses: &[i64],
     out: &mut [i64],
     room: usize,
 ) -> Batched {
-    let from = number(root);
-    let to = number(leaf);
+    let root = number(asked.root);
+    let leaf = number(asked.leaf);
+    let kind = asked.kind;
     if room < out.len() {
-        return batch::batch(nodes, edges, from, to, addresses, &mut out[0..room]);
+        return batch::batch(nodes, edges, root, leaf, addresses, kind, &mut out[0..room]);
     }
-    batch::batch(nodes, edges, from, to, addresses, out)
+    batch::batch(nodes, edges, root, leaf, addresses, kind, out)
 }
 
 // Whether a batch is taken, with these counts.
@@ -442,8 +443,7 @@ fn room_holds(
 fn try_room(
     map: &Map,
     shape: Shape,
-    root: usize,
-    leaf: usize,
+    asked: Asked,
     addresses: &[i64],
     table: &Buffer,
     expected: BatchCounts,
@@ -453,7 +453,7 @@ fn try_room(
     let mut out = [records::UNTOUCHED; ROOM];
     let nodes = node_rows(map, shape);
     let edges = edge_rows(map, shape);
-    let batched = ask(nodes, edges, root, leaf, addresses, &mut out, room);
+    let batched = ask(nodes, edges, asked, addresses, &mut out, room);
     let short = room < times(expected.rows, ROW_WIDTH);
     tally::count(counts, tally::BUFFERS);
     tally::count_if(counts, tally::REFUSED_OUTPUT, short);
@@ -467,8 +467,7 @@ fn try_room(
 fn try_rooms(
     map: &Map,
     shape: Shape,
-    root: usize,
-    leaf: usize,
+    asked: Asked,
     addresses: &[i64],
     table: &Buffer,
     expected: BatchCounts,
@@ -480,17 +479,7 @@ fn try_rooms(
         if room > sum(length, NEAR) {
             return;
         }
-        try_room(
-            map,
-            shape,
-            root,
-            leaf,
-            addresses,
-            table,
-            expected,
-            room,
-            counts,
-        );
+        try_room(map, shape, asked, addresses, table, expected, room, counts);
     }
 }
 
@@ -565,8 +554,7 @@ fn try_rows(
 fn try_batch(
     map: &Map,
     shape: Shape,
-    root: usize,
-    leaf: usize,
+    asked: Asked,
     reached: &Reached,
     found: &Records,
     count: usize,
@@ -575,20 +563,19 @@ fn try_batch(
 ) {
     let mut table = [records::UNTOUCHED; ROOM];
     let n = write_rows(reached, found, count, addresses, &mut table);
-    try_rows(map, root, reached, addresses, &table, n, counts);
+    try_rows(map, asked.root, reached, addresses, &table, n, counts);
     let expected = BatchCounts {
         rows: n,
         records: count,
     };
-    try_rooms(map, shape, root, leaf, addresses, &table, expected, counts);
+    try_rooms(map, shape, asked, addresses, &table, expected, counts);
 }
 
 // The longest batch, with a buffer that its rows fill.
 fn try_longest(
     map: &Map,
     shape: Shape,
-    root: usize,
-    leaf: usize,
+    asked: Asked,
     reached: &Reached,
     found: &Records,
     count: usize,
@@ -598,11 +585,11 @@ fn try_longest(
     let mut table = [records::UNTOUCHED; LONGEST_ROOM];
     let mut out = [records::UNTOUCHED; LONGEST_ROOM];
     let n = write_rows(reached, found, count, addresses, &mut table);
-    try_rows(map, root, reached, addresses, &table, n, counts);
+    try_rows(map, asked.root, reached, addresses, &table, n, counts);
     let nodes = node_rows(map, shape);
     let edges = edge_rows(map, shape);
     let room = times(n, ROW_WIDTH);
-    let batched = ask(nodes, edges, root, leaf, addresses, &mut out, room);
+    let batched = ask(nodes, edges, asked, addresses, &mut out, room);
     let expected = BatchCounts {
         rows: n,
         records: count,
@@ -619,14 +606,13 @@ fn try_longest(
 fn refusal_holds(
     nodes: &[i64],
     edges: &[i64],
-    root: usize,
-    leaf: usize,
+    asked: Asked,
     addresses: &[i64],
     room: usize,
     refusal: usize,
 ) -> bool {
     let mut out = [records::UNTOUCHED; ROOM];
-    let batched = ask(nodes, edges, root, leaf, addresses, &mut out, room);
+    let batched = ask(nodes, edges, asked, addresses, &mut out, room);
     if is_refused(batched, refusal) {
         return is_untouched(&out);
     }
@@ -645,46 +631,36 @@ fn first_refusal(addresses: &[i64], of_graph: usize) -> usize {
 fn try_refusal(
     nodes: &[i64],
     edges: &[i64],
-    root: usize,
-    leaf: usize,
+    asked: Asked,
     addresses: &[i64],
     of_graph: usize,
     counts: &mut Counts,
 ) {
     let refusal = first_refusal(addresses, of_graph);
     tally::count_if(counts, tally::REFUSED_BATCH, refusal == LONG_BATCH);
-    if refusal_holds(nodes, edges, root, leaf, addresses, ROOM, refusal) {
-        if refusal_holds(nodes, edges, root, leaf, addresses, NO_ROOM, refusal) {
+    if refusal_holds(nodes, edges, asked, addresses, ROOM, refusal) {
+        if refusal_holds(nodes, edges, asked, addresses, NO_ROOM, refusal) {
             return;
         }
     }
     tally::differs(counts, b": batch\n");
 }
 
-// Batches over graphs that are refused: a table cut short, no tables, and root and leaf exchanged.
-fn try_refusals(
-    map: &Map,
-    shape: Shape,
-    root: usize,
-    leaf: usize,
-    addresses: &[i64],
-    counts: &mut Counts,
-) {
+// Batches over graphs that are refused: a node row without its access, no tables, and root and leaf exchanged.
+fn try_refusals(map: &Map, shape: Shape, asked: Asked, addresses: &[i64], counts: &mut Counts) {
     let nodes = node_rows(map, shape);
     let edges = edge_rows(map, shape);
-    let short = part(map, 0, 1);
+    let short = part(map, 0, rows::ACCESS);
     let none = part(map, 0, 0);
-    try_refusal(short, edges, root, leaf, addresses, SHAPE, counts);
-    try_refusal(none, none, root, leaf, addresses, NOT_ROOT_OR_LEAF, counts);
-    try_refusal(
-        nodes,
-        edges,
-        leaf,
-        root,
-        addresses,
-        NOT_ROOT_OR_LEAF,
-        counts,
-    );
+    let kind = asked.kind;
+    let exchanged = Asked {
+        root: asked.leaf,
+        leaf: asked.root,
+        kind: kind,
+    };
+    try_refusal(short, edges, asked, addresses, SHAPE, counts);
+    try_refusal(none, none, asked, addresses, NOT_ROOT_OR_LEAF, counts);
+    try_refusal(nodes, edges, exchanged, addresses, NOT_ROOT_OR_LEAF, counts);
 }
 
 // Gives each place its own number as its address.
@@ -698,8 +674,7 @@ fn count_up(addresses: &mut LongPlaces) {
 fn try_lengths(
     map: &Map,
     shape: Shape,
-    root: usize,
-    leaf: usize,
+    asked: Asked,
     reached: &Reached,
     found: &Records,
     count: usize,
@@ -707,30 +682,19 @@ fn try_lengths(
     counts: &mut Counts,
 ) {
     let longest = part(addresses, 0, LONGEST);
-    try_longest(
-        map,
-        shape,
-        root,
-        leaf,
-        reached,
-        found,
-        count,
-        longest,
-        counts,
-    );
-    try_refusals(map, shape, root, leaf, longest, counts);
-    try_refusals(map, shape, root, leaf, addresses, counts);
+    try_longest(map, shape, asked, reached, found, count, longest, counts);
+    try_refusals(map, shape, asked, longest, counts);
+    try_refusals(map, shape, asked, addresses, counts);
     let nodes = node_rows(map, shape);
     let edges = edge_rows(map, shape);
-    try_refusal(nodes, edges, root, leaf, addresses, NO_FAULT, counts);
+    try_refusal(nodes, edges, asked, addresses, NO_FAULT, counts);
 }
 
 // The longest batches, of the addresses from 0 on.
 fn try_long(
     map: &Map,
     shape: Shape,
-    root: usize,
-    leaf: usize,
+    asked: Asked,
     reached: &Reached,
     found: &Records,
     count: usize,
@@ -738,17 +702,7 @@ fn try_long(
 ) {
     let mut addresses = [0i64; TOO_LONG];
     count_up(&mut addresses);
-    try_lengths(
-        map,
-        shape,
-        root,
-        leaf,
-        reached,
-        found,
-        count,
-        &addresses,
-        counts,
-    );
+    try_lengths(map, shape, asked, reached, found, count, &addresses, counts);
 }
 
 // The addresses at the first n places.
@@ -760,8 +714,7 @@ fn first_places<'a>(addresses: &'a Places, n: usize) -> &'a [i64] {
 fn try_drawn(
     map: &Map,
     shape: Shape,
-    root: usize,
-    leaf: usize,
+    asked: Asked,
     reached: &Reached,
     found: &Records,
     count: usize,
@@ -773,7 +726,7 @@ fn try_drawn(
     let turn = draw(&mut seed, KINDS);
     draw_addresses(
         map,
-        root,
+        asked.root,
         reached,
         found,
         count,
@@ -783,24 +736,23 @@ fn try_drawn(
     );
     repeat_addresses(turn, &mut addresses, &mut seed);
     let drawn = first_places(&addresses, n);
-    try_batch(map, shape, root, leaf, reached, found, count, drawn, counts);
+    try_batch(map, shape, asked, reached, found, count, drawn, counts);
 }
 
-// Batches of a root and a leaf: one without addresses, one that is drawn, and with some lists the longest.
+// Batches of what is asked for: one without addresses, one that is drawn, and with some lists the longest.
 pub(crate) fn try_batches(
     map: &Map,
     shape: Shape,
-    root: usize,
-    leaf: usize,
+    asked: Asked,
     reached: &Reached,
     found: &Records,
     count: usize,
     counts: &mut Counts,
 ) {
     let none = part(map, 0, 0);
-    try_batch(map, shape, root, leaf, reached, found, count, none, counts);
-    try_drawn(map, shape, root, leaf, reached, found, count, counts);
+    try_batch(map, shape, asked, reached, found, count, none, counts);
+    try_drawn(map, shape, asked, reached, found, count, counts);
     if rest(cell(counts, tally::LISTS), LONG) == 0 {
-        try_long(map, shape, root, leaf, reached, found, count, counts);
+        try_long(map, shape, asked, reached, found, count, counts);
     }
 }

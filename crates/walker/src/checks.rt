@@ -8,6 +8,7 @@ use crate::records::same;
 use crate::tally;
 use crate::tally::Counts;
 use crate::walks;
+use crate::walks::Asked;
 use crate::walks::Reached;
 use generator::maps::Shape;
 use generator::numbers::at;
@@ -54,18 +55,14 @@ pub(crate) fn try_check(map: &Map, shape: Shape, counts: &mut Counts) {
 }
 
 // Whether `list` gives these records, and leaves the rest of the buffer alone.
-fn list_holds(
-    map: &Map,
-    shape: Shape,
-    root: usize,
-    leaf: usize,
-    list: &List,
-    count: usize,
-) -> bool {
+fn list_holds(map: &Map, shape: Shape, asked: Asked, list: &List, count: usize) -> bool {
     let mut out = [records::UNTOUCHED; records::RECORD_NUMBERS];
     let nodes = node_rows(map, shape);
     let edges = edge_rows(map, shape);
-    let written = bitmapping::list(nodes, edges, number(root), number(leaf), &mut out);
+    let root = number(asked.root);
+    let leaf = number(asked.leaf);
+    let kind = asked.kind;
+    let written = bitmapping::list(nodes, edges, root, leaf, kind, &mut out);
     match written {
         Written::Count(n) => {
             if n != count {
@@ -91,18 +88,14 @@ fn has_bits(slots: &[i64], n: usize) -> bool {
 }
 
 // Whether `walk` gives these leaf bits, and leaves the rest of the buffer alone.
-fn walk_holds(
-    map: &Map,
-    shape: Shape,
-    root: usize,
-    leaf: usize,
-    address: i64,
-    slots: &[i64],
-) -> bool {
+fn walk_holds(map: &Map, shape: Shape, asked: Asked, address: i64, slots: &[i64]) -> bool {
     let mut out = [walks::NO_BIT; walks::SLOTS];
     let nodes = node_rows(map, shape);
     let edges = edge_rows(map, shape);
-    let written = bitmapping::walk(nodes, edges, number(root), number(leaf), address, &mut out);
+    let root = number(asked.root);
+    let leaf = number(asked.leaf);
+    let kind = asked.kind;
+    let written = bitmapping::walk(nodes, edges, root, leaf, address, kind, &mut out);
     match written {
         Written::Count(n) => {
             if !has_bits(slots, n) {
@@ -155,14 +148,13 @@ fn count_walk(map: &Map, root: usize, address: i64, slots: &[i64], counts: &mut 
 fn try_address(
     map: &Map,
     shape: Shape,
-    root: usize,
-    leaf: usize,
+    asked: Asked,
     address: i64,
     slots: &[i64],
     counts: &mut Counts,
 ) {
-    count_walk(map, root, address, slots, counts);
-    if walk_holds(map, shape, root, leaf, address, slots) {
+    count_walk(map, asked.root, address, slots, counts);
+    if walk_holds(map, shape, asked, address, slots) {
         return;
     }
     tally::differs(counts, b": walk\n");
@@ -172,8 +164,7 @@ fn try_address(
 fn try_walk(
     map: &Map,
     shape: Shape,
-    root: usize,
-    leaf: usize,
+    asked: Asked,
     address: i64,
     reached: &Reached,
     counts: &mut Counts,
@@ -182,19 +173,18 @@ fn try_walk(
         if address < number(walks::ROOT_BITS) {
             let first = walks::first_slot(size(address));
             let slots = part(reached, first, sum(first, walks::SLOTS));
-            try_address(map, shape, root, leaf, address, slots, counts);
+            try_address(map, shape, asked, address, slots, counts);
             return;
         }
     }
     let none = [walks::NO_BIT; walks::SLOTS];
-    try_address(map, shape, root, leaf, address, &none, counts);
+    try_address(map, shape, asked, address, &none, counts);
 }
 
 fn try_walks(
     map: &Map,
     shape: Shape,
-    root: usize,
-    leaf: usize,
+    asked: Asked,
     reached: &Reached,
     found: &Records,
     count: usize,
@@ -202,8 +192,8 @@ fn try_walks(
 ) {
     for k in 0..ADDRESSES {
         let walk = cell(counts, tally::WALKS);
-        let address = address_of(map, root, found, count, k, walk);
-        try_walk(map, shape, root, leaf, address, reached, counts);
+        let address = address_of(map, asked.root, found, count, k, walk);
+        try_walk(map, shape, asked, address, reached, counts);
     }
 }
 
@@ -263,8 +253,7 @@ fn count_records(found: &Records, count: usize, leaf_bits: usize, counts: &mut C
 fn try_list(
     map: &Map,
     shape: Shape,
-    root: usize,
-    leaf: usize,
+    asked: Asked,
     found: &Records,
     count: usize,
     counts: &mut Counts,
@@ -272,26 +261,25 @@ fn try_list(
     tally::count(counts, tally::LISTS);
     let mut list = [records::UNTOUCHED; records::RECORD_NUMBERS];
     records::write_list(found, count, &mut list);
-    if list_holds(map, shape, root, leaf, &list, count) {
+    if list_holds(map, shape, asked, &list, count) {
         return;
     }
     tally::differs(counts, b": list\n");
 }
 
-// The list of a root and a leaf, and walks and batches from some of its addresses. The reached set is left behind.
+// The list that is asked for, and walks and batches from some of its addresses. The reached set is left behind.
 pub(crate) fn try_leaf(
     map: &Map,
     shape: Shape,
-    root: usize,
-    leaf: usize,
+    asked: Asked,
     reached: &mut Reached,
     counts: &mut Counts,
 ) {
-    walks::reach(map, shape, root, leaf, reached);
+    walks::reach(map, shape, asked, reached);
     let mut found = [0usize; records::RECORD_NUMBERS];
     let count = records::collect(reached, &mut found);
-    count_records(&found, count, rows::bit_count(map, leaf), counts);
-    try_list(map, shape, root, leaf, &found, count, counts);
-    try_walks(map, shape, root, leaf, reached, &found, count, counts);
-    batched::try_batches(map, shape, root, leaf, reached, &found, count, counts);
+    count_records(&found, count, rows::bit_count(map, asked.leaf), counts);
+    try_list(map, shape, asked, &found, count, counts);
+    try_walks(map, shape, asked, reached, &found, count, counts);
+    batched::try_batches(map, shape, asked, reached, &found, count, counts);
 }

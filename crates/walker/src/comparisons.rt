@@ -1,10 +1,12 @@
-// The comparison of two maps, held against the sets that the walk by single addresses reaches: root row by root row, and within it group by group.
+// The comparison of two maps, held against the sets that walks by single addresses reach: root row by root row, within it group by group, and each
+// kind of walk by itself.
 use crate::checks;
 use crate::records::first_difference;
 use crate::sets;
 use crate::tally;
 use crate::tally::Counts;
 use crate::walks;
+use crate::walks::Asked;
 use crate::walks::Reached;
 use generator::maps::Shape;
 use generator::numbers::at;
@@ -25,6 +27,7 @@ use generator::rows::Map;
 use generator::rows::ROOTS_AT;
 use model::Compared;
 use model::Comparison;
+use model::WalkKind;
 use model::verdict_number;
 
 // Root rows with leaf rows at most.
@@ -51,11 +54,10 @@ struct Group {
     last: usize,
 }
 
-// A pair's verdict, the lowest address that differs, if any does, and whether either side reaches nothing.
+// The verdict on a pair, or on one kind of walk over it, and the lowest address that differs. Where none does, the address lies behind every root.
 struct Judged {
     verdict: usize,
     address: usize,
-    bare: bool,
 }
 
 // Whether two leaf rows have the same specification leaf.
@@ -123,18 +125,48 @@ fn count_group(map: &Map, group: Group, leaf_row: usize, counts: &mut Counts) {
     tally::count_if(counts, tally::ROWS_APART, apart);
 }
 
-// Counts a pair's verdict by whether both sides reach something, and once more for a group of several banks.
-fn count_pair(judged: Judged, banks: usize, counts: &mut Counts) {
-    tally::count(counts, tally::PAIRS);
-    if judged.bare {
-        tally::count(counts, sum(tally::VERDICTS_OTHER, judged.verdict));
+// Counts the verdict of a kind on a pair by whether a side reaches nothing, and once more for a group of several banks.
+fn count_kind(verdict: usize, bare: bool, banks: usize, counts: &mut Counts) {
+    if bare {
+        tally::count(counts, sum(tally::VERDICTS_OTHER, verdict));
         return;
     }
-    tally::count(counts, tally::PAIRS_BOTH);
-    tally::count(counts, sum(tally::VERDICTS_BOTH, judged.verdict));
+    tally::count(counts, tally::KINDS_BOTH);
+    tally::count(counts, sum(tally::VERDICTS_BOTH, verdict));
     if banks > 1 {
-        tally::count(counts, sum(tally::VERDICTS_BANKS, judged.verdict));
+        tally::count(counts, sum(tally::VERDICTS_BANKS, verdict));
     }
+}
+
+// Counts a pair on which the verdict of one kind is the worse, by whether the other kind differs lower.
+fn count_worse(worse: Judged, better: Judged, place: usize, counts: &mut Counts) {
+    if worse.verdict > better.verdict {
+        tally::count(counts, place);
+        tally::count_if(counts, tally::BETTER_LOWER, better.address < worse.address);
+    }
+}
+
+// Counts a pair both of whose kinds differ, by which of them differs lower.
+fn count_lower(reading: Judged, writing: Judged, counts: &mut Counts) {
+    if reading.verdict == sets::EQUAL {
+        return;
+    }
+    if writing.verdict == sets::EQUAL {
+        return;
+    }
+    let lower = reading.address < writing.address;
+    tally::count_if(counts, tally::READING_LOWER, lower);
+    let higher = reading.address > writing.address;
+    tally::count_if(counts, tally::WRITING_LOWER, higher);
+}
+
+// Counts a pair by its verdict, and by how its two kinds lie to each other.
+fn count_pair(reading: Judged, writing: Judged, judged: Judged, counts: &mut Counts) {
+    tally::count(counts, tally::PAIRS);
+    tally::count(counts, sum(tally::VERDICTS_PAIRS, judged.verdict));
+    count_worse(reading, writing, tally::READING_WORSE, counts);
+    count_worse(writing, reading, tally::WRITING_WORSE, counts);
+    count_lower(reading, writing, counts);
 }
 
 // Counts a pair's verdict in the result that is expected.
@@ -162,13 +194,27 @@ fn add_place(expected: &mut Numbers, judged: Judged, root_row: usize, leaf_row: 
 
 // The verdict on the reached sets of a pair, and the lowest address at which they differ.
 fn judge(spec_reached: &Reached, impl_reached: &Reached) -> Judged {
-    let verdict = sets::verdict(spec_reached, impl_reached);
-    let address = first_difference(spec_reached, impl_reached) / walks::SLOTS;
-    let bare = sets::is_one_empty(spec_reached, impl_reached);
     Judged {
-        verdict: verdict,
-        address: address,
-        bare: bare,
+        verdict: sets::verdict(spec_reached, impl_reached),
+        address: first_difference(spec_reached, impl_reached) / walks::SLOTS,
+    }
+}
+
+// The worse of two verdicts.
+fn worse(one: usize, other: usize) -> usize {
+    if one < other { other } else { one }
+}
+
+// The lower of two addresses.
+fn lower(one: usize, other: usize) -> usize {
+    if one < other { one } else { other }
+}
+
+// What is said of a pair by what is said of its kinds: the worse verdict, and the lowest address at which either differs.
+fn joined(reading: Judged, writing: Judged) -> Judged {
+    Judged {
+        verdict: worse(reading.verdict, writing.verdict),
+        address: lower(reading.address, writing.address),
     }
 }
 
@@ -178,12 +224,17 @@ fn try_bank(
     shape: Shape,
     root: usize,
     row: usize,
+    kind: WalkKind,
     reached: &mut Reached,
     counts: &mut Counts,
 ) {
     let mut bank = [walks::NO_BIT; walks::REACHED];
-    let leaf = rows::node_in(map, LEAVES_AT, row, rows::IMPL);
-    checks::try_leaf(map, shape, root, leaf, &mut bank, counts);
+    let asked = Asked {
+        root: root,
+        leaf: rows::node_in(map, LEAVES_AT, row, rows::IMPL),
+        kind: kind,
+    };
+    checks::try_leaf(map, shape, asked, &mut bank, counts);
     let start = rows::number_in(map, LEAVES_AT, row, rows::AT);
     if walks::join(&bank, start, reached) {
         return;
@@ -195,22 +246,59 @@ fn try_bank(
 fn try_banks(
     map: &Map,
     shape: Shape,
-    root: usize,
+    root_row: usize,
     leaf_row: usize,
+    kind: WalkKind,
     reached: &mut Reached,
     counts: &mut Counts,
 ) {
+    let root = rows::node_in(map, ROOTS_AT, root_row, rows::IMPL);
     for row in 0..rows::MAX_LEAVES {
         if row >= shape.pairs {
             return;
         }
         if in_group(map, row, leaf_row) {
-            try_bank(map, shape, root, row, reached, counts);
+            try_bank(map, shape, root, row, kind, reached, counts);
         }
     }
 }
 
-// One pair of a root row and a group: both sides, and the verdict on them.
+// One kind of walk over the pair of a root row and a group: both sides, and the verdict on them.
+fn try_kind(
+    spec: &Map,
+    spec_shape: Shape,
+    other: &Map,
+    shape: Shape,
+    root_row: usize,
+    leaf_row: usize,
+    kind: WalkKind,
+    counts: &mut Counts,
+) -> Judged {
+    let mut spec_reached = [walks::NO_BIT; walks::REACHED];
+    let asked = Asked {
+        root: rows::node_in(other, ROOTS_AT, root_row, rows::SPEC),
+        leaf: rows::node_in(other, LEAVES_AT, leaf_row, rows::SPEC),
+        kind: kind,
+    };
+    checks::try_leaf(spec, spec_shape, asked, &mut spec_reached, counts);
+    let mut impl_reached = [walks::NO_BIT; walks::REACHED];
+    try_banks(
+        other,
+        shape,
+        root_row,
+        leaf_row,
+        kind,
+        &mut impl_reached,
+        counts,
+    );
+    let judged = judge(&spec_reached, &impl_reached);
+    let bare = sets::is_one_empty(&spec_reached, &impl_reached);
+    let banks = group_of(other, shape.pairs, leaf_row).banks;
+    count_kind(judged.verdict, bare, banks, counts);
+    judged
+}
+
+// One pair: each kind of walk by itself, and what they say together.
 fn try_pair(
     spec: &Map,
     spec_shape: Shape,
@@ -220,21 +308,29 @@ fn try_pair(
     leaf_row: usize,
     counts: &mut Counts,
 ) -> Judged {
-    let mut spec_reached = [walks::NO_BIT; walks::REACHED];
-    let spec_root = rows::node_in(other, ROOTS_AT, root_row, rows::SPEC);
-    let spec_leaf = rows::node_in(other, LEAVES_AT, leaf_row, rows::SPEC);
-    checks::try_leaf(
+    let reading = try_kind(
         spec,
         spec_shape,
-        spec_root,
-        spec_leaf,
-        &mut spec_reached,
+        other,
+        shape,
+        root_row,
+        leaf_row,
+        WalkKind::Reading,
         counts,
     );
-    let mut impl_reached = [walks::NO_BIT; walks::REACHED];
-    let root = rows::node_in(other, ROOTS_AT, root_row, rows::IMPL);
-    try_banks(other, shape, root, leaf_row, &mut impl_reached, counts);
-    judge(&spec_reached, &impl_reached)
+    let writing = try_kind(
+        spec,
+        spec_shape,
+        other,
+        shape,
+        root_row,
+        leaf_row,
+        WalkKind::Writing,
+        counts,
+    );
+    let judged = joined(reading, writing);
+    count_pair(reading, writing, judged, counts);
+    judged
 }
 
 // One pair, and its verdict in the result that is expected. Only the lowest row of a group makes one.
@@ -254,7 +350,6 @@ fn add_pair(
     let judged = try_pair(spec, spec_shape, other, shape, root_row, leaf_row, counts);
     let group = group_of(other, shape.pairs, leaf_row);
     count_group(other, group, leaf_row, counts);
-    count_pair(judged, group.banks, counts);
     add_verdict(expected, judged.verdict);
     add_place(expected, judged, root_row, leaf_row);
 }

@@ -1,5 +1,5 @@
-// Maps by a seeded generator, small enough to walk bit by bit: every list, walk, batch, verdict, count, first pair and address of the calls under test
-// is held against a walk that knows only single bit addresses. Prints what was tried, and the differences found.
+// Maps by a seeded generator, small enough to walk bit by bit: every list, walk and batch for each kind of walk, and every verdict, count, first pair and
+// address of the calls under test is held against a walk that knows only single bit addresses. Prints what was tried, and the differences found.
 mod batched;
 mod checks;
 mod comparisons;
@@ -9,6 +9,7 @@ mod sets;
 mod tally;
 mod walks;
 
+use generator::accesses;
 use generator::maps;
 use generator::maps::Shape;
 use generator::numbers::draw;
@@ -81,7 +82,20 @@ fn have_same_ends(map: &Map, d: usize, e: usize) -> bool {
     one.to == other.to
 }
 
+// Counts a node that is closed to a kind of walk by its access, and by its part in the map.
+fn count_closed(map: &Map, shape: Shape, v: usize, counts: &mut Counts) {
+    let access = rows::node_size(map, v, rows::ACCESS);
+    if access == rows::READ_WRITE {
+        return;
+    }
+    tally::count_if(counts, tally::READ_ONLY, access == rows::READ_ONLY);
+    tally::count_if(counts, tally::WRITE_ONLY, access == rows::WRITE_ONLY);
+    tally::count_if(counts, tally::CLOSED_ROOTS, v < shape.roots);
+    tally::count_if(counts, tally::CLOSED_LEAVES, v >= shape.inner);
+}
+
 fn count_node(map: &Map, shape: Shape, v: usize, counts: &mut Counts) {
+    count_closed(map, shape, v, counts);
     if v >= shape.inner {
         tally::count_if(
             counts,
@@ -117,9 +131,17 @@ fn count_edges(map: &Map, edges: usize, counts: &mut Counts) {
     }
 }
 
-fn count_map(map: &Map, shape: Shape, style: usize, units: usize, counts: &mut Counts) {
+fn count_map(
+    map: &Map,
+    shape: Shape,
+    style: usize,
+    units: usize,
+    closed: usize,
+    counts: &mut Counts,
+) {
     tally::count(counts, tally::MAPS);
     tally::count(counts, sum(tally::STYLES, style));
+    tally::count(counts, sum(tally::CLOSED, closed));
     tally::count_if(counts, tally::MIXED_UNITS, units >= maps::UNITS);
     tally::count_if(counts, tally::SEVERAL_ROOTS, shape.roots > 1);
     tally::count_if(counts, tally::SEVERAL_LEAVES, shape.leaves > 1);
@@ -134,7 +156,9 @@ fn draw_map(map: &mut Map, counts: &mut Counts, seed: &mut usize) -> Shape {
     let shape = maps::draw_shape(style, seed);
     maps::draw_nodes(map, shape, style, units, seed);
     maps::draw_edges(map, shape, style, seed);
-    count_map(map, shape, style, units, counts);
+    let closed = accesses::draw_closed(seed);
+    accesses::draw_accesses(map, shape, closed, seed);
+    count_map(map, shape, style, units, closed, counts);
     shape
 }
 
@@ -207,9 +231,9 @@ fn write_impl(
     orders::write_pairs(plain, shape, spec_order, &order, other, seed);
 }
 
-// Tries two maps, then with faults in their pairing.
+// Tries two maps, then with faults in their node tables and their pairing.
 fn try_both(
-    spec: &Map,
+    spec: &mut Map,
     spec_shape: Shape,
     other: &mut Map,
     shape: Shape,
@@ -223,7 +247,7 @@ fn try_both(
 // Makes the implementation of a specification, and tries both.
 fn try_spec(
     plain: &mut Map,
-    spec: &Map,
+    spec: &mut Map,
     shape: Shape,
     spec_order: &Order,
     counts: &mut Counts,
@@ -256,7 +280,7 @@ fn try_map(map: usize, counts: &mut Counts) {
     let mut spec = [0i64; rows::MAP_NUMBERS];
     let mut order = [0usize; rows::MAX_EDGES];
     let shape = make_spec(&mut plain, &mut order, &mut spec, counts, &mut seed);
-    try_spec(&mut plain, &spec, shape, &order, counts, &mut seed);
+    try_spec(&mut plain, &mut spec, shape, &order, counts, &mut seed);
 }
 
 fn try_all(counts: &mut Counts) {

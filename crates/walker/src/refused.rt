@@ -1,21 +1,31 @@
-// Faults in a pairing: the refusal that `compare` gives is held against the first condition that holds, looked for row by row.
+// Faults in the node tables and in a pairing: the refusals that `compare` and the check of one graph give are held against the first condition that
+// holds, looked for row by row.
 use crate::comparisons;
 use crate::tally;
 use crate::tally::Counts;
 use generator::faults;
 use generator::faults::BAD_AT;
+use generator::faults::BAD_NODE;
 use generator::faults::NO_FAULT;
 use generator::faults::NOT_ROOT_OR_LEAF;
 use generator::faults::PAIRED_BEFORE;
 use generator::faults::Refusal;
 use generator::maps::Shape;
+use generator::orders::edge_rows;
+use generator::orders::node_rows;
 use generator::rows::Map;
+use model::Checked;
 use model::Compared;
 use model::Reason;
 
 // The refusal of a reason, as far as it is one that is tried here.
 fn refusal_of(reason: Reason) -> Refusal {
     match reason {
+        Reason::Node { table, row } => Refusal {
+            number: BAD_NODE,
+            table: table,
+            row: row,
+        },
         Reason::NotRootOrLeaf { table, row } => Refusal {
             number: NOT_ROOT_OR_LEAF,
             table: table,
@@ -36,6 +46,15 @@ fn refusal_of(reason: Reason) -> Refusal {
             table: 0,
             row: 0,
         },
+    }
+}
+
+// Whether the check of one graph refuses it so.
+fn graph_refused_so(map: &Map, shape: Shape, refusal: Refusal) -> bool {
+    let checked = depth::check_graph(node_rows(map, shape), edge_rows(map, shape));
+    match checked {
+        Checked::Taken => refusal.number == NO_FAULT,
+        Checked::Refused(reason) => is_same(refusal_of(reason), refusal),
     }
 }
 
@@ -60,14 +79,25 @@ fn is_same(one: Refusal, other: Refusal) -> bool {
 
 // Counts a refusal by its number.
 fn count_refusal(number: usize, counts: &mut Counts) {
+    tally::count_if(counts, tally::REFUSED_ACCESS, number == BAD_NODE);
     tally::count_if(counts, tally::REFUSED_NODES, number == NOT_ROOT_OR_LEAF);
     tally::count_if(counts, tally::REFUSED_AT, number == BAD_AT);
     tally::count_if(counts, tally::REFUSED_TWICE, number == PAIRED_BEFORE);
 }
 
-// Tries the refusal of two maps whose pairing has faults.
+// Tries the refusal of one graph, whose node table may have a fault.
+fn try_graph(map: &Map, shape: Shape, counts: &mut Counts) {
+    let refusal = faults::node_refusal(map, shape, faults::SPEC_NODES);
+    tally::count_if(counts, tally::REFUSED_GRAPHS, refusal.number == BAD_NODE);
+    if graph_refused_so(map, shape, refusal) {
+        return;
+    }
+    tally::differs(counts, b": refusal\n");
+}
+
+// Tries the refusal of two maps with faults.
 fn try_refusal(spec: &Map, spec_shape: Shape, other: &Map, shape: Shape, counts: &mut Counts) {
-    let refusal = faults::first_refusal(spec, other, shape);
+    let refusal = faults::first_refusal(spec, spec_shape, other, shape);
     count_refusal(refusal.number, counts);
     if refused_so(spec, spec_shape, other, shape, refusal) {
         return;
@@ -75,9 +105,9 @@ fn try_refusal(spec: &Map, spec_shape: Shape, other: &Map, shape: Shape, counts:
     tally::differs(counts, b": refusal\n");
 }
 
-// Puts faults into the pairing of two maps, and tries the refusal.
+// Puts faults into the node tables and the pairing of two maps, and tries the refusals.
 pub(crate) fn try_faults(
-    spec: &Map,
+    spec: &mut Map,
     spec_shape: Shape,
     other: &mut Map,
     shape: Shape,
@@ -85,5 +115,9 @@ pub(crate) fn try_faults(
     seed: &mut usize,
 ) {
     faults::put_faults(other, shape, seed);
+    faults::put_unknown(spec, spec_shape, seed);
+    faults::put_unknown(other, shape, seed);
+    try_graph(spec, spec_shape, counts);
+    try_graph(other, shape, counts);
     try_refusal(spec, spec_shape, other, shape, counts);
 }

@@ -34,85 +34,117 @@ pub(crate) const BUFFERS: usize = 12;
 
 pub(crate) const PAIRS: usize = 13;
 
-pub(crate) const PAIRS_BOTH: usize = 14;
+// Three verdicts on pairs.
+pub(crate) const VERDICTS_PAIRS: usize = 14;
 
-// Three verdicts each: pairs with records on both sides, pairs without, and maps.
-pub(crate) const VERDICTS_BOTH: usize = 15;
+// Pairs by the two kinds of walk: the kind with the worse verdict, the kind that differs lower where both differ, and those that differ lower by the
+// kind with the better verdict.
+pub(crate) const READING_WORSE: usize = 17;
 
-pub(crate) const VERDICTS_OTHER: usize = 18;
+pub(crate) const WRITING_WORSE: usize = 18;
 
-pub(crate) const VERDICTS_WHOLE: usize = 21;
+pub(crate) const READING_LOWER: usize = 19;
 
-// Five styles of maps, and sixteen habits by which the implementation comes from the specification.
-pub(crate) const STYLES: usize = 24;
+pub(crate) const WRITING_LOWER: usize = 20;
 
-pub(crate) const HABITS: usize = 29;
+pub(crate) const BETTER_LOWER: usize = 21;
+
+// Verdicts of one kind on a pair with records on both sides.
+pub(crate) const KINDS_BOTH: usize = 22;
+
+// Three verdicts each: of one kind on pairs with records on both sides, on pairs without, and on maps.
+pub(crate) const VERDICTS_BOTH: usize = 23;
+
+pub(crate) const VERDICTS_OTHER: usize = 26;
+
+pub(crate) const VERDICTS_WHOLE: usize = 29;
+
+// Five styles of maps, and nineteen habits by which the implementation comes from the specification.
+pub(crate) const STYLES: usize = 32;
+
+pub(crate) const HABITS: usize = 37;
 
 // What maps and lists have in them.
-pub(crate) const MIXED_UNITS: usize = 45;
+pub(crate) const MIXED_UNITS: usize = 56;
 
-pub(crate) const SEVERAL_ROOTS: usize = 46;
+pub(crate) const SEVERAL_ROOTS: usize = 57;
 
-pub(crate) const SEVERAL_LEAVES: usize = 47;
+pub(crate) const SEVERAL_LEAVES: usize = 58;
 
-pub(crate) const LEAVES_WITH_BASE: usize = 48;
+pub(crate) const LEAVES_WITH_BASE: usize = 59;
 
-pub(crate) const DEAD_ENDS: usize = 49;
+pub(crate) const DEAD_ENDS: usize = 60;
 
-pub(crate) const NEGATIVE_OFFSETS: usize = 50;
+pub(crate) const NEGATIVE_OFFSETS: usize = 61;
 
-pub(crate) const PARALLEL_EDGES: usize = 51;
+pub(crate) const PARALLEL_EDGES: usize = 62;
 
-pub(crate) const ORDERS: usize = 52;
+pub(crate) const ORDERS: usize = 63;
 
-pub(crate) const NEGATIVE_DISPLACEMENTS: usize = 55;
+// Maps by how many nodes are closed to a kind of walk: none, a few, many. Closed nodes by their access, and those of them that are roots or leaves.
+pub(crate) const CLOSED: usize = 66;
 
-pub(crate) const LIKE_UNIT_OPEN: usize = 56;
+pub(crate) const READ_ONLY: usize = 69;
 
-pub(crate) const UNLIKE_TOUCHING: usize = 57;
+pub(crate) const WRITE_ONLY: usize = 70;
 
-pub(crate) const UNLIKE_OVERLAPPING: usize = 58;
+pub(crate) const CLOSED_ROOTS: usize = 71;
 
-pub(crate) const CLIPPED_LOW: usize = 59;
+pub(crate) const CLOSED_LEAVES: usize = 72;
 
-pub(crate) const CLIPPED_HIGH: usize = 60;
+pub(crate) const NEGATIVE_DISPLACEMENTS: usize = 73;
 
-pub(crate) const CLIPPED_BOTH: usize = 61;
+pub(crate) const LIKE_UNIT_OPEN: usize = 74;
+
+pub(crate) const UNLIKE_TOUCHING: usize = 75;
+
+pub(crate) const UNLIKE_OVERLAPPING: usize = 76;
+
+pub(crate) const CLIPPED_LOW: usize = 77;
+
+pub(crate) const CLIPPED_HIGH: usize = 78;
+
+pub(crate) const CLIPPED_BOTH: usize = 79;
 
 // Pairs by the banks of their groups: one at leaf bit 0, one moved, two, three, four or more.
-pub(crate) const ONE_BANK: usize = 62;
+pub(crate) const ONE_BANK: usize = 80;
 
-pub(crate) const ONE_MOVED: usize = 63;
+pub(crate) const ONE_MOVED: usize = 81;
 
-pub(crate) const TWO_BANKS: usize = 64;
+pub(crate) const TWO_BANKS: usize = 82;
 
-pub(crate) const THREE_BANKS: usize = 65;
+pub(crate) const THREE_BANKS: usize = 83;
 
-pub(crate) const MANY_BANKS: usize = 66;
+pub(crate) const MANY_BANKS: usize = 84;
 
 // Pairs of a group between whose leaf rows others stand.
-pub(crate) const ROWS_APART: usize = 67;
+pub(crate) const ROWS_APART: usize = 85;
 
-// Three verdicts on pairs of several banks with records on both sides, and ten arrangements of banks.
-pub(crate) const VERDICTS_BANKS: usize = 68;
+// Three verdicts of one kind on pairs of several banks with records on both sides, and ten arrangements of banks.
+pub(crate) const VERDICTS_BANKS: usize = 86;
 
-pub(crate) const ARRANGEMENTS: usize = 71;
+pub(crate) const ARRANGEMENTS: usize = 89;
+
+// Pairs of maps and graphs with an unknown access.
+pub(crate) const REFUSED_ACCESS: usize = 99;
+
+pub(crate) const REFUSED_GRAPHS: usize = 100;
 
 // Pairings with faults, by the refusal.
-pub(crate) const REFUSED_NODES: usize = 81;
+pub(crate) const REFUSED_NODES: usize = 101;
 
-pub(crate) const REFUSED_AT: usize = 82;
+pub(crate) const REFUSED_AT: usize = 102;
 
-pub(crate) const REFUSED_TWICE: usize = 83;
+pub(crate) const REFUSED_TWICE: usize = 103;
 
 // Batches, by the refusal.
-pub(crate) const REFUSED_OUTPUT: usize = 84;
+pub(crate) const REFUSED_OUTPUT: usize = 104;
 
-pub(crate) const REFUSED_BATCH: usize = 85;
+pub(crate) const REFUSED_BATCH: usize = 105;
 
-pub(crate) const DIFFERENCES: usize = 86;
+pub(crate) const DIFFERENCES: usize = 106;
 
-pub(crate) const COUNTS: usize = 87;
+pub(crate) const COUNTS: usize = 107;
 
 pub(crate) type Counts = [usize; COUNTS];
 
@@ -222,11 +254,19 @@ fn print_batches(counts: &Counts) {
     );
 }
 
-fn print_verdicts(counts: &Counts) {
+fn print_pairs(counts: &Counts) {
     print_lines(
         counts,
         PAIRS,
-        b"pairs\npairs with records on both sides\nequal with records on both sides\npartial with records on both sides\ndifferent with records on both sides\nequal without records\npartial without records on both sides\ndifferent with records on one side\nmaps equal\nmaps partial\nmaps different\n",
+        b"pairs\npairs equal\npairs partial\npairs different\npairs with a worse verdict for reads\npairs with a worse verdict for writes\npairs that differ at a lower address for reads\npairs that differ at a lower address for writes\npairs whose address is of the kind with the better verdict\n",
+    );
+}
+
+fn print_verdicts(counts: &Counts) {
+    print_lines(
+        counts,
+        KINDS_BOTH,
+        b"verdicts for reads or for writes with records on both sides\nequal with records on both sides\npartial with records on both sides\ndifferent with records on both sides\nequal without records\npartial without records on both sides\ndifferent with records on one side\nmaps equal\nmaps partial\nmaps different\n",
     );
 }
 
@@ -242,7 +282,7 @@ fn print_habits(counts: &Counts) {
     print_lines(
         counts,
         HABITS,
-        b"the same map\na bridge in an edge\na range cut\na base raised\nan offset moved\nan edge left out\nan edge twice\na parallel edge one unit off\na node in two touching parts\na node in two overlapping parts\na node in two parts with a unit open\na smaller unit\na block shortened\nleaves paired crosswise\nanother map\na clipping bridge\n",
+        b"the same map\na bridge in an edge\na range cut\na base raised\nan offset moved\nan edge left out\nan edge twice\na parallel edge one unit off\na node in two touching parts\na node in two overlapping parts\na node in two parts with a unit open\na smaller unit\na block shortened\nan access changed\na node in two, one for reads and one for writes\na node in two by kind, one of them cut, and an edge beside\nleaves paired crosswise\nanother map\na clipping bridge\n",
     );
 }
 
@@ -251,6 +291,14 @@ fn print_traits(counts: &Counts) {
         counts,
         MIXED_UNITS,
         b"maps with mixed units\nmaps with several roots\nmaps with several leaves\nleaves with a base\ndead ends\nnegative offsets\nparallel edges\ntables in the edges' direction\ntables against the edges' direction\ntables shuffled\n",
+    );
+}
+
+fn print_closed(counts: &Counts) {
+    print_lines(
+        counts,
+        CLOSED,
+        b"maps without a closed node\nmaps with a few closed nodes\nmaps with many closed nodes\nnodes that are read only\nnodes that are write only\nclosed roots\nclosed leaves\n",
     );
 }
 
@@ -281,18 +329,20 @@ fn print_arrangements(counts: &Counts) {
 fn print_refusals(counts: &Counts) {
     print_lines(
         counts,
-        REFUSED_NODES,
-        b"pairings refused with 7\npairings refused with 16\npairings refused with 8\nbuffers of batches refused with 11\nbatches refused with 19\ndifferences\n",
+        REFUSED_ACCESS,
+        b"pairs of maps refused with 2\ngraphs refused with 2\npairings refused with 7\npairings refused with 16\npairings refused with 8\nbuffers of batches refused with 11\nbatches refused with 19\ndifferences\n",
     );
 }
 
 pub(crate) fn print(counts: &Counts) {
     print_calls(counts);
     print_batches(counts);
+    print_pairs(counts);
     print_verdicts(counts);
     print_styles(counts);
     print_habits(counts);
     print_traits(counts);
+    print_closed(counts);
     print_records(counts);
     print_groups(counts);
     print_arrangements(counts);

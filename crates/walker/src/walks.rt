@@ -1,5 +1,5 @@
-// The walk of document 01 by single bit addresses: no runs, no lists. From each bit address of a root it notes every place, a node and an
-// address there, that a walk comes to, and keeps the leaf bits. The leaf bits of banks join in those of their group.
+// The walk of documents 01 and 02 by single bit addresses: no runs, no lists. From each bit address of a root it notes every place, a node and an
+// address there, that a walk of a kind comes to, and keeps the leaf bits. The leaf bits of banks join in those of their group.
 use generator::maps::Shape;
 use generator::numbers::at;
 use generator::numbers::bits;
@@ -13,6 +13,17 @@ use generator::numbers::store;
 use generator::numbers::sum;
 use generator::rows;
 use generator::rows::Map;
+use generator::rows::READ_ONLY;
+use generator::rows::READ_WRITE;
+use generator::rows::WRITE_ONLY;
+use model::WalkKind;
+
+// What is asked for: walks of a kind from a root to a leaf.
+pub(crate) struct Asked {
+    pub(crate) root: usize,
+    pub(crate) leaf: usize,
+    pub(crate) kind: WalkKind,
+}
 
 // No root of a map here has a bit address as large as this.
 pub(crate) const ROOT_BITS: usize = 640;
@@ -64,6 +75,29 @@ pub(crate) fn lives(map: &Map, v: usize, address: usize) -> bool {
     address < rows::end_bit(map, v)
 }
 
+fn may_be_read(access: usize) -> bool {
+    match access {
+        READ_WRITE | READ_ONLY => true,
+        _ => false,
+    }
+}
+
+fn may_be_written(access: usize) -> bool {
+    match access {
+        READ_WRITE | WRITE_ONLY => true,
+        _ => false,
+    }
+}
+
+// Whether a node lets walks of this kind stand on it.
+fn is_open(map: &Map, v: usize, kind: WalkKind) -> bool {
+    let access = rows::node_size(map, v, rows::ACCESS);
+    match kind {
+        WalkKind::Reading => may_be_read(access),
+        WalkKind::Writing => may_be_written(access),
+    }
+}
+
 // The node of a noted place, and the address there.
 fn node_at(places: &Places, k: usize) -> usize {
     cell(places, rows::place(PLACE_WIDTH, k, 0))
@@ -73,9 +107,19 @@ fn address_at(places: &Places, k: usize) -> usize {
     cell(places, rows::place(PLACE_WIDTH, k, 1))
 }
 
-// Notes one more place if the address lives there. Gives how many there are.
-fn stand(map: &Map, v: usize, address: usize, places: &mut Places, count: usize) -> usize {
+// Notes one more place if the address lives there and the node is open. Gives how many there are.
+fn stand(
+    map: &Map,
+    v: usize,
+    address: usize,
+    kind: WalkKind,
+    places: &mut Places,
+    count: usize,
+) -> usize {
     if !lives(map, v, address) {
+        return count;
+    }
+    if !is_open(map, v, kind) {
         return count;
     }
     store(places, rows::place(PLACE_WIDTH, count, 0), v);
@@ -84,24 +128,31 @@ fn stand(map: &Map, v: usize, address: usize, places: &mut Places, count: usize)
 }
 
 // The step from a place over edge e, if it leaves that node.
-fn step(map: &Map, places: &mut Places, count: usize, k: usize, e: usize) -> usize {
+fn step(map: &Map, kind: WalkKind, places: &mut Places, count: usize, k: usize, e: usize) -> usize {
     let edge = rows::edge_of(map, e);
     if edge.from != node_at(places, k) {
         return count;
     }
     let unit = rows::node_size(map, edge.to, rows::UNIT);
     let address = moved(address_at(places, k), edge.offset, unit);
-    stand(map, edge.to, address, places, count)
+    stand(map, edge.to, address, kind, places, count)
 }
 
 // The steps from a place over every edge.
-fn leave(map: &Map, edges: usize, places: &mut Places, k: usize, before: usize) -> usize {
+fn leave(
+    map: &Map,
+    edges: usize,
+    kind: WalkKind,
+    places: &mut Places,
+    k: usize,
+    before: usize,
+) -> usize {
     let mut count = before;
     for e in 0..rows::MAX_EDGES {
         if e >= edges {
             return count;
         }
-        count = step(map, places, count, k, e);
+        count = step(map, kind, places, count, k, e);
     }
     count
 }
@@ -150,29 +201,23 @@ fn arrive(map: &Map, leaf: usize, places: &Places, k: usize, first: usize, reach
 }
 
 // Every place that a walk from a bit address of the root comes to.
-fn walk_bit(
-    map: &Map,
-    edges: usize,
-    root: usize,
-    leaf: usize,
-    root_bit: usize,
-    reached: &mut Reached,
-) {
+fn walk_bit(map: &Map, edges: usize, asked: Asked, root_bit: usize, reached: &mut Reached) {
     let mut places = [0usize; PLACE_NUMBERS];
-    let mut count = stand(map, root, root_bit, &mut places, 0);
+    let kind = asked.kind;
+    let mut count = stand(map, asked.root, root_bit, kind, &mut places, 0);
     for k in 0..MAX_PLACES {
         if k >= count {
             return;
         }
-        arrive(map, leaf, &places, k, first_slot(root_bit), reached);
-        count = leave(map, edges, &mut places, k, count);
+        arrive(map, asked.leaf, &places, k, first_slot(root_bit), reached);
+        count = leave(map, edges, kind, &mut places, k, count);
     }
 }
 
-// The reached set of a root and a leaf.
-pub(crate) fn reach(map: &Map, shape: Shape, root: usize, leaf: usize, reached: &mut Reached) {
+// The reached set of what is asked for.
+pub(crate) fn reach(map: &Map, shape: Shape, asked: Asked, reached: &mut Reached) {
     for root_bit in 0..ROOT_BITS {
-        walk_bit(map, shape.edges, root, leaf, root_bit, reached);
+        walk_bit(map, shape.edges, asked, root_bit, reached);
     }
 }
 

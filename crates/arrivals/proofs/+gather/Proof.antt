@@ -12,7 +12,7 @@ use lib.IntN.{ℤ, pos, natAbs}
 use lib.ListN.{length}
 use Rattle.model.specs.Rows.{edgeRows}
 use Rattle.model.specs.Graph.{graphOf, NodeRow, node, bitOffset}
-use Rattle.model.specs.Runs.{whole}
+use Rattle.extents.specs.Extents.{bitsOf}
 use Rattle.runs.specs.Clipping.{runOf}
 use Rattle.tables.proofs.Rows.{edges-length}
 use Rattle.tables.specs.Tables.{edgeAt}
@@ -22,7 +22,7 @@ use Rattle.references.specs.References.{Reference, referenceOf, broughtOf, thro
 use Rattle.references.specs.declared.Reference.{Reference as Held}
 use Rattle.references.specs.declared.Brought.the-variants.{Left}
 use Rattle.references.proofs.Bringing.{none-brings}
-use Rattle.arrivals.specs.State.{isMet, referenceAt, isListed, listRow, countOf, rootIn}
+use Rattle.arrivals.specs.State.{isMet, referenceAt, isListed, listRow, countOf, rootIn, kindIn}
 use Rattle.arrivals.specs.Sweep.{Gatherable}
 use Rattle.arrivals.proofs.Gathering.{Through, owner-few, list-readable, list-cuttable, list-gathered, none-left, owner-other, head-is, through-start, through-end, through-agrees, next-is, next-onward, turn-crossable, turn-nothing, turn-part, part-gatherable, crossing-part, crossing-nothing}
 use Rattle.arrivals.proofs.gather.Reads as reads
@@ -113,10 +113,10 @@ module _ (t : ℕ) where
   -- all bits of the root
   root-bits : (c : lts.After-whole (claims t) (at t) reads.Post Inv-loop μ-loop)
       → let s = c .before .before .before .before .before .before .before .before .before in
-      runOf (c .whole .result) ≡ whole (node (graphOf (s .args .nodes .now) (s .args .edges .now)) (rootIn (s .args .state .now)))
+      runOf (c .whole .result) ≡ bitsOf (node (graphOf (s .args .nodes .now) (s .args .edges .now)) (rootIn (s .args .state .now)))
   root-bits c =
       let s = c .before .before .before .before .before .before .before .before .before in
-      c .whole .ensures (s .args .edges .now) ∙ ap (λ (v : ℤ). whole (node (graphOf (s .args .nodes .now) (s .args .edges .now)) v)) (c .before .number-at .ensures)
+      c .whole .ensures (s .args .edges .now) ∙ ap (λ (v : ℤ). bitsOf (node (graphOf (s .args .nodes .now) (s .args .edges .now)) v)) (c .before .number-at .ensures)
 
   -- where the list stands
   stored : (c : lts.After-stored-at (claims t) (at t) reads.Post Inv-loop μ-loop)
@@ -251,7 +251,7 @@ module _ (t : ℕ) where
             rw (w .6, w .7) (turn-part k (other l) (l .loop .inv) (within i) (p .0) (p .1) (rw (← p .2) (w .4 .ensures)))
         | inr w ↦
             rw (w .2, w .3) (turn-nothing k (other l) (l .loop .inv) (within i)
-            (λ y b m z. none-brings g (rootIn (s .args .state .now)) (through (bitOffset g e) f (referenceAt (l .loop .state) (natAbs (e .from)))) y b
+            (λ y b m z. none-brings (kindIn (s .args .state .now)) g (rootIn (s .args .state .now)) (through (bitOffset g e) f (referenceAt (l .loop .state) (natAbs (e .from)))) y b
             (crossing-nothing g e f (l .loop .state) (sym (ap broughtOf (w .1 .given .1)) ∙ x .brought-over .ensures) m) z))
       ])
 

@@ -9,7 +9,8 @@ use lib.IntN.{ℤ, pos}
 use lib.ListN.{length}
 use Rattle.integers.proofs.Linear.{ints}
 use Rattle.model.specs.Graph.{graphOf, node, firstBit}
-use Rattle.model.specs.Runs.{Run, whole}
+use Rattle.model.specs.Runs.{Run}
+use Rattle.extents.specs.Extents.{bitsOf}
 use Rattle.references.specs.References.{referenceOf, shifted}
 use Rattle.arrivals.specs.State.{markWidth, isMet}
 use Rattle.arrivals.proofs.Agreeing.{row-few}
@@ -25,7 +26,7 @@ is-met-requires : tie.Need-is-met-requires
 is-met-requires c κs = mark-there (c .before .before)
 
 returns : tie.Need-returns
-returns c root w = let m = c .before in leaf-unmet (m .before .before .before .pre) w (sym (m .is-met .ensures) ∙ not-true _ (c .if1 .taken))
+returns c kind root w = let m = c .before in leaf-unmet (m .before .before .before .pre) w (sym (m .is-met .ensures) ∙ not-true _ (c .if1 .taken))
 
 whole-requires : tie.Need-whole-requires
 whole-requires c κs = leaf-good (c .before .before .before .before .pre)
@@ -41,7 +42,7 @@ reference-at-requires c κs = let e = c .before .before .before in (mark-there (
 first : (c : tie.After-whole)
     → let s = c .before .before .before .before .before .args in
     c .whole .result .low .0 ≡ firstBit (node (graphOf (s .nodes .now) (s .edges .now)) (pos (s .leaf)))
-unfolding whole
+unfolding bitsOf
 first c = let s = c .before .before .before .before .before .args in ap (λ (r : Run). r .low) (c .whole .ensures (s .edges .now))
 
 -- the reference, shifted
@@ -71,7 +72,7 @@ gather-requires c κs =
     part-gatherable (e .before .before .before .before .pre) (met e) (part f)
 
 returns-2 : tie.Need-returns-2
-returns-2 c root w =
+returns-2 c kind root w =
     let m = c .before in
     let f = m .before .before in
     let e = f .before .before .before .before .before in

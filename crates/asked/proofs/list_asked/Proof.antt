@@ -34,7 +34,7 @@ leaf-same c = index-same (c .before .before .before .before .before .fits .leaf)
 
 returns : tie.Need-returns
 returns c =
-    listed-refused _ _ _ _ (c .before .checked .given .0 .0) _
+    listed-refused _ _ _ _ _ (c .before .checked .given .0 .0) _
     (ap checkedAnswer (sym (c .before .checked .given .1)) ∙ asked-told (c .before .before .before .before))
 
 cast-list-pair : tie.Need-cast-list-pair
@@ -56,7 +56,7 @@ returns-2 : tie.Need-returns-2
 returns-2 c =
     let p = c .before in
     let k = p .before .before .before in
-    listed-given _ _ _ _ (taken k) (rw (root-same k, leaf-same k) at (p .list-pair .ensures .0)) (rw (root-same k, leaf-same k) at (p .list-pair .ensures .1))
+    listed-given _ _ _ _ _ (taken k) (rw (root-same k, leaf-same k) at (p .list-pair .ensures .0)) (rw (root-same k, leaf-same k) at (p .list-pair .ensures .1))
 
 pub list-asked-spec : {M : Type 1} → statement M
 list-asked-spec =

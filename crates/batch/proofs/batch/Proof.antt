@@ -21,7 +21,7 @@ use Rattle.batch.proofs.batch.Statement.{statement}
 use Rattle.batch.proofs.batch.Tie as tie
 
 returns : tie.Need-returns
-returns c = batch-long _ _ _ _ _ _ (omega (arith, c .if1 .taken))
+returns c = batch-long _ _ _ _ _ _ _ (omega (arith, c .if1 .taken))
 
 -- ---- what was listed
 
@@ -31,7 +31,7 @@ start a = a .before .before .before
 
 -- what listing gives
 abbrev Listed : tie.After-list-asked → Written → Type 0
-Listed a given = let s = start a .args in ListedAsked (s .nodes .now) (s .edges .now) (s .root) (s .leaf) given (a .list-asked .last .1 .1 .1 .1 .0)
+Listed a given = let s = start a .args in ListedAsked (s .kind) (s .nodes .now) (s .edges .now) (s .root) (s .leaf) given (a .list-asked .last .1 .1 .1 .1 .1 .0)
 
 told : (a : tie.After-list-asked) → Listed a (a .list-asked .result)
 told a = simp (toZ-ofZ, start a .fits .root, start a .fits .leaf) at (a .list-asked .ensures)
@@ -48,8 +48,8 @@ listed : (v : tie.After-listed2) → Listed (counted v) (Count (v .listed2 .give
 listed v = subst (Listed (counted v)) (v .listed2 .given .1) (told (counted v))
 
 records-same : (v : tie.After-listed2) → let s = start (counted v) .args in
-    recordsOf (counted v .list-asked .last .1 .1 .1 .1 .0) (v .listed2 .given .0 .0) ≡ listOf (graphOf (s .nodes .now) (s .edges .now)) (s .root) (s .leaf)
-records-same v = let p = listed v in recordsOf-front _ _ (sym (given-count _ _ _ _ p)) (given-numbers _ _ _ _ p)
+    recordsOf (counted v .list-asked .last .1 .1 .1 .1 .1 .0) (v .listed2 .given .0 .0) ≡ listOf (s .kind) (graphOf (s .nodes .now) (s .edges .now)) (s .root) (s .leaf)
+records-same v = let p = listed v in recordsOf-front _ _ (sym (given-count _ _ _ _ _ p)) (given-numbers _ _ _ _ _ p)
 
 -- ---- the outcomes
 
@@ -57,23 +57,23 @@ pass-requires : tie.Need-pass-requires
 pass-requires c κs =
     let v = c .before .before .before in
     let p = listed v in
-    let taken = given-asked _ _ _ _ p in
+    let taken = given-asked _ _ _ _ _ p in
     record {
-      within = given-room _ _ _ _ p;
-      few = omega (arith, given-count _ _ _ _ p, list-few _ _ _ _ taken);
+      within = given-room _ _ _ _ _ p;
+      few = omega (arith, given-count _ _ _ _ _ p, list-few (start (counted v) .args .kind) _ _ _ _ taken);
       batch = short (counted v);
-      fit = rw (records-same v) (list-fit (asked-tables _ _ _ _ taken .graph) (asked-root _ _ _ _ taken .row) (asked-leaf _ _ _ _ taken));
+      fit = rw (records-same v) (list-fit _ (asked-tables _ _ _ _ taken .graph) (asked-root _ _ _ _ taken .row) (asked-leaf _ _ _ _ taken));
     }
 
 returns-2 : tie.Need-returns-2
 returns-2 c =
     let a = c .before .before .before .before in
-    batch-refused _ _ _ _ _ _ (c .before .listed .given .0 .0) (short a) (refused-listed _ _ _ _ (subst (Listed a) (c .before .listed .given .1) (told a)))
+    batch-refused _ _ _ _ _ _ _ (c .before .listed .given .0 .0) (short a) (refused-listed _ _ _ _ _ (subst (Listed a) (c .before .listed .given .1) (told a)))
 
 returns-3 : tie.Need-returns-3
 returns-3 c =
     let v = c .before .before .before .before .before in
-    batch-passed _ _ _ _ _ _ (short (counted v)) (given-asked _ _ _ _ (listed v)) (rw (records-same v) at (c .before .pass .ensures))
+    batch-passed _ _ _ _ _ _ _ (short (counted v)) (given-asked _ _ _ _ _ (listed v)) (rw (records-same v) at (c .before .pass .ensures))
 
 pub batch-spec : {M : Type 1} → statement M
 batch-spec =

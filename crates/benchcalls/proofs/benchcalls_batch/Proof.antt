@@ -10,12 +10,13 @@ use Rattle.benchcalls.proofs.benchcalls_batch.Tie as tie
 
 returns : tie.Need-returns
 returns c =
-    let s = c .before .before .before .before in
+    let k = c .before .before .before .before in
+    let s = k .before in
     let fits : SFits w64 (c .batched-number .result) = search needs in
     let promise = c .before .before .batch .ensures in (
-      toZ-ofZ fits ∙ c .batched-number .ensures ∙ ap batched (simp (toZ-ofZ, s .fits .root, s .fits .leaf) at (promise .answer)),
-      simp (toZ-ofZ, s .fits .root, s .fits .leaf) at (promise .buffer),
+      toZ-ofZ fits ∙ c .batched-number .ensures ∙ ap batched (simp (toZ-ofZ, k .kind-of .ensures, s .fits .kind, s .fits .root, s .fits .leaf) at (promise .answer)),
+      simp (toZ-ofZ, k .kind-of .ensures, s .fits .kind, s .fits .root, s .fits .leaf) at (promise .buffer),
     )
 
 pub benchcalls-batch-spec : {M : Type 1} → statement M
-benchcalls-batch-spec = tie.close (tie.spec (λ c κs. search needs) (λ c κs. search needs) (λ c. search needs) returns)
+benchcalls-batch-spec = tie.close (tie.spec (λ c κs. search needs) (λ c κs. search needs) (λ c κs. search needs) (λ c. search needs) returns)

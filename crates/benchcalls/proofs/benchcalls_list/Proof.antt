@@ -10,12 +10,13 @@ use Rattle.benchcalls.proofs.benchcalls_list.Tie as tie
 
 returns : tie.Need-returns
 returns c =
-    let s = c .before .before .before .before in
+    let k = c .before .before .before .before in
+    let s = k .before in
     let fits : SFits w64 (c .written-number .result) = search needs in
     let promise = c .before .before .list .ensures in (
-      toZ-ofZ fits ∙ c .written-number .ensures ∙ ap written (simp (toZ-ofZ, s .fits .root, s .fits .leaf) at (promise .answer)),
-      simp (toZ-ofZ, s .fits .root, s .fits .leaf) at (promise .buffer),
+      toZ-ofZ fits ∙ c .written-number .ensures ∙ ap written (simp (toZ-ofZ, k .kind-of .ensures, s .fits .kind, s .fits .root, s .fits .leaf) at (promise .answer)),
+      simp (toZ-ofZ, k .kind-of .ensures, s .fits .kind, s .fits .root, s .fits .leaf) at (promise .buffer),
     )
 
 pub benchcalls-list-spec : {M : Type 1} → statement M
-benchcalls-list-spec = tie.close (tie.spec (λ c κs. search needs) (λ c κs. search needs) (λ c. search needs) returns)
+benchcalls-list-spec = tie.close (tie.spec (λ c κs. search needs) (λ c κs. search needs) (λ c κs. search needs) (λ c. search needs) returns)

@@ -22,7 +22,7 @@ start a = a .before .before
 
 -- what listing gives
 abbrev Listed : tie.After-list-asked → Written → Type 0
-Listed a given = let s = start a .args in ListedAsked (s .nodes .now) (s .edges .now) (s .root) (s .leaf) given (a .list-asked .last .1 .1 .1 .1 .0)
+Listed a given = let s = start a .args in ListedAsked (s .kind) (s .nodes .now) (s .edges .now) (s .root) (s .leaf) given (a .list-asked .last .1 .1 .1 .1 .1 .0)
 
 told : (a : tie.After-list-asked) → Listed a (a .list-asked .result)
 told a = simp (toZ-ofZ, start a .fits .root, start a .fits .leaf) at (a .list-asked .ensures)
@@ -37,22 +37,22 @@ listed v = subst (Listed (counted v)) (v .listed2 .given .1) (told (counted v))
 -- ---- the outcomes
 
 mul-put-numbers : tie.Need-mul-put-numbers
-mul-put-numbers c = let v = c .before .before in omega (arith, given-room _ _ _ _ (listed v), counted v .list-asked .kept .1 .1 .1 .1 .0)
+mul-put-numbers c = let v = c .before .before in omega (arith, given-room _ _ _ _ _ (listed v), counted v .list-asked .kept .1 .1 .1 .1 .1 .0)
 
 put-numbers-requires : tie.Need-put-numbers-requires
-put-numbers-requires c κs k h = omega (arith, h, given-room _ _ _ _ (listed (c .before .before .before)))
+put-numbers-requires c κs k h = omega (arith, h, given-room _ _ _ _ _ (listed (c .before .before .before)))
 
 returns : tie.Need-returns
 returns c =
     let a = c .before .before .before .before in
-    list-refused _ _ _ _ _ (c .before .listed .given .0 .0) (refused-listed _ _ _ _ (subst (Listed a) (c .before .listed .given .1) (told a)))
+    list-refused _ _ _ _ _ _ (c .before .listed .given .0 .0) (refused-listed _ _ _ _ _ (subst (Listed a) (c .before .listed .given .1) (told a)))
 
 returns-2 : tie.Need-returns-2
 returns-2 c =
     let v = c .before .before .before .before .before in
     let p = listed v in
-    list-taken _ _ _ _ _ (given-asked _ _ _ _ p) (given-count _ _ _ _ p)
-    (rw (spaced-front _ (recordWidth * v .listed2 .given .0 .0) (given-room _ _ _ _ p), given-numbers _ _ _ _ p) at (c .before .put-numbers .ensures))
+    list-taken _ _ _ _ _ _ (given-asked _ _ _ _ _ p) (given-count _ _ _ _ _ p)
+    (rw (spaced-front _ (recordWidth * v .listed2 .given .0 .0) (given-room _ _ _ _ _ p), given-numbers _ _ _ _ _ p) at (c .before .put-numbers .ensures))
 
 pub list-spec : {M : Type 1} → statement M
 list-spec =

@@ -40,7 +40,7 @@ leaf-same c = index-same (c .before .before .before .before .before .fits .leaf)
 
 -- the leaf bits
 abbrev bits : tie.After-walk-pair → List ℤ
-bits c = let a = c .before .before .before .before .before .before .before .before .args in leafBits (graphOf (a .nodes .now) (a .edges .now)) (a .root) (a .leaf) (a .address)
+bits c = let a = c .before .before .before .before .before .before .before .before .args in leafBits (a .kind) (graphOf (a .nodes .now) (a .edges .now)) (a .root) (a .leaf) (a .address)
 
 -- they were reached, and stand in front of `work`
 bits-counted : (c : tie.After-walk-pair) → c .walk-pair .result ≡ length (bits c)
@@ -48,14 +48,14 @@ bits-counted c =
     let k = c .before .before .before in
     rw (root-same k, leaf-same k, toZ-ofZ (k .before .before .before .before .before .fits .address)) at (c .walk-pair .ensures .0)
 
-bits-reached : (c : tie.After-walk-pair) → take (recordWidth * c .walk-pair .result) (c .walk-pair .last .1 .1 .1 .1 .1 .1 .0) ≡ numbersOf (map bitRecord (bits c))
+bits-reached : (c : tie.After-walk-pair) → take (recordWidth * c .walk-pair .result) (c .walk-pair .last .1 .1 .1 .1 .1 .1 .1 .0) ≡ numbersOf (map bitRecord (bits c))
 bits-reached c =
     let k = c .before .before .before in
     rw (root-same k, leaf-same k, toZ-ofZ (k .before .before .before .before .before .fits .address)) at (c .walk-pair .ensures .1)
 
 returns : tie.Need-returns
 returns c =
-    walk-refused _ _ _ _ _ _ (c .before .checked .given .0 .0)
+    walk-refused _ _ _ _ _ _ _ (c .before .checked .given .0 .0)
     (ap checkedAnswer (sym (c .before .checked .given .1)) ∙ asked-told (c .before .before .before .before))
 
 cast-walk-pair : tie.Need-cast-walk-pair
@@ -76,8 +76,8 @@ walk-pair-requires c κs =
 returns-2 : tie.Need-returns-2
 returns-2 c =
     let p = c .before .before .before .before .before in
-    walk-taken _ _ _ _ _ _ (taken (p .before .before .before)) (bits-counted p)
-    (rw (spaced-bits (p .walk-pair .last .1 .1 .1 .1 .1 .1 .0) (bits p) (p .walk-pair .result) (sym (bits-counted p)) (bits-reached p)) at (c .before .put-numbers .ensures))
+    walk-taken _ _ _ _ _ _ _ (taken (p .before .before .before)) (bits-counted p)
+    (rw (spaced-bits (p .walk-pair .last .1 .1 .1 .1 .1 .1 .1 .0) (bits p) (p .walk-pair .result) (sym (bits-counted p)) (bits-reached p)) at (c .before .put-numbers .ensures))
 
 put-numbers-requires : tie.Need-put-numbers-requires
 put-numbers-requires c κs k h =
@@ -85,8 +85,8 @@ put-numbers-requires c κs k h =
     omega (
       arith,
       h,
-      bits-room (p .walk-pair .last .1 .1 .1 .1 .1 .1 .0) (bits p) (p .walk-pair .result) (sym (bits-counted p)) (bits-reached p),
-      p .walk-pair .kept .1 .1 .1 .1 .1 .1 .0,
+      bits-room (p .walk-pair .last .1 .1 .1 .1 .1 .1 .1 .0) (bits p) (p .walk-pair .result) (sym (bits-counted p)) (bits-reached p),
+      p .walk-pair .kept .1 .1 .1 .1 .1 .1 .1 .0,
       length-replicate {A = ℤ} (recordWidth * maxPaths) (pos 0),
     )
 

@@ -7,7 +7,7 @@ use Rattle.extents.proofs.entered_extent.Tie as tie
 returns : tie.Need-returns
 returns c =
     let s = c .before .before in
-    to-extent (s .pre .0) (s .args .e) (s .pre .1) (search needs) (c .extent-of .ensures (s .args .edges .now))
+    to-extent (s .pre .0) (s .args .e) (s .pre .1) (search needs) (c .open-extent .ensures (s .args .edges .now))
 
 pub entered-extent-spec : {M : Type 1} → statement M
 entered-extent-spec =

@@ -9,32 +9,32 @@ use Rattle.extents.proofs.Bounds.{stands-below, stands-above}
 use Rattle.extents.proofs.stands.Statement.{statement}
 use Rattle.extents.proofs.stands.Tie as tie
 
-extent-of-requires : tie.Need-extent-of-requires
-extent-of-requires c κs = c .pre
+open-extent-requires : tie.Need-open-extent-requires
+open-extent-requires c κs = c .pre
 
 -- where the first test fails, the address is not below the first bit
 above : (c : tie.Else1)
-    → c .before .before .before .before .before .before .before .extent-of .result .first .0 ≤ℤ c .before .before .before .before .before .before .before .before .args .a .0
+    → c .before .before .before .before .before .before .before .open-extent .result .first .0 ≤ℤ c .before .before .before .before .before .before .before .before .args .a .0
 above c =
     let x = c .before .before .before .before .before .before .before in
     let f : SFits w64 (x .before .args .a .0) = search needs in
-    let g : SFits w64 (x .extent-of .result .first .0) = search needs in
-    ltZ-false (x .before .args .a .0) (x .extent-of .result .first .0) (simp (toZ-ofZ, f, g) at (c .if1 .left))
+    let g : SFits w64 (x .open-extent .result .first .0) = search needs in
+    ltZ-false (x .before .args .a .0) (x .open-extent .result .first .0) (simp (toZ-ofZ, f, g) at (c .if1 .left))
 
 returns : tie.Need-returns
 returns c es =
     let x = c .before .before .before .before .before .before .before in
     let f : SFits w64 (x .before .args .a .0) = search needs in
-    let g : SFits w64 (x .extent-of .result .first .0) = search needs in
-    stands-below _ (x .extent-of .ensures es) (ltZ-true (x .before .args .a .0) (x .extent-of .result .first .0) (simp (toZ-ofZ, f, g) at (c .if1 .taken)))
+    let g : SFits w64 (x .open-extent .result .first .0) = search needs in
+    stands-below _ _ (x .open-extent .ensures es) (ltZ-true (x .before .args .a .0) (x .open-extent .result .first .0) (simp (toZ-ofZ, f, g) at (c .if1 .taken)))
 
 returns-2 : tie.Need-returns-2
 returns-2 c es =
     let t = c .before .before .before .before in
     let x = t .before .before .before .before .before .before .before in
     let f : SFits w64 (x .before .args .a .0) = search needs in
-    let g : SFits w64 (x .extent-of .result .last .0) = search needs in
-    simp (toZ-ofZ, f, g) (stands-above _ (x .extent-of .ensures es) (above t))
+    let g : SFits w64 (x .open-extent .result .last .0) = search needs in
+    simp (toZ-ofZ, f, g) (stands-above _ _ (x .open-extent .ensures es) (above t))
 
 pub stands-spec : {M : Type 1} → statement M
-stands-spec = tie.close (tie.spec extent-of-requires returns returns-2)
+stands-spec = tie.close (tie.spec open-extent-requires returns returns-2)

@@ -1,5 +1,5 @@
 -- The ends are the first and the last bit of the node.
-use Rattle.model.specs.Runs.{whole}
+use Rattle.extents.specs.Extents.{bitsOf}
 use Rattle.extents.proofs.whole.Statement.{statement}
 use Rattle.extents.proofs.whole.Tie as tie
 
@@ -7,7 +7,7 @@ extent-of-requires : tie.Need-extent-of-requires
 extent-of-requires c κs = c .pre
 
 returns : tie.Need-returns
-unfolding whole
+unfolding bitsOf
 returns c es = let x = c .before .before .extent-of .ensures es in cc
 
 pub whole-spec : {M : Type 1} → statement M

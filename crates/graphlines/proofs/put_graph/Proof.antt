@@ -19,7 +19,7 @@ fits s =
 
 put-table-requires : tie.Need-put-table-requires
 unfolding bytes
-put-table-requires c κs = let s = c .before .before .before in (omega arith, omega arith, omega (arith, fits s))
+put-table-requires c κs = let s = c .before .before .before in (omega arith, omega arith, omega arith, omega (arith, fits s))
 
 -- the edge table has room behind the node table
 room : (p : tie.After-put-table) → p .put-table .result + length (edgePart (p .before .before .before .before .args .edges .now)) ≤ length (p .put-table .last .0)
@@ -36,7 +36,7 @@ put-table-requires-2 : tie.Need-put-table-requires-2
 unfolding bytes
 put-table-requires-2 c κs =
     let p = c .before .before .before .before in
-    (omega arith, omega arith, rw (tail-length (p .put-table .last .0) (p .put-table .result)) (omega (arith, room p)))
+    (omega arith, omega arith, omega arith, rw (tail-length (p .put-table .last .0) (p .put-table .result)) (omega (arith, room p)))
 
 add-result : tie.Need-add-result
 unfolding bytes

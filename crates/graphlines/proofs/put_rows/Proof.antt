@@ -12,10 +12,10 @@ use Rattle.graphlines.proofs.put_rows.Statement.{statement}
 use Rattle.graphlines.proofs.put_rows.Tie as tie
 
 abbrev Inv-loop : tie.InvT-loop
-Inv-loop out₀ table width n at₀ i₀ out at i = (i ≤ n) × Put (rowLines width table i) out₀ out at
+Inv-loop out₀ table width front n at₀ i₀ out at i = (i ≤ n) × Put (rowLines width front table i) out₀ out at
 
 abbrev μ-loop : tie.MeasureT-loop
-μ-loop out₀ table width n at₀ i₀ out at i = n - i
+μ-loop out₀ table width front n at₀ i₀ out at i = n - i
 
 abbrev start : tie.At-loop Inv-loop μ-loop → tie.Start Inv-loop μ-loop
 start l = l .before .before
@@ -24,17 +24,17 @@ start l = l .before .before
 kept : (l : tie.At-loop Inv-loop μ-loop) → length (l .loop .out) ≡ length (start l .args .out .now)
 kept l =
     let a = start l .args in
-    put-length (l .loop .inv .1) (omega (arith, rows-within (a .width) (a .table .now) (l .loop .i) (a .n) (l .loop .inv .0), start l .pre .2))
+    put-length (l .loop .inv .1) (omega (arith, rows-within (a .width) (a .front) (a .table .now) (l .loop .i) (a .n) (l .loop .inv .0), start l .pre .3))
 
 module _ (c : tie.In-loop Inv-loop μ-loop) where
   -- the row lies in the table
-  inside : let a = start (c .before) .args in a .width * c .before .loop .i + a .width ≤ length (a .table .now)
+  inside : let a = start (c .before) .args in a .width * c .before .loop .i + a .front ≤ length (a .table .now)
   inside =
       let s = start (c .before) in
-      omega (arith, row-within (s .args .width) (c .before .loop .i) (s .args .n) (c .loop-test .taken), s .pre .1)
+      omega (arith, row-within (s .args .width) (s .args .front) (s .pre .1) (c .before .loop .i) (s .args .n) (c .loop-test .taken), s .pre .2)
 
   -- its line has room
-  room : let l = c .before in let a = start l .args in l .loop .at + length (rowLine (a .width) (a .table .now) (l .loop .i)) ≤ length (l .loop .out)
+  room : let l = c .before in let a = start l .args in l .loop .at + length (rowLine (a .width) (a .front) (a .table .now) (l .loop .i)) ≤ length (l .loop .out)
   room =
       let l = c .before in
       let a = start l .args in
@@ -42,13 +42,13 @@ module _ (c : tie.In-loop Inv-loop μ-loop) where
         arith,
         kept l,
         l .loop .inv .1 .count,
-        rows-more-length (a .width) (a .table .now) (l .loop .i),
-        rows-within (a .width) (a .table .now) (l .loop .i + 1) (a .n) (omega (arith, c .loop-test .taken)),
-        start l .pre .2,
+        rows-more-length (a .width) (a .front) (a .table .now) (l .loop .i),
+        rows-within (a .width) (a .front) (a .table .now) (l .loop .i + 1) (a .n) (omega (arith, c .loop-test .taken)),
+        start l .pre .3,
       )
 
 loop-holds : tie.Need-loop-holds Inv-loop μ-loop
-loop-holds c = let s = c .before .args in (omega arith, rw (rows-none (s .width) (s .table .now)) (put-none (s .out .now)))
+loop-holds c = let s = c .before .args in (omega arith, rw (rows-none (s .width) (s .front) (s .table .now)) (put-none (s .out .now)))
 
 mul-start : tie.Need-mul-start Inv-loop μ-loop
 mul-start c = omega (arith, inside c)
@@ -79,16 +79,16 @@ put-row-requires c κs =
     let i = c .before .before in
     let l = i .before in
     let a = start l .args in
-    (omega (arith, row-length (a .width) (a .table .now) (l .loop .i) (inside i), start l .pre .0), rw (row-lent (a .width) (a .table .now) (l .loop .i), tail-length (l .loop .out) (l .loop .at)) (omega (arith, room i)))
+    (omega (arith, row-length (a .width) (a .front) (a .table .now) (l .loop .i) (inside i), start l .pre .0), rw (row-lent (a .width) (a .front) (a .table .now) (l .loop .i), tail-length (l .loop .out) (l .loop .at)) (omega (arith, room i)))
 
 -- what was written is the line of the row
 written : (q : tie.After-put-row Inv-loop μ-loop) → let l = q .before .before .before .before in let a = start l .args in
-    Put (rowLine (a .width) (a .table .now) (l .loop .i)) (take (length (l .loop .out) - l .loop .at) (drop (l .loop .at) (l .loop .out))) (q .put-row .last .0)
+    Put (rowLine (a .width) (a .front) (a .table .now) (l .loop .i)) (take (length (l .loop .out) - l .loop .at) (drop (l .loop .at) (l .loop .out))) (q .put-row .last .0)
     (q .put-row .result)
 written q =
     let l = q .before .before .before .before in
     let a = start l .args in
-    rw (row-lent (a .width) (a .table .now) (l .loop .i)) at (q .put-row .ensures)
+    rw (row-lent (a .width) (a .front) (a .table .now) (l .loop .i)) at (q .put-row .ensures)
 
 add-at : tie.Need-add-at Inv-loop μ-loop
 add-at c = let q = c .before .before in
@@ -107,7 +107,7 @@ loop-again c =
     let i = q .before .before .before in
     let l = i .before in
     let a = start l .args in
-    (omega (arith, i .loop-test .taken), rw (rows-more (a .width) (a .table .now) (l .loop .i)) (put-tail (l .loop .inv .1) (written q)))
+    (omega (arith, i .loop-test .taken), rw (rows-more (a .width) (a .front) (a .table .now) (l .loop .i)) (put-tail (l .loop .inv .1) (written q)))
 
 same-length : tie.Need-same-length Inv-loop μ-loop
 same-length c = kept (c .before)

@@ -9,15 +9,15 @@ use Rattle.graphlines.proofs.put_table.Statement.{statement}
 use Rattle.graphlines.proofs.put_table.Tie as tie
 
 -- names and lines have room together
-fits : (s : tie.Start) → length (s .args .names .now) + length (rowLines (s .args .width) (s .args .table .now) (s .args .n)) ≤ length (s .args .out .now)
-fits s = omega (arith, length-append (s .args .names .now) (rowLines (s .args .width) (s .args .table .now) (s .args .n)), s .pre .2)
+fits : (s : tie.Start) → length (s .args .names .now) + length (rowLines (s .args .width) (s .args .front) (s .args .table .now) (s .args .n)) ≤ length (s .args .out .now)
+fits s = omega (arith, length-append (s .args .names .now) (rowLines (s .args .width) (s .args .front) (s .args .table .now) (s .args .n)), s .pre .3)
 
 put-text-requires : tie.Need-put-text-requires
 put-text-requires c κs = omega (arith, fits (c .before .before .before))
 
 -- the lines have room behind the names
 room : (p : tie.After-put-text) → let a = p .before .before .before .before .args in
-    p .put-text .result + length (rowLines (a .width) (a .table .now) (a .n)) ≤ length (p .put-text .last .0)
+    p .put-text .result + length (rowLines (a .width) (a .front) (a .table .now) (a .n)) ≤ length (p .put-text .last .0)
 room p = omega (arith, fits (p .before .before .before .before), p .put-text .ensures .count, p .put-text .kept .0)
 
 sub-put-rows : tie.Need-sub-put-rows
@@ -30,7 +30,7 @@ put-rows-requires : tie.Need-put-rows-requires
 put-rows-requires c κs =
     let p = c .before .before .before in
     let s = p .before .before .before .before in
-    (s .pre .0, s .pre .1, rw (tail-length (p .put-text .last .0) (p .put-text .result)) (omega (arith, room p)))
+    (s .pre .0, s .pre .1, s .pre .2, rw (tail-length (p .put-text .last .0) (p .put-text .result)) (omega (arith, room p)))
 
 add-result : tie.Need-add-result
 add-result c = let q = c .before .before in omega (arith, room (q .before .before .before .before), q .put-rows .ensures .count)

@@ -12,14 +12,14 @@ raise-rows-requires : tie.Need-raise-rows-requires
 raise-rows-requires c κs =
     let m = c .before .before in
     let (o, small) = start m .pre in
-    leaf-raisable o (o .state) (m .append-rows .ensures (o .root) (o .state)) small
+    leaf-raisable o (o .state) (m .append-rows .ensures (o .kind) (o .root) (o .state)) small
 
 returns : tie.Need-returns
-returns c root banks w =
+returns c kind root banks w =
     let r = c .before in
     let m = r .before .before .before in
     let (o, small) = start m .pre in
-    gathering-more o (w .state) (m .append-rows .ensures root (w .state)) small w (r .raise-rows .ensures)
+    gathering-more o (w .state) (m .append-rows .ensures kind root (w .state)) small w (r .raise-rows .ensures)
 
 pub append-bank-spec : {M : Type 1} → statement M
 append-bank-spec = tie.close (tie.spec (λ c κs. search needs) raise-rows-requires (λ c. search needs) returns)

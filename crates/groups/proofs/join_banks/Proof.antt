@@ -9,7 +9,7 @@ free-row-requires : tie.Need-free-row-requires
 free-row-requires c κs = swept-free (c .before .pre .gathering .state)
 
 returns : tie.Need-returns
-returns c ns es plan root banks w = group-answered w (c .before .free-row .ensures) (normalised-none (c .if1 .taken))
+returns c kind ns es plan root banks w = group-answered w (c .before .free-row .ensures) (normalised-none (c .if1 .taken))
 
 normalise-between-requires : tie.Need-normalise-between-requires
 normalise-between-requires c κs =
@@ -18,7 +18,7 @@ normalise-between-requires c κs =
     gathered-normalisable (o .gathering) (f .free-row .ensures) (o .spareRoom)
 
 returns-2 : tie.Need-returns-2
-returns-2 c ns es plan root banks w =
+returns-2 c kind ns es plan root banks w =
     let m = c .before .before in
     group-answered w (m .before .before .before .before .free-row .ensures) (m .normalise-between .ensures)
 

@@ -24,16 +24,16 @@ join-banks-requires c κs =
     let b = c .before .before .before in
     let f = b .before .before .before in
     let o = start f .pre in
-    askable-joinable o (b .append-bank .ensures (o .root) [] (gathering-start (o .state) (f .free-row .ensures)))
+    askable-joinable o (b .append-bank .ensures (o .kind) (o .root) [] (gathering-start (o .state) (f .free-row .ensures)))
 
 returns : tie.Need-returns
-returns c root w =
+returns c kind root w =
     let m = c .before .before in
     let b = m .before .before .before .before in
     let f = b .before .before .before in
     let s = start f in
     one-answered (s .args .leaf) (b .before .before .leaf-bit .ensures)
-    (m .join-banks .ensures (s .args .nodes .now) (s .args .edges .now) (s .args .plan .now) root _ (b .append-bank .ensures root [] (gathering-start w (f .free-row .ensures))))
+    (m .join-banks .ensures kind (s .args .nodes .now) (s .args .edges .now) (s .args .plan .now) root _ (b .append-bank .ensures kind root [] (gathering-start w (f .free-row .ensures))))
 
 pub list-at-spec : {M : Type 1} → statement M
 list-at-spec =

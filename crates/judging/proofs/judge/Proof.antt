@@ -12,7 +12,7 @@ returns c l m p q e f =
     let b = c .before .before .before in
     let v = b .before .before .before .before in
     let fits : SFits w64 (b .lowest-of-rows .result) = search needs in
-    record { verdict = v .verdict-of-rows .ensures l m p q e f; address = λ a n. toZ-ofZ fits ∙ b .lowest-of-rows .ensures l m p q e f a n }
+    record { verdict = v .verdict-of-rows .ensures l m p q e f; address = λ a. toZ-ofZ fits ∙ b .lowest-of-rows .ensures l m p q e f a (v .verdict-of-rows .ensures l m p q e f) }
 
 pub judge-spec : {M : Type 1} → statement M
 judge-spec =

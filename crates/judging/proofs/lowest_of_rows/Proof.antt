@@ -1,14 +1,16 @@
--- Where it is not asked for, or the verdict is 0, nothing is said of the address. Else each call leaves a list of small records, normalised, and they are
+-- Where it is not asked for, nothing is said of the address. Where the verdict is 0 the lists are the same, and differ nowhere. Else each call leaves a list of small records, normalised, and they are
 -- the lists whose rows were there.
-use mathlib.Core.Path.{sym, ap, ap₂, _∙_}
+use mathlib.Core.Path.{_≡_, sym, ap, ap₂, _∙_}
 use mathlib.Core.Bool.{not, true≢false}
 use native.Mathlib.Omega.{arith}
 use mir.Syntax.{w64}
 use mir.Val.{SFits}
 use mir.Facts.{toZ-ofZ}
 use borrow.Author.Needs.{needs}
-use Rattle.model.specs.Verdicts.{lowest}
+use Rattle.model.specs.Verdicts.{verdict, lowest}
 use Rattle.model.specs.Answers.{verdictNumber}
+use Rattle.model.proofs.Verdicts.{verdict-equal}
+use Rattle.model.proofs.Lowest.{lowest-same}
 use Rattle.judging.proofs.Judging.{rows-small, rows-list, rows-back}
 use Rattle.judging.proofs.lowest_of_rows.Statement.{statement}
 use Rattle.judging.proofs.lowest_of_rows.Tie as tie
@@ -24,7 +26,9 @@ returns : tie.Need-returns
 returns c l m p q e f a n = absurd (true≢false (sym (c .if1 .taken) ∙ ap not a))
 
 returns-2 : tie.Need-returns-2
-returns-2 c l m p q e f a n = absurd (n (ap verdictNumber (c .enum-told .given .1)))
+returns-2 c l m p q e f a n =
+    let zero : verdict l m ≡ 0 = sym n ∙ ap verdictNumber (c .enum-told .given .1) in
+    sym (ap (lowest l) (sym (verdict-equal l m .0 zero)) ∙ lowest-same l)
 
 normalise-requires : tie.Need-normalise-requires
 normalise-requires c κs = let p = c .before .before .before .before .pre in (p .0 .within, p .2, rows-small (p .0))

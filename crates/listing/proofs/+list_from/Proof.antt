@@ -64,40 +64,40 @@ claims t = (
 )
 
 abbrev Inv-loop : lts.InvT-loop
-Inv-loop nodes edges head next leaf v run left out₀ n m₀ e₀ out m e =
-    Passing nodes edges head next leaf v (runsOver (left - 1) (graphOf nodes edges) (pos leaf) (runOf run)) out₀ n out m e
+Inv-loop nodes edges head next leaf v run left kind out₀ n m₀ e₀ out m e =
+    Passing nodes edges head next leaf v (runsOver kind (left - 1) (graphOf nodes edges) (pos leaf) (runOf run)) out₀ n out m e
 
 abbrev μ-loop : lts.MeasureT-loop
-μ-loop nodes edges head next leaf v run left out₀ n m₀ e₀ out m e = length edges / edgeWidth - e
+μ-loop nodes edges head next leaf v run left kind out₀ n m₀ e₀ out m e = length edges / edgeWidth - e
 
 module _ (t : ℕ) where
   -- at the leaf there is one row
   at-leaf : (c : lts.Then1 (claims t) (at t) reads.Post Inv-loop μ-loop)
       → let s = c .before .before .before in
       let g = graphOf (s .args .nodes .now) (s .args .edges .now) in
-      runRows (s .args .left) g (pos (s .args .v)) (pos (s .args .leaf)) (runOf (s .args .run))
+      runRows (s .args .kind) (s .args .left) g (pos (s .args .v)) (pos (s .args .leaf)) (runOf (s .args .run))
       ≡ runRow (node g (pos (s .args .leaf))) (runOf (s .args .run)) ∷ []
   at-leaf c =
       let s = c .before .before .before in
-      rows-leaf (graphOf (s .args .nodes .now) (s .args .edges .now)) (pos (s .args .v)) (pos (s .args .leaf)) (runOf (s .args .run))
+      rows-leaf (s .args .kind) (graphOf (s .args .nodes .now) (s .args .edges .now)) (pos (s .args .v)) (pos (s .args .leaf)) (runOf (s .args .run))
       (small-some (s .pre .1 .2)) (s .args .left) (ap pos (c .if1 .taken))
 
   -- past both tests the rows are those that the edges give
   onward : (c : lts.Else2 (claims t) (at t) reads.Post Inv-loop μ-loop)
       → let s = c .before .before .before .before in
       let g = graphOf (s .args .nodes .now) (s .args .edges .now) in
-      runRows (s .args .left) g (pos (s .args .v)) (pos (s .args .leaf)) (runOf (s .args .run))
-      ≡ flatMap (runsOver (s .args .left - 1) g (pos (s .args .leaf)) (runOf (s .args .run))) (leaving g (pos (s .args .v)))
+      runRows (s .args .kind) (s .args .left) g (pos (s .args .v)) (pos (s .args .leaf)) (runOf (s .args .run))
+      ≡ flatMap (runsOver (s .args .kind) (s .args .left - 1) g (pos (s .args .leaf)) (runOf (s .args .run))) (leaving g (pos (s .args .v)))
   onward c =
       let s = c .before .before .before .before in
-      rows-onward (graphOf (s .args .nodes .now) (s .args .edges .now)) (pos (s .args .v)) (pos (s .args .leaf)) (runOf (s .args .run))
+      rows-onward (s .args .kind) (graphOf (s .args .nodes .now) (s .args .edges .now)) (pos (s .args .v)) (pos (s .args .leaf)) (runOf (s .args .run))
       (small-some (s .pre .1 .2)) (s .args .left) (λ e. c .before .if1 .left (omega (arith, ints, e))) (c .if2 .left)
 
   -- so there is room for these
   room : (l : lts.At-loop (claims t) (at t) reads.Post Inv-loop μ-loop)
       → let s = l .before .before .before .before .before .before in
       let g = graphOf (s .args .nodes .now) (s .args .edges .now) in
-      rowWidth * (s .args .n + length (flatMap (runsOver (s .args .left - 1) g (pos (s .args .leaf)) (runOf (s .args .run))) (leaving g (pos (s .args .v)))))
+      rowWidth * (s .args .n + length (flatMap (runsOver (s .args .kind) (s .args .left - 1) g (pos (s .args .leaf)) (runOf (s .args .run))) (leaving g (pos (s .args .v)))))
       ≤ length (s .args .out .now)
   room l = let s = l .before .before .before .before .before .before in omega (arith, s .pre .1 .3, ap length (onward (l .before .before)))
 
@@ -118,7 +118,7 @@ module _ (t : ℕ) where
   returns-2 c =
       let s = c .before .before .before .before in
       let end =
-      rows-end (graphOf (s .args .nodes .now) (s .args .edges .now)) (pos (s .args .v)) (pos (s .args .leaf)) (runOf (s .args .run))
+      rows-end (s .args .kind) (graphOf (s .args .nodes .now) (s .args .edges .now)) (pos (s .args .v)) (pos (s .args .leaf)) (runOf (s .args .run))
       (small-some (s .pre .1 .2)) (s .args .left) (λ e. c .before .if1 .left (omega (arith, ints, e))) (c .if2 .taken) in
       rw end (append-none (s .args .out .now) (s .args .n))
 
@@ -133,8 +133,8 @@ module _ (t : ℕ) where
       let s = c .before .before .before .before .before in
       let p = s .pre .1 in
       let g = graphOf (s .args .nodes .now) (s .args .edges .now) in
-      passing-start (runsOver (s .args .left - 1) g (pos (s .args .leaf)) (runOf (s .args .run))) (s .args .out .now) (s .args .n) (p .0) (p .1)
-      (λ e m z. over-dead (taken-fit (p .0 .tables .graph) (p .0 .block)) (s .args .left - 1) (runOf (s .args .run)) e z)
+      passing-start (runsOver (s .args .kind) (s .args .left - 1) g (pos (s .args .leaf)) (runOf (s .args .run))) (s .args .out .now) (s .args .n) (p .0) (p .1)
+      (λ e m z. over-dead (s .args .kind) (taken-fit (p .0 .tables .graph) (p .0 .block)) (s .args .left - 1) (runOf (s .args .run)) e z)
 
   step-requires : lts.Need-step-requires (claims t) (at t) reads.Post Inv-loop μ-loop
   step-requires c κs =
@@ -158,12 +158,12 @@ module _ (t : ℕ) where
       let next = turn-next (l .loop .inv) (x .before .loop-test .taken) (room l) in
       rw (c .edge-behind .ensures) (elim (j .match .came) [
         | inl w ↦
-            let left = left-living (across g e (runOf (s .args .run))) (w .1 .given .1) (x .step .ensures .0) in
-            let rows = over-left (s .args .left - 1) g (pos (s .args .leaf)) (runOf (s .args .run)) e left (w .3 .ensures) in
+            let left = left-living (across (s .args .kind) g e (runOf (s .args .run))) (w .1 .given .1) (x .step .ensures .0) in
+            let rows = over-left (s .args .kind) (s .args .left - 1) g (pos (s .args .leaf)) (runOf (s .args .run)) e left (w .3 .ensures) in
             next (rw (← rows, w .7, w .8) (w .5 .ensures))
         | inr w ↦
-            let nothing = nothing-living (across g e (runOf (s .args .run))) (w .1 .given .1) (x .step .ensures .0) in
-            let rows = over-nothing (s .args .left - 1) g (pos (s .args .leaf)) (runOf (s .args .run)) e nothing in
+            let nothing = nothing-living (across (s .args .kind) g e (runOf (s .args .run))) (w .1 .given .1) (x .step .ensures .0) in
+            let rows = over-nothing (s .args .kind) (s .args .left - 1) g (pos (s .args .leaf)) (runOf (s .args .run)) e nothing in
             next (rw (← rows, w .2, w .3) (append-none (l .loop .out) (l .loop .m)))
       ])
 
@@ -176,13 +176,13 @@ module _ (t : ℕ) where
       let p = s .pre .1 in
       let g = graphOf (s .args .nodes .now) (s .args .edges .now) in
       let e = edgeAt (s .args .edges .now) (l .loop .e) in
-      let left = left-living (across g e (runOf (s .args .run))) (k .crossed .given .1) (k .before .before .step .ensures .0) in
-      let rows = over-left (s .args .left - 1) g (pos (s .args .leaf)) (runOf (s .args .run)) e left (c .before .edge-to .ensures) in (
+      let left = left-living (across (s .args .kind) g e (runOf (s .args .run))) (k .crossed .given .1) (k .before .before .step .ensures .0) in
+      let rows = over-left (s .args .kind) (s .args .left - 1) g (pos (s .args .leaf)) (runOf (s .args .run)) e left (c .before .edge-to .ensures) in (
         omega arith,
         (
           p .0,
           entered-row (p .0) (l .loop .e) (i .loop-test .taken) (c .before .edge-to .ensures),
-          left-small (p .0 .tables .graph) (edge-in (s .args .nodes .now) (s .args .edges .now) (l .loop .e) (omega arith)) (p .2) left,
+          left-small (p .0 .tables .graph) (edge-in (s .args .nodes .now) (s .args .edges .now) (l .loop .e) (omega arith)) (s .args .kind) (p .2) left,
           rw rows (turn-room (l .loop .inv) (i .loop-test .taken) (room l)),
         ),
       )

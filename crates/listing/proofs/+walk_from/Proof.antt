@@ -68,17 +68,17 @@ claims t = (
 )
 
 abbrev Inv-loop : lts.InvT-loop
-Inv-loop nodes edges head next leaf v a left out₀ n m₀ e₀ out m e =
-    Passing nodes edges head next leaf v (arrivalsOver (left - 1) (graphOf nodes edges) (pos leaf) (a .0)) out₀ n out m e
+Inv-loop nodes edges head next leaf v a left kind out₀ n m₀ e₀ out m e =
+    Passing nodes edges head next leaf v (arrivalsOver kind (left - 1) (graphOf nodes edges) (pos leaf) (a .0)) out₀ n out m e
 
 abbrev μ-loop : lts.MeasureT-loop
-μ-loop nodes edges head next leaf v a left out₀ n m₀ e₀ out m e = length edges / edgeWidth - e
+μ-loop nodes edges head next leaf v a left kind out₀ n m₀ e₀ out m e = length edges / edgeWidth - e
 
 module _ (t : ℕ) where
   -- past the first test a walk may stand on the node
   standing : (c : lts.Else1 (claims t) (at t) reads.Post Inv-loop μ-loop)
       → let s = c .before .before .before .before in
-      standsOn (node (graphOf (s .args .nodes .now) (s .args .edges .now)) (pos (s .args .v))) (s .args .a .0) ≡ true
+      standsOn (s .args .kind) (node (graphOf (s .args .nodes .now) (s .args .edges .now)) (pos (s .args .v))) (s .args .a .0) ≡ true
   standing c = sym (c .before .stands .ensures (c .before .before .before .before .args .edges .now)) ∙ not-false (c .before .stands .result) (c .if1 .left)
 
   -- so its bit address is small
@@ -87,34 +87,34 @@ module _ (t : ℕ) where
       let s = c .before .before .before .before in
       let p = s .pre .1 in
       let g = graphOf (s .args .nodes .now) (s .args .edges .now) in
-      stands-small (node g (pos (s .args .v))) (p .0 .tables .graph .good (pos (s .args .v)) (p .1)) (s .args .a .0) (T-true _ (standing c))
+      stands-small (node g (pos (s .args .v))) (p .0 .tables .graph .good (pos (s .args .v)) (p .1)) (s .args .kind) (s .args .a .0) (T-true _ (standing c))
 
   -- at the leaf there is one row
   at-leaf : (c : lts.Then2 (claims t) (at t) reads.Post Inv-loop μ-loop)
       → let s = c .before .before .before .before .before in
       let g = graphOf (s .args .nodes .now) (s .args .edges .now) in
-      arrivalRows (s .args .left) g (pos (s .args .v)) (pos (s .args .leaf)) (s .args .a .0) ≡ arrivalRow (node g (pos (s .args .leaf))) (s .args .a .0) ∷ []
+      arrivalRows (s .args .kind) (s .args .left) g (pos (s .args .v)) (pos (s .args .leaf)) (s .args .a .0) ≡ arrivalRow (node g (pos (s .args .leaf))) (s .args .a .0) ∷ []
   at-leaf c =
       let s = c .before .before .before .before .before in
-      arrivals-leaf (graphOf (s .args .nodes .now) (s .args .edges .now)) (pos (s .args .v)) (pos (s .args .leaf)) (s .args .a .0) (s .args .left)
+      arrivals-leaf (s .args .kind) (graphOf (s .args .nodes .now) (s .args .edges .now)) (pos (s .args .v)) (pos (s .args .leaf)) (s .args .a .0) (s .args .left)
       (standing (c .before)) (ap pos (c .if2 .taken))
 
   -- past all tests the rows are those that the edges give
   onward : (c : lts.Else3 (claims t) (at t) reads.Post Inv-loop μ-loop)
       → let s = c .before .before .before .before .before .before in
       let g = graphOf (s .args .nodes .now) (s .args .edges .now) in
-      arrivalRows (s .args .left) g (pos (s .args .v)) (pos (s .args .leaf)) (s .args .a .0)
-      ≡ flatMap (arrivalsOver (s .args .left - 1) g (pos (s .args .leaf)) (s .args .a .0)) (leaving g (pos (s .args .v)))
+      arrivalRows (s .args .kind) (s .args .left) g (pos (s .args .v)) (pos (s .args .leaf)) (s .args .a .0)
+      ≡ flatMap (arrivalsOver (s .args .kind) (s .args .left - 1) g (pos (s .args .leaf)) (s .args .a .0)) (leaving g (pos (s .args .v)))
   onward c =
       let s = c .before .before .before .before .before .before in
-      arrivals-onward (graphOf (s .args .nodes .now) (s .args .edges .now)) (pos (s .args .v)) (pos (s .args .leaf)) (s .args .a .0) (s .args .left)
+      arrivals-onward (s .args .kind) (graphOf (s .args .nodes .now) (s .args .edges .now)) (pos (s .args .v)) (pos (s .args .leaf)) (s .args .a .0) (s .args .left)
       (standing (c .before .before)) (λ e. c .before .if2 .left (omega (arith, ints, e))) (c .if3 .left)
 
   -- so there is room for these
   room : (l : lts.At-loop (claims t) (at t) reads.Post Inv-loop μ-loop)
       → let s = l .before .before .before .before .before .before .before .before in
       let g = graphOf (s .args .nodes .now) (s .args .edges .now) in
-      rowWidth * (s .args .n + length (flatMap (arrivalsOver (s .args .left - 1) g (pos (s .args .leaf)) (s .args .a .0)) (leaving g (pos (s .args .v)))))
+      rowWidth * (s .args .n + length (flatMap (arrivalsOver (s .args .kind) (s .args .left - 1) g (pos (s .args .leaf)) (s .args .a .0)) (leaving g (pos (s .args .v)))))
       ≤ length (s .args .out .now)
   room l = let s = l .before .before .before .before .before .before .before .before in omega (arith, s .pre .1 .2, ap length (onward (l .before .before)))
 
@@ -124,11 +124,11 @@ module _ (t : ℕ) where
       let g = graphOf (s .args .nodes .now) (s .args .edges .now) in
       let e = edgeAt (s .args .edges .now) (l .loop .e) in
       to ≡ e .to → b ≡ s .args .a .0 -ℤ bitOffset g e
-      → arrivalRows (s .args .left - 1) g to (pos (s .args .leaf)) b ≡ arrivalsOver (s .args .left - 1) g (pos (s .args .leaf)) (s .args .a .0) e
+      → arrivalRows (s .args .kind) (s .args .left - 1) g to (pos (s .args .leaf)) b ≡ arrivalsOver (s .args .kind) (s .args .left - 1) g (pos (s .args .leaf)) (s .args .a .0) e
   over l p q =
       let s = l .before .before .before .before .before .before .before .before in
       let g = graphOf (s .args .nodes .now) (s .args .edges .now) in
-      arrivals-over (s .args .left - 1) g (pos (s .args .leaf)) (s .args .a .0) (edgeAt (s .args .edges .now) (l .loop .e)) p q
+      arrivals-over (s .args .kind) (s .args .left - 1) g (pos (s .args .leaf)) (s .args .a .0) (edgeAt (s .args .edges .now) (l .loop .e)) p q
 
   stands-requires : lts.Need-stands-requires (claims t) (at t) reads.Post Inv-loop μ-loop
   stands-requires c κs = let p = c .before .before .pre .1 in node-good (p .0 .tables) (p .1)
@@ -138,7 +138,7 @@ module _ (t : ℕ) where
       let s = c .before .before .before .before in
       let stands = sym (c .before .stands .ensures (s .args .edges .now)) ∙ not-true (c .before .stands .result) (c .if1 .taken) in
       let g = graphOf (s .args .nodes .now) (s .args .edges .now) in
-      let none = arrivals-outside g (pos (s .args .v)) (pos (s .args .leaf)) (s .args .a .0) (s .args .left) stands in
+      let none = arrivals-outside (s .args .kind) g (pos (s .args .v)) (pos (s .args .leaf)) (s .args .a .0) (s .args .left) stands in
       rw none (append-none (s .args .out .now) (s .args .n))
 
   arrival-row-requires : lts.Need-arrival-row-requires (claims t) (at t) reads.Post Inv-loop μ-loop
@@ -161,7 +161,7 @@ module _ (t : ℕ) where
   returns-3 c =
       let s = c .before .before .before .before .before .before in
       let none =
-      arrivals-end (graphOf (s .args .nodes .now) (s .args .edges .now)) (pos (s .args .v)) (pos (s .args .leaf)) (s .args .a .0) (s .args .left)
+      arrivals-end (s .args .kind) (graphOf (s .args .nodes .now) (s .args .edges .now)) (pos (s .args .v)) (pos (s .args .leaf)) (s .args .a .0) (s .args .left)
       (standing (c .before .before)) (λ e. c .before .if2 .left (omega (arith, ints, e))) (c .if3 .taken) in
       rw none (append-none (s .args .out .now) (s .args .n))
 
@@ -176,8 +176,8 @@ module _ (t : ℕ) where
       let s = c .before .before .before .before .before .before .before in
       let p = s .pre .1 in
       let g = graphOf (s .args .nodes .now) (s .args .edges .now) in
-      passing-start (arrivalsOver (s .args .left - 1) g (pos (s .args .leaf)) (s .args .a .0)) (s .args .out .now) (s .args .n) (p .0) (p .1)
-      (λ e m z. arrivals-over-dead (taken-fit (p .0 .tables .graph) (p .0 .block)) (s .args .left - 1) (s .args .a .0) e z)
+      passing-start (arrivalsOver (s .args .kind) (s .args .left - 1) g (pos (s .args .leaf)) (s .args .a .0)) (s .args .out .now) (s .args .n) (p .0) (p .1)
+      (λ e m z. arrivals-over-dead (s .args .kind) (taken-fit (p .0 .tables .graph) (p .0 .block)) (s .args .left - 1) (s .args .a .0) e z)
 
   edge-to-requires : lts.Need-edge-to-requires (claims t) (at t) reads.Post Inv-loop μ-loop
   edge-to-requires c κs =

@@ -25,29 +25,29 @@ address c = simp (toZ-ofZ, start c .fits .address) at (c .of .ensures)
 
 -- the rows of all arrivals are written
 walked : (c : tie.After-walk-from) → let s = start (c .before .before) .args in
-    Appended (arrivalRows maxChain (graphOf (s .nodes .now) (s .edges .now)) (pos (s .root)) (pos (s .leaf)) (s .address)) (s .work .now)
-    (c .walk-from .last .1 .1 .1 .1 .1 .1 .1 .1 .0) 0 (c .walk-from .result)
+    Appended (arrivalRows (s .kind) maxChain (graphOf (s .nodes .now) (s .edges .now)) (pos (s .root)) (pos (s .leaf)) (s .address)) (s .work .now)
+    (c .walk-from .last .1 .1 .1 .1 .1 .1 .1 .1 .1 .0) 0 (c .walk-from .result)
 walked c = rw (address (c .before .before)) at (c .walk-from .ensures)
 
 walk-from-requires : tie.Need-walk-from-requires
 walk-from-requires c κs =
     let a = c .before in
     let p = start a .pre in
-    (pair-linked p (a .before .before .before .before .before .link-edges .ensures), p .row, rw (address a) (arrivals-room p (start a .args .address)))
+    (pair-linked p (a .before .before .before .before .before .link-edges .ensures), p .row, rw (address a) (arrivals-room p (start a .args .kind) (start a .args .address)))
 
 normalise-requires : tie.Need-normalise-requires
 normalise-requires c κs =
     let w = c .before .before .before in
     let s = start (w .before .before) in
-    arrivals-normalisable (s .pre) (s .args .address) (walked w)
+    arrivals-normalisable (s .pre) (s .args .kind) (s .args .address) (walked w)
 
 returns : tie.Need-returns
 returns c =
     let n = c .before .before in
     let w = n .before .before .before .before in
     let s = start (w .before .before) in
-    let bits = leafBits (graphOf (s .args .nodes .now) (s .args .edges .now)) (pos (s .args .root)) (pos (s .args .leaf)) (s .args .address) in
-    let list = arrivals-normal (s .pre) (s .args .address) (walked w) in
+    let bits = leafBits (s .args .kind) (graphOf (s .args .nodes .now) (s .args .edges .now)) (pos (s .args .root)) (pos (s .args .leaf)) (s .args .address) in
+    let list = arrivals-normal (s .pre) (s .args .kind) (s .args .address) (walked w) in
     (n .normalise .ensures .0 ∙ ap length list ∙ length-map bits bitRecord, n .normalise .ensures .1 .0 ∙ ap numbersOf list)
 
 pub walk-pair-spec : {M : Type 1} → statement M

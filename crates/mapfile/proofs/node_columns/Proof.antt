@@ -1,11 +1,11 @@
--- The names are looked for one after the other.
+-- The names are looked for one after the other, `access` last, which the line may lack.
 use mathlib.Core.List.{List, [], _∷_}
 use native.Mathlib.Omega.{arith}
 use borrow.Author.Needs.{needs}
 use Rattle.model.specs.Bytes.{Bytes, bytes}
 use Rattle.model.specs.MapFile.{nodeTable}
 use Rattle.columns.specs.declared.Columns.{Columns}
-use Rattle.columns.proofs.ColumnLists.{Sought, sought-none, sought-name, sought-seeking, sought-all}
+use Rattle.columns.proofs.ColumnLists.{Sought, sought-none, sought-name, sought-optional, sought-seeking, sought-all}
 use Rattle.mapfile.proofs.node_columns.Statement.{statement}
 use Rattle.mapfile.proofs.node_columns.Tie as tie
 
@@ -32,9 +32,13 @@ range-sought : (w : tie.After-with-name4) → After (w .before .before .before .
 unfolding bytes
 range-sought w = sought-name (base-sought (w .before .before)) (bytes "range") (w .with-name4 .ensures)
 
+unit-sought : (w : tie.After-with-name5) → After (w .before .before .before .before .before .before .before .before .before .before) (bytes "side" ∷ bytes "kind" ∷ bytes "base" ∷ bytes "range" ∷ bytes "unit" ∷ []) (w .with-name5 .result)
+unfolding bytes
+unit-sought w = sought-name (range-sought (w .before .before)) (bytes "unit") (w .with-name5 .ensures)
+
 returns : tie.Need-returns
 unfolding bytes nodeTable
-returns c = sought-all nodeTable (sought-name (range-sought (c .before .before)) (bytes "unit") (c .with-name5 .ensures))
+returns c = sought-all nodeTable (sought-optional (unit-sought (c .before .before)) (bytes "access") (search needs))
 
 pub node-columns-spec : {M : Type 1} → statement M
 node-columns-spec =
@@ -51,4 +55,6 @@ node-columns-spec =
     (λ c κs. sought-seeking (base-sought (c .before)) (omega arith))
     (λ c. search needs)
     (λ c κs. sought-seeking (range-sought (c .before)) (omega arith))
+    (λ c. search needs)
+    (λ c κs. sought-seeking (unit-sought (c .before)) (omega arith))
     returns)

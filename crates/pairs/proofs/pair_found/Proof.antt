@@ -1,5 +1,5 @@
 -- The list of the specification leaf and that of the group are asked of their graphs, and the two are judged where they stand.
-use mathlib.Core.Path.{_≡_, sym, _∙_}
+use mathlib.Core.Path.{_≡_, _∙_}
 use mathlib.Core.List.{List}
 use Prim.Native.Nat.{ℕ, _*_, _≤_}
 use native.Mathlib.Omega.{arith}
@@ -8,8 +8,8 @@ use lib.ListN.{length}
 use mir.Syntax.{w64}
 use mir.Facts.{toZ-ofZ}
 use borrow.Author.Needs.{needs, sfits-of}
-use Rattle.model.specs.Bitmapping.{Record}
-use Rattle.model.specs.Compare.{Tables, findingOf, verdictOf}
+use Rattle.model.specs.declared.WalkKind.{WalkKind}
+use Rattle.model.specs.Compare.{Tables, findingOf, kindVerdict}
 use Rattle.tables.specs.Tables.{pairAt}
 use Rattle.pairing.specs.Pairs.{tablesOf}
 use Rattle.sorting.specs.Rows.{rowWidth}
@@ -41,16 +41,16 @@ tables s roots =
     tablesOf (a .spec-nodes .now) (a .spec-edges .now) (a .impl-nodes .now) (a .impl-edges .now) roots (a .leaf-pairs .now)
 
 -- the graphs are swept from the roots of row i of these root pairs
-abbrev From : tie.Start → List ℤ → ℕ → Type 0
-From s roots i =
+abbrev From : WalkKind → tie.Start → List ℤ → ℕ → Type 0
+From kind s roots i =
     let a = s .args in
-    PairReady (tables s roots) i (a .spec-plan .now) (a .impl-plan .now) (a .links .now) (a .spec-state .now) (a .impl-state .now) (a .spare .now)
+    PairReady kind (tables s roots) i (a .spec-plan .now) (a .impl-plan .now) (a .links .now) (a .spec-state .now) (a .impl-state .now) (a .spare .now)
 
 -- the two lists of the pair
-abbrev specIs : (s : tie.Start) {roots : List ℤ} {i : ℕ} (k : From s roots i) → PairList (specList k (s .pre .there) (s .pre .lowest))
+abbrev specIs : (s : tie.Start) {kind : WalkKind} {roots : List ℤ} {i : ℕ} (k : From kind s roots i) → PairList (specList k (s .pre .there) (s .pre .lowest))
 specIs s k = spec-list k (s .pre .there) (s .pre .lowest)
 
-abbrev implIs : (s : tie.Start) {roots : List ℤ} {i : ℕ} (k : From s roots i) → PairList (implList k (s .pre .there) (s .pre .lowest))
+abbrev implIs : (s : tie.Start) {kind : WalkKind} {roots : List ℤ} {i : ℕ} (k : From kind s roots i) → PairList (implList k (s .pre .there) (s .pre .lowest))
 implIs s k = impl-list k (s .pre .there) (s .pre .lowest)
 
 spec-node-requires : tie.Need-spec-node-requires
@@ -72,18 +72,18 @@ list-group-requires c κs =
     impl-askable (s .pre .ready) (s .pre .there) (s .pre .lowest) (l .list-at .kept .1 .1 .1 .1 .1 .0)
 
 -- what is answered of each
-specAnswer : (l : tie.After-list-at) {roots : List ℤ} {i : ℕ} (k : From (start (specNode l)) roots i) → let s = start (specNode l) in let a = s .args in
-    ListAnswered (a .spec-nodes .now) (a .spec-edges .now) (a .spec-plan .now) (natAbs (pairAt roots i .spec)) (specList k (s .pre .there) (s .pre .lowest))
+specAnswer : (l : tie.After-list-at) {kind : WalkKind} {roots : List ℤ} {i : ℕ} (k : From kind (start (specNode l)) roots i) → let s = start (specNode l) in let a = s .args in
+    ListAnswered kind (a .spec-nodes .now) (a .spec-edges .now) (a .spec-plan .now) (natAbs (pairAt roots i .spec)) (specList k (s .pre .there) (s .pre .lowest))
     (l .list-at .last .1 .1 .1 .1 .0) (l .list-at .result)
 specAnswer l k =
     let n = specNode l in
     let s = start n in
-    spec-answered k (s .pre .there) (s .pre .lowest) (n .spec-node .ensures) (l .list-at .ensures _ (k .spec))
+    spec-answered k (s .pre .there) (s .pre .lowest) (n .spec-node .ensures) (l .list-at .ensures _ _ (k .spec))
 
-implAnswer : (m : tie.After-list-group) {roots : List ℤ} {i : ℕ} (k : From (start (specNode (listed m))) roots i) → let s = start (specNode (listed m)) in let a = s .args in
-    ListAnswered (a .impl-nodes .now) (a .impl-edges .now) (a .impl-plan .now) (natAbs (pairAt roots i .impl)) (implList k (s .pre .there) (s .pre .lowest))
+implAnswer : (m : tie.After-list-group) {kind : WalkKind} {roots : List ℤ} {i : ℕ} (k : From kind (start (specNode (listed m))) roots i) → let s = start (specNode (listed m)) in let a = s .args in
+    ListAnswered kind (a .impl-nodes .now) (a .impl-edges .now) (a .impl-plan .now) (natAbs (pairAt roots i .impl)) (implList k (s .pre .there) (s .pre .lowest))
     (m .list-group .last .1 .1 .1 .1 .1 .1 .0) (m .list-group .result)
-implAnswer m k = let s = start (specNode (listed m)) in impl-answered k (s .pre .there) (s .pre .lowest) (m .list-group .ensures _ (k .impl))
+implAnswer m k = let s = start (specNode (listed m)) in impl-answered k (s .pre .there) (s .pre .lowest) (m .list-group .ensures _ _ (k .impl))
 
 -- each lies in its state, which has the room that it had
 specAt : (l : tie.After-list-at) → let new = l .list-at .last .1 .1 .1 .1 .0 in (rowWidth * l .list-at .result .row ≤ length new) × (length new ≡ stateRoom)
@@ -144,8 +144,8 @@ same-length-3 : tie.Need-same-length-3
 same-length-3 c = search needs
 
 returns : tie.Need-returns
-unfolding findingOf verdictOf
-returns c _ _ k =
+unfolding findingOf kindVerdict
+returns c _ _ _ k =
     let j = c .before .before .before .before in
     let m = grouped (j .before .before .before .before) in
     let l = listed m in
@@ -159,9 +159,9 @@ returns c _ _ k =
         verdict = judged .verdict;
         spec = specAnswer l k .count;
         impl = implAnswer m k .count;
-        address = λ a u. toZ-ofZ (sfits-of {w = w64} (j .judge .ok .1 .1 .1 .0 .1)) ∙ judged .address a (λ z. u (sym (judged .verdict) ∙ z));
+        address = λ a. toZ-ofZ (sfits-of {w = w64} (j .judge .ok .1 .1 .1 .0 .1)) ∙ judged .address a;
       };
-      few = (side-few (specIs s k) (specAnswer l k), side-few (implIs s k) (implAnswer m k));
+      few = record { spec = side-few (specIs s k) (specAnswer l k); impl = side-few (implIs s k) (implAnswer m k) };
     }
 
 pub pair-found-spec : {M : Type 1} → statement M

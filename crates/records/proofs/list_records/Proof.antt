@@ -47,7 +47,10 @@ use denote.Triple.Table.{entered, cited}
 use denote.Triple.Walked.{says, Stays, stay-none, stay-none-slice, stay-ref, gave-slice, walkOf, Walks, AllGo, ends-at, walked, goes-none}
 use denote.Triple.Walked.{goes-none-slice, goes-ref, goes-gave-slice, walk-meets}
 use Rattle.model.specs.Limits.{maxPaths}
+use Rattle.model.specs.declared.WalkKind.{WalkKind}
 use Rattle.model.specs.declared.Written.{Written}
+use Rattle.model.proofs.WalkKind as Wk
+use Rattle.model.proofs.WalkKind.Laws as Wk′
 use Rattle.model.proofs.Written as Wr
 use Rattle.model.proofs.Written.Laws as Wr′
 use Rattle.records.specs.declared.Record.{Record}
@@ -80,7 +83,7 @@ abbrev U : Type 0
 U = Unit {0}
 
 abbrev Arg : Type 0
-Arg = RefT (List ℤ) × (RefT (List ℤ) × (ℤ × (ℤ × (RefT (List Record) × (RefT (List ℤ) × U)))))
+Arg = RefT (List ℤ) × (RefT (List ℤ) × (ℤ × (ℤ × (WalkKind × (RefT (List Record) × (RefT (List ℤ) × U))))))
 
 abbrev stayed : Stays (f.ended .signature .params) (f.ended .kept)
 stayed = (
@@ -91,7 +94,7 @@ stayed = (
       stay-none (λ _. i64) yes,
       (
         stay-none (λ _. i64) yes,
-        (gave-slice (2 ∷ []) tt (plain (λ _. T.the-row)), (stay-ref (3 ∷ []) tt numbersSlot, tt)),
+        (stay-none (λ _. Wk.the-row) yes, (gave-slice (2 ∷ []) tt (plain (λ _. T.the-row)), (stay-ref (3 ∷ []) tt numbersSlot, tt))),
       ),
     ),
   ),
@@ -109,8 +112,9 @@ module _ {M : Type 1} (𝓤 : URA M) (H : Heap 𝓤) (A : Atoms 𝓤) (mem : Mem
   PutRecords = tripleOf 𝓤 H A put-records.signature (put-records.spec 𝓤 H A mem run)
 
 module _ {M : Type 1} (𝓤 : URA M) (H : Heap 𝓤) (A : Atoms 𝓤) (W : Given 𝓤 H A) (mem : Memory → SProp 𝓤) (run : Routine → Fun 𝓤)
-    (κ₀ κ₁ κ₂ κ₃ : Lft) (q₀ q₁ q₂ q₃ : Share) (xn xe : RefT (List ℤ)) (root leaf : ℤ) (b o : ℕ) (γ : GName) (ys : List Record)
+    (κ₀ κ₁ κ₂ κ₃ : Lft) (q₀ q₁ q₂ q₃ : Share) (xn xe : RefT (List ℤ)) (root leaf : ℤ) (kind : WalkKind) (b o : ℕ) (γ : GName) (ys : List Record)
     (bw ow : ℕ) (γw : GName) (ws : List ℤ) (root-is : Is i64 root (sint-vals w64 root)) (leaf-is : Is i64 leaf (sint-vals w64 leaf))
+    (kind-is : Is Wk.the-row kind (enum.vals Wk.the-type Wk′.the-laws kind))
   where
     -- ---- what the parameters hold
 
@@ -126,6 +130,9 @@ module _ {M : Type 1} (𝓤 : URA M) (H : Heap 𝓤) (A : Atoms 𝓤) (W : Given
     abbrev vl : Val
     vl = vint w64 (ofZ w64 leaf)
 
+    abbrev vk : Val
+    vk = enum.val Wk.the-type Wk′.the-laws kind
+
     abbrev vo : Val
     vo = sliceVal (b, o) (length ys)
 
@@ -140,13 +147,13 @@ module _ {M : Type 1} (𝓤 : URA M) (H : Heap 𝓤) (A : Atoms 𝓤) (W : Given
     xw δ l = record { ptr = (bw, ow); name = δ; now = l }
 
     abbrev Params : List RattleType
-    Params = ShrSlice (named 0) κ₀ i64 ∷ ShrSlice (named 1) κ₁ i64 ∷ i64 ∷ i64 ∷ MutSlice (named 2) κ₂ T.the-row ∷ MutRef (named 3) κ₃ Numbers ∷ []
+    Params = ShrSlice (named 0) κ₀ i64 ∷ ShrSlice (named 1) κ₁ i64 ∷ i64 ∷ i64 ∷ Wk.the-row ∷ MutSlice (named 2) κ₂ T.the-row ∷ MutRef (named 3) κ₃ Numbers ∷ []
 
     abbrev x : Arg
-    x = (xn, (xe, (root, (leaf, (xo, (xw γw ws, tt))))))
+    x = (xn, (xe, (root, (leaf, (kind, (xo, (xw γw ws, tt)))))))
 
-    abbrev at : List Val × (List Val × (List Val × (List Val × (List Val × (List Val × U)))))
-    at = (vn ∷ [], (ve ∷ [], (vr ∷ [], (vl ∷ [], (vo ∷ [], (vw ∷ [], tt))))))
+    abbrev at : List Val × (List Val × (List Val × (List Val × (List Val × (List Val × (List Val × U))))))
+    at = (vn ∷ [], (ve ∷ [], (vr ∷ [], (vl ∷ [], (vk ∷ [], (vo ∷ [], (vw ∷ [], tt)))))))
 
     abbrev bound : walkOf 𝓤 H A f.ended stayed (f.clauses 𝓤 H A mem run) .Ghost
     bound = (((κ₀, (κ₁, (κ₂, (κ₃, tt)))), (q₀, (q₁, (q₂, (q₃, tt)))), tt, x, at), tt)
@@ -175,16 +182,16 @@ module _ {M : Type 1} (𝓤 : URA M) (H : Heap 𝓤) (A : Atoms 𝓤) (W : Given
         (⋆ 𝓤 H A (‵ OwnN ∷ ‵ OwnE ∷ ‵ OwnO ∷ ‵ (OwnW κ₃ γw ws) ∷ []))
     opens =
         qed W (‵ (owns Params x at) ∷ []) ∵
-        fsplit ! $ move ! (1 ∷ []) $ fsplit ! $ move ! (1 ∷ []) $ fsplit ! $ lose ! $ fsplit ! $ lose ! $ fsplit ! $ move ! (1 ∷ []) $ fsplit ! $
-        keep ! (4 ∷ 3 ∷ 2 ∷ 0 ∷ []) $ done !
+        fsplit ! $ move ! (1 ∷ []) $ fsplit ! $ move ! (1 ∷ []) $ fsplit ! $ lose ! $ fsplit ! $ lose ! $ fsplit ! $ lose ! $ fsplit ! $
+        move ! (1 ∷ []) $ fsplit ! $ keep ! (4 ∷ 3 ∷ 2 ∷ 0 ∷ []) $ done !
 
     -- ---- the call of `list_within`
 
-    abbrev list-args : GName → RefT (List ℤ) × (RefT (List ℤ) × (ℤ × (ℤ × (ℕ × (RefT (List ℤ) × U)))))
-    list-args δ = (xn, (xe, (root, (leaf, (length ys, (xw δ ws, tt))))))
+    abbrev list-args : GName → RefT (List ℤ) × (RefT (List ℤ) × (ℤ × (ℤ × (WalkKind × (ℕ × (RefT (List ℤ) × U))))))
+    list-args δ = (xn, (xe, (root, (leaf, (kind, (length ys, (xw δ ws, tt)))))))
 
-    abbrev list-vals : List Val × (List Val × (List Val × (List Val × (List Val × (List Val × U)))))
-    list-vals = (vn ∷ [], (ve ∷ [], (vr ∷ [], (vl ∷ [], (vint w64 (length ys) ∷ [], (vw ∷ [], tt))))))
+    abbrev list-vals : List Val × (List Val × (List Val × (List Val × (List Val × (List Val × (List Val × U))))))
+    list-vals = (vn ∷ [], (ve ∷ [], (vr ∷ [], (vl ∷ [], (vk ∷ [], (vint w64 (length ys) ∷ [], (vw ∷ [], tt)))))))
 
     abbrev to-list : ℕ → GName → ListWithin 𝓤 H A mem run .Ghost
     to-list ν δ = (((κ₀, (κ₁, (ν ∷ [], tt))), (q₀, (q₁, (fullShare, tt))), tt, list-args δ, list-vals), tt)
@@ -199,6 +206,7 @@ module _ {M : Type 1} (𝓤 : URA M) (H : Heap 𝓤) (A : Atoms 𝓤) (W : Given
         move ! (6 ∷ []) $ use1 W (‵ OwnE ⊛ ‵ OwnE) (shr-slice-copy 𝓤 H A W (named 1) κ₁ i64 .twice xe (ve ∷ [])) $ split ! $
         -- what the arguments own, from the last to the first
         nothing ! $ move ! (9 ∷ 0 ∷ []) $ fjoin ! $ owned ! usize (Is usize) (uint-makes 𝓤 H A W w64) (length ys) _ (refl, fits) $ fjoin ! $
+        owned ! Wk.the-row (Is Wk.the-row) (enum.makes Wk.the-type Wk′.the-plain 𝓤 H A) kind _ kind-is $ fjoin ! $
         owned ! i64 (Is i64) (sint-makes 𝓤 H A W w64) leaf _ leaf-is $ fjoin ! $ owned ! i64 (Is i64) (sint-makes 𝓤 H A W w64) root _ root-is $
         fjoin ! $
         move ! (1 ∷ 0 ∷ []) $ fjoin ! $ move ! (2 ∷ 0 ∷ []) $ fjoin ! $
@@ -206,17 +214,17 @@ module _ {M : Type 1} (𝓤 : URA M) (H : Heap 𝓤) (A : Atoms 𝓤) (W : Given
 
     -- what the list that is left in the work buffer is
     abbrev ListedAs : Written → List ℤ → Type 0
-    ListedAs = Listed (now xn) (now xe) root leaf (length ys) ws
+    ListedAs = Listed kind (now xn) (now xe) root leaf (length ys) ws
 
     -- what it leaves: the numbers of the work buffer, with what it ensures of them
     list-left : (ν : ℕ) (δ : GName) (r : Written)
         → ent 𝓤 (ensured 𝓤 H A list-within.ended (list-within.clauses 𝓤 H A mem run) (κ₀, (κ₁, (ν ∷ [], tt))) (list-args δ) tt r)
         (ex 𝓤 (λ (l : List ℤ). sep 𝓤 (sem 𝓤 H A (fres δ (Numbers .coded .code l))) (fact 𝓤 (ListedAs r l))))
     list-left ν δ r =
-        qed W (some (λ (zs : U × (U × (U × (U × (U × (List ℤ × U)))))). ‵ (lasts list-within.ended (κ₀, (κ₁, (ν ∷ [], tt))) (list-args δ) zs)
-        ⊛ raw (fact 𝓤 (ListedAs r (zs .1 .1 .1 .1 .1 .0)))) ∷ []) ∵ pick ! (λ zs.
-        show ! (λ (l : List ℤ). sep 𝓤 (sem 𝓤 H A (fres δ (Numbers .coded .code l))) (fact 𝓤 (ListedAs r l))) (zs .1 .1 .1 .1 .1 .0) $ split ! $
-        fsplit ! $ lose ! $ fsplit ! $ lose ! $ fsplit ! $ lose ! $ fsplit ! $ lose ! $ fsplit ! $ lose ! $ fsplit ! $ frame ! $ lose ! $ done !)
+        qed W (some (λ (zs : U × (U × (U × (U × (U × (U × (List ℤ × U))))))). ‵ (lasts list-within.ended (κ₀, (κ₁, (ν ∷ [], tt))) (list-args δ) zs)
+        ⊛ raw (fact 𝓤 (ListedAs r (zs .1 .1 .1 .1 .1 .1 .0)))) ∷ []) ∵ pick ! (λ zs.
+        show ! (λ (l : List ℤ). sep 𝓤 (sem 𝓤 H A (fres δ (Numbers .coded .code l))) (fact 𝓤 (ListedAs r l))) (zs .1 .1 .1 .1 .1 .1 .0) $ split ! $
+        fsplit ! $ lose ! $ fsplit ! $ lose ! $ fsplit ! $ lose ! $ fsplit ! $ lose ! $ fsplit ! $ lose ! $ fsplit ! $ lose ! $ fsplit ! $ frame ! $ lose ! $ done !)
 
     -- ---- the call of `count_of`
 
@@ -271,24 +279,25 @@ module _ {M : Type 1} (𝓤 : URA M) (H : Heap 𝓤) (A : Atoms 𝓤) (W : Given
         ‵ (OwnW κ₃ γw l) ∷ ‵ (flft κ₃ q₃) ∷ ‵ (flft κ₂ q₂) ∷ ‵ ftrue ∷ ‵ (finally T.the-row γ zs) ∷ ‵ (flft κ₁ q₁) ∷ ‵ (flft κ₀ q₀) ∷ (‵ OwnN ⊛ ‵ OwnE) ∷ []
 
     exits : (r : Written) (u : Val) (zs : List Record) (l : List ℤ) → Is Wr.the-row r (u ∷ []) → length zs ≡ length ys
-        → RecordsPromise (now xn) (now xe) root leaf ys ws r zs l → ent 𝓤 (⋆ 𝓤 H A (Last zs l)) (Post u)
+        → RecordsPromise kind (now xn) (now xe) root leaf ys ws r zs l → ent 𝓤 (⋆ 𝓤 H A (Last zs l)) (Post u)
     exits r u zs l is same promise =
         qed W (Last zs l) ∵
-        suffices ! _ (ends-at 𝓤 H A f.ended stayed (f.clauses 𝓤 H A mem run) W bound u r (tt, (tt, (tt, (tt, (zs, (l, tt))))))
-        (tt, (tt, (tt, (tt, (same, (tt, tt))))))) $ says ! promise $
+        suffices ! _ (ends-at 𝓤 H A f.ended stayed (f.clauses 𝓤 H A mem run) W bound u r (tt, (tt, (tt, (tt, (tt, (zs, (l, tt)))))))
+        (tt, (tt, (tt, (tt, (tt, (same, (tt, tt)))))))) $ says ! promise $
         move ! (6 ∷ 5 ∷ 2 ∷ 1 ∷ 3 ∷ []) $ group ! 5 $ frame ! $
         -- what is had of the parameters, from the last to the first
         nothing ! $ move ! (1 ∷ 0 ∷ []) $ fjoin ! $ move ! (1 ∷ 0 ∷ []) $ fjoin ! $
+        owned ! Wk.the-row (Is Wk.the-row) (enum.makes Wk.the-type Wk′.the-plain 𝓤 H A) kind _ kind-is $ fjoin ! $
         owned ! i64 (Is i64) (sint-makes 𝓤 H A W w64) leaf _ leaf-is $ fjoin ! $ owned ! i64 (Is i64) (sint-makes 𝓤 H A W w64) root _ root-is $
         fjoin ! $
         move ! (1 ∷ []) $ split ! $ move ! (1 ∷ 2 ∷ []) $ fjoin ! $ move ! (1 ∷ 0 ∷ []) $ fjoin ! $ frame ! $
         owned ! Wr.the-row (Is Wr.the-row) (enum.makes Wr.the-type Wr′.the-plain 𝓤 H A) r _ is $ done !
 
     -- the promise, of the list that was made and the records that were stored
-    promised : (r : Written) (l : List ℤ) (zs : List Record) → ListedAs r l → zs ≡ stored l (countOf r) → RecordsPromise (now xn) (now xe) root leaf ys ws r zs l
+    promised : (r : Written) (l : List ℤ) (zs : List Record) → ListedAs r l → zs ≡ stored l (countOf r) → RecordsPromise kind (now xn) (now xe) root leaf ys ws r zs l
     promised r l zs listed put =
-        subst (λ (new : List Record). RecordsPromise (now xn) (now xe) root leaf ys ws r new l) (sym put)
-        (records-promise (now xn) (now xe) root leaf ys ws listed)
+        subst (λ (new : List Record). RecordsPromise kind (now xn) (now xe) root leaf ys ws r new l) (sym put)
+        (records-promise kind (now xn) (now xe) root leaf ys ws listed)
 
     module _ (C : Calls 𝓤 H) (Λ : Loops 𝓤 H) (fm : FmC 𝓤 H (W .laws) C) (known-list : Triple 𝓤 (C #records·list-within) (ListWithin 𝓤 H A mem run))
         (known-count : Triple 𝓤 (C #records·count-of) (CountOf 𝓤 H A mem run)) (known-put : Triple 𝓤 (C #records·put-records) (PutRecords 𝓤 H A mem run))
@@ -301,38 +310,40 @@ module _ {M : Type 1} (𝓤 : URA M) (H : Heap 𝓤) (A : Atoms 𝓤) (W : Given
         -- the answer is returned, and all locals are given up.
         walk : Room i64 (length (now xn)) → Room i64 (length (now xe)) → Room T.the-row (length ys)
             → ent 𝓤 (onEntry 𝓤 H A f.signature (κ₀, (κ₁, (κ₂, (κ₃, tt)))) (q₀, (q₁, (q₂, (q₃, tt)))) x at)
-            (WpFn 𝓤 H C Λ code.function (vn ∷ ve ∷ vr ∷ vl ∷ vo ∷ vw ∷ []) Post)
+            (WpFn 𝓤 H C Λ code.function (vn ∷ ve ∷ vr ∷ vl ∷ vk ∷ vo ∷ vw ∷ []) Post)
         walk room-n room-e room =
             qed W ((‵ (flft κ₀ q₀) ⊛ ‵ (flft κ₁ q₁) ⊛ ‵ (flft κ₂ q₂) ⊛ ‵ (flft κ₃ q₃) ⊛ ‵ ftrue)
             ∷ ‵ (owns Params x at) ∷ []) ∵
-            enter ! C Λ code.function (vn ∷ ve ∷ vr ∷ vl ∷ vo ∷ vw ∷ []) _ $
+            enter ! C Λ code.function (vn ∷ ve ∷ vr ∷ vl ∷ vk ∷ vo ∷ vw ∷ []) _ $
             alloc1 ! (λ l₀. alloc1 ! (λ l₁. alloc1 ! (λ l₂. alloc1 ! (λ l₃. alloc1 ! (λ l₄. alloc1 ! (λ l₅.
             alloc1 ! (λ l₆. alloc1 ! (λ l₇. alloc1 ! (λ l₈. alloc1 ! (λ l₉. alloc1 ! (λ l₁₀. alloc1 ! (λ l₁₁.
-            alloc1 ! (λ l₁₂. alloc1 ! (λ l₁₃. alloc1 ! (λ l₁₄. alloc0 ! $ params1 ! $
-            pass1 ! (init ! 26 refl (tt, (tt, (record { fits = room-n .0 }, tt)))) $
-            pass1 ! (init ! 24 refl (tt, (tt, (record { fits = room-e .0 }, tt)))) $
-            pass1 ! (init ! 22 refl (sint-lawful 𝓤 H A W w64 .typed root _ root-is .0)) $
-            pass1 ! (init ! 20 refl (sint-lawful 𝓤 H A W w64 .typed leaf _ leaf-is .0)) $
+            alloc1 ! (λ l₁₂. alloc1 ! (λ l₁₃. alloc1 ! (λ l₁₄. alloc1 ! (λ l₁₅. alloc0 ! $ params1 ! $
+            pass1 ! (init ! 28 refl (tt, (tt, (record { fits = room-n .0 }, tt)))) $
+            pass1 ! (init ! 26 refl (tt, (tt, (record { fits = room-e .0 }, tt)))) $
+            pass1 ! (init ! 24 refl (sint-lawful 𝓤 H A W w64 .typed root _ root-is .0)) $
+            pass1 ! (init ! 22 refl (sint-lawful 𝓤 H A W w64 .typed leaf _ leaf-is .0)) $
+            pass1 ! (init ! 20 refl (enum.lawful Wk.the-type Wk′.the-laws 𝓤 H A W tt .typed kind _ kind-is .0)) $
             pass1 ! (init ! 18 refl (tt, (tt, (record { fits = room .0 }, tt)))) $ pass1 ! (init ! 16 refl (tt, tt)) $ pass0 ! $
-            -- [_14; …; _0; …; the tokens; what the parameters own]
+            -- [_15; …; _0; …; the tokens; what the parameters own]
             assigns ! (of-opd ! (load ! (from ! (fld ! refl (stop !))) (look-in ! 18 (sub ! 1 refl (whole !)))))
             (from ! (stop !)) (init ! 10 refl (tt, record { fits = room .0 })) $
             assigns ! (addr ! (from ! (hop ! (look ! 16 refl) (stop !)))) (from ! (stop !)) (init ! 8 refl (tt, tt)) $
             -- the tokens and what the parameters own are taken apart
-            move ! (31 ∷ []) $ use1 W (‵ OwnN ⊛ ‵ OwnE ⊛ ‵ OwnO ⊛ ‵ (OwnW κ₃ γw ws)) opens $ split ! $ move ! (1 ∷ []) $ split3 ! $
-            move ! (34 ∷ []) $ split ! $ move ! (1 ∷ []) $ split3 ! $ move ! (2 ∷ []) $ split ! $
-            -- [κ₃; true; κ₁; κ₂; κ₀; edges; out; work; nodes; _14; …]
+            move ! (33 ∷ []) $ use1 W (‵ OwnN ⊛ ‵ OwnE ⊛ ‵ OwnO ⊛ ‵ (OwnW κ₃ γw ws)) opens $ split ! $ move ! (1 ∷ []) $ split3 ! $
+            move ! (36 ∷ []) $ split ! $ move ! (1 ∷ []) $ split3 ! $ move ! (2 ∷ []) $ split ! $
+            -- [κ₃; true; κ₁; κ₂; κ₀; edges; out; work; nodes; _15; …]
             lft-new ! tt (λ ν. move ! (8 ∷ 1 ∷ []) $
             use2 W (later (some (λ (δ : GName). ‵ (OwnW (ν ∷ []) δ ws) ⊛ ‵ (LentAgain Numbers κ₃ (ν ∷ []) q₃ γw bw ow δ ws))))
             (lends-again 𝓤 H A W Numbers (named 3) κ₃ (ν ∷ []) q₃ γw bw ow (named 3) ws) $ await ! tt $ pick ! (λ δ. split ! $
-            -- [work for ν; its lender's part; ν; true; κ₁; κ₂; κ₀; edges; out; nodes; _14; …]
+            -- [work for ν; its lender's part; ν; true; κ₁; κ₂; κ₀; edges; out; nodes; _15; …]
             move ! (6 ∷ 4 ∷ 2 ∷ 3 ∷ 9 ∷ 7 ∷ 0 ∷ []) $ group ! 7 $
             use1 W (raw (ListWithin 𝓤 H A mem run .pre (to-list ν δ)) ⊛ (‵ OwnN ⊛ ‵ OwnE)) (asks-list ν δ (room .0)) $ split ! $
-            -- [what list_within asks; nodes and edges; the lender's part; κ₂; out; _14; …]
+            -- [what list_within asks; nodes and edges; the lender's part; κ₂; out; _15; …]
             calls-at ! fm (ListWithin 𝓤 H A mem run) known-list (to-list ν δ)
-            (and-then ! (load ! (from ! (stop !)) (look ! 31 refl)) (and-then ! (load ! (from ! (stop !)) (look ! 29 refl))
-            (and-then ! (load ! (from ! (stop !)) (look ! 27 refl)) (and-then ! (load ! (from ! (stop !)) (look ! 25 refl))
-            (and-then ! (load ! (from ! (stop !)) (look ! 15 refl)) (and-then ! (load ! (from ! (stop !)) (look ! 13 refl)) (no-more !))))))) (λ u.
+            (and-then ! (load ! (from ! (stop !)) (look ! 33 refl)) (and-then ! (load ! (from ! (stop !)) (look ! 31 refl))
+            (and-then ! (load ! (from ! (stop !)) (look ! 29 refl)) (and-then ! (load ! (from ! (stop !)) (look ! 27 refl))
+            (and-then ! (load ! (from ! (stop !)) (look ! 25 refl))
+            (and-then ! (load ! (from ! (stop !)) (look ! 15 refl)) (and-then ! (load ! (from ! (stop !)) (look ! 13 refl)) (no-more !)))))))) (λ u.
             use1 W (later (some (λ (r : Written). ((‵ (flft κ₀ q₀) ⊛ ‵ (flft κ₁ q₁) ⊛ ‵ (flft (ν ∷ []) fullShare) ⊛ ‵ ftrue) ⊛ ‵ (Wr.the-row .own r (u ∷ [])))
             ⊛ raw (ensured 𝓤 H A list-within.ended (list-within.clauses 𝓤 H A mem run) (κ₀, (κ₁, (ν ∷ [], tt))) (list-args δ) tt r)))) (id⊢ 𝓤 _) $
             await ! tt $ pick ! (λ r.
@@ -341,11 +352,11 @@ module _ {M : Type 1} (𝓤 : URA M) (H : Heap 𝓤) (A : Atoms 𝓤) (W : Given
             split ! $ move ! (1 ∷ []) $ heard ! (ListedAs r l) (λ listed.
             move ! (1 ∷ []) $ split ! $ move ! (1 ∷ []) $ peeks ! Wr.the-row (Is Wr.the-row) (shows 𝓤 H A Wr.the-row) r (u ∷ []) (λ is.
             land ! (from ! (stop !)) (init ! 21 refl (typed r u is)) $ lose ! $
-            -- [κ₀, κ₁, ν, true; the last numbers; nodes and edges; the lender's part; κ₂; out; _14; …]
+            -- [κ₀, κ₁, ν, true; the last numbers; nodes and edges; the lender's part; κ₂; out; _15; …]
             split ! $ move ! (1 ∷ []) $ split3 ! $ move ! (1 ∷ []) $ lft-end ! tt $ move ! (0 ∷ 6 ∷ 4 ∷ []) $
             use3 W (later (‵ (OwnW κ₃ γw l) ⊛ ‵ (flft κ₃ q₃)))
             (comes-back 𝓤 H A W Numbers (named 3) κ₃ (ν ∷ []) q₃ γw bw ow δ ws l) $ await ! tt $ split ! $
-            -- [work; κ₃; κ₁; true; κ₀; nodes and edges; κ₂; out; _14; …]
+            -- [work; κ₃; κ₁; true; κ₀; nodes and edges; κ₂; out; _15; …]
             use0 W (raw (CountOf 𝓤 H A mem run .pre (to-count r u))) (asks-count r u is) $
             calls-at ! fm (CountOf 𝓤 H A mem run) known-count (to-count r u) (and-then ! (load ! (from ! (stop !)) (look ! 23 refl)) (no-more !)) (λ v.
             use1 W (later (some (λ (m : ℕ). (‵ ftrue ⊛ ‵ (usize .own m (v ∷ [])))
@@ -354,9 +365,9 @@ module _ {M : Type 1} (𝓤 : URA M) (H : Heap 𝓤) (A : Atoms 𝓤) (W : Given
             heard ! (m ≡ countOf r) (λ counted.
             split ! $ move ! (1 ∷ []) $ peeks ! usize (Is usize) (shows 𝓤 H A usize) m (v ∷ []) (λ m-is.
             land ! (from ! (stop !)) (init ! 22 refl (uint-lawful 𝓤 H A W w64 .typed m _ m-is .0)) $
-            rewrite ! 22 (λ (y : Val). ‵ (fat fullShare word l₈ 0 y)) (ap only (m-is .0)) refl $
-            rewrite ! 22 (λ (k : ℕ). ‵ (fat fullShare word l₈ 0 (vint w64 k))) counted refl $ lose ! $ lose ! $
-            -- [work; κ₃; κ₁; true; κ₀; nodes and edges; κ₂; out; _14; …]
+            rewrite ! 22 (λ (y : Val). ‵ (fat fullShare word l₉ 0 y)) (ap only (m-is .0)) refl $
+            rewrite ! 22 (λ (k : ℕ). ‵ (fat fullShare word l₉ 0 (vint w64 k))) counted refl $ lose ! $ lose ! $
+            -- [work; κ₃; κ₁; true; κ₀; nodes and edges; κ₂; out; _15; …]
             assigns ! (addr ! (from ! (hop ! (look ! 24 refl) (stop !)))) (from ! (stop !)) (init ! 12 refl (tt, tt)) $
             assigns ! (addr ! (from ! (fld ! refl (hop ! (look-in ! 26 (sub ! 0 refl (whole !))) (stop !))))) (from ! (stop !)) (init ! 10 refl (tt, tt)) $
             assigns ! (agg ! (and-then ! (load ! (from ! (stop !)) (look ! 10 refl))
@@ -365,11 +376,11 @@ module _ {M : Type 1} (𝓤 : URA M) (H : Heap 𝓤) (A : Atoms 𝓤) (W : Given
             lft-new ! tt (λ μ. move ! (1 ∷ 2 ∷ []) $
             use2 W (later (some (λ (δ′ : GName). ‵ (OwnS (μ ∷ []) δ′ l) ⊛ ‵ (SharedAgain Numbers κ₃ (μ ∷ []) q₃ γw bw ow l))))
             (shares-again Numbers κ₃ (μ ∷ []) q₃ γw bw ow 𝓤 H A W (named 3) (named 0) l) $ await ! tt $ pick ! (λ δ′. split ! $
-            -- [work as `&` for μ; its lender's part; μ; κ₁; true; κ₀; nodes and edges; κ₂; out; _14; …]
+            -- [work as `&` for μ; its lender's part; μ; κ₁; true; κ₀; nodes and edges; κ₂; out; _15; …]
             move ! (2 ∷ 7 ∷ 4 ∷ 0 ∷ 8 ∷ []) $ group ! 5 $
             use1 W (raw (PutRecords 𝓤 H A mem run .pre (to-put μ δ′ l (countOf r))))
             (asks-put μ δ′ l (countOf r) (subst (λ (k : ℕ). k < 2 ^ 64) counted (m-is .1)) (listed .few, listed .fit)) $
-            -- [what put_records asks; the lender's part; κ₁; κ₀; nodes and edges; _14; …]
+            -- [what put_records asks; the lender's part; κ₁; κ₀; nodes and edges; _15; …]
             calls-at ! fm (PutRecords 𝓤 H A mem run) known-put (to-put μ δ′ l (countOf r))
             (and-then ! (load ! (from ! (stop !)) (look ! 9 refl)) (and-then ! (load ! (from ! (stop !)) (look ! 17 refl))
             (and-then ! (load ! (from ! (stop !)) (look ! 5 refl)) (no-more !)))) (λ w.
@@ -379,22 +390,22 @@ module _ {M : Type 1} (𝓤 : URA M) (H : Heap 𝓤) (A : Atoms 𝓤) (W : Given
             split3 ! $ move ! (2 ∷ []) $ heard ! (zs ≡ stored l (countOf r)) (λ put.
             move ! (1 ∷ []) $ feqL ! (λ same. move ! (1 ∷ []) $ split ! $ move ! (1 ∷ []) $ feqL ! (λ nothing-else.
             land ! (from ! (stop !)) (init ! 12 refl (subst (λ (y : Val). Holds (hasTy tyUnit y) × WT y) (sym (ap only nothing-else)) (tt, tt))) $
-            -- [μ, κ₂, true; the last records; the lender's part; κ₁; κ₀; nodes and edges; _14; …]
+            -- [μ, κ₂, true; the last records; the lender's part; κ₁; κ₀; nodes and edges; _15; …]
             split3 ! $ lft-end ! tt $ move ! (0 ∷ 4 ∷ []) $
             use2 W (later (‵ (OwnW κ₃ γw l) ⊛ ‵ (flft κ₃ q₃))) (share-back Numbers κ₃ (μ ∷ []) q₃ γw bw ow 𝓤 H A W (named 3) (named 0) l) $
             await ! tt $ split ! $
-            -- [work; κ₃; κ₂; true; the last records; κ₁; κ₀; nodes and edges; _14; …]
-            assigns ! (of-opd ! (load ! (from ! (stop !)) (look ! 22 refl))) (from ! (stop !)) (init ! 36 refl (typed r u is)) $
-            returns ! (look ! 36 refl) $ forget ! 8 refl $ forget ! 10 refl $ forget ! 12 refl $ forget ! 14 refl $ forget ! 16 refl $
+            -- [work; κ₃; κ₂; true; the last records; κ₁; κ₀; nodes and edges; _15; …]
+            assigns ! (of-opd ! (load ! (from ! (stop !)) (look ! 22 refl))) (from ! (stop !)) (init ! 38 refl (typed r u is)) $
+            returns ! (look ! 38 refl) $ forget ! 8 refl $ forget ! 10 refl $ forget ! 12 refl $ forget ! 14 refl $ forget ! 16 refl $
             forget ! 18 refl $ forget ! 20 refl $ forget ! 22 refl $
-            forget ! 24 refl $ forget ! 26 refl $ forget ! 28 refl $ forget ! 30 refl $ forget ! 32 refl $ forget ! 34 refl $ forget ! 36 refl $
-            move ! (36 ∷ 37 ∷ []) $ free1 ! $ move ! (34 ∷ 35 ∷ []) $ free1 ! $ move ! (32 ∷ 33 ∷ []) $ free1 ! $ move ! (30 ∷ 31 ∷ []) $ free1 ! $
+            forget ! 24 refl $ forget ! 26 refl $ forget ! 28 refl $ forget ! 30 refl $ forget ! 32 refl $ forget ! 34 refl $ forget ! 36 refl $ forget ! 38 refl $
+            move ! (38 ∷ 39 ∷ []) $ free1 ! $ move ! (36 ∷ 37 ∷ []) $ free1 ! $ move ! (34 ∷ 35 ∷ []) $ free1 ! $ move ! (32 ∷ 33 ∷ []) $ free1 ! $ move ! (30 ∷ 31 ∷ []) $ free1 ! $
             move ! (28 ∷ 29 ∷ []) $ free1 ! $
             move ! (26 ∷ 27 ∷ []) $ free1 ! $ move ! (24 ∷ 25 ∷ []) $ free1 ! $ move ! (22 ∷ 23 ∷ []) $ free1 ! $ move ! (20 ∷ 21 ∷ []) $ free1 ! $
             move ! (18 ∷ 19 ∷ []) $ free1 ! $
             move ! (16 ∷ 17 ∷ []) $ free1 ! $ move ! (14 ∷ 15 ∷ []) $ free1 ! $ move ! (12 ∷ 13 ∷ []) $ free1 ! $ move ! (10 ∷ 11 ∷ []) $ free1 ! $
             move ! (8 ∷ 9 ∷ []) $ free1 ! $ free0 ! $
-            by ! (exits r u zs l is same (promised r l zs listed put))))))))))))))))))))))))))))))))))))
+            by ! (exits r u zs l is same (promised r l zs listed put)))))))))))))))))))))))))))))))))))))
 
 -- ---- the contract
 
@@ -407,21 +418,31 @@ module _ {M : Type 1} (𝓤 : URA M) (H : Heap 𝓤) (A : Atoms 𝓤) (W : Given
   walks : (𝓣 : Tables 𝓤 H) → Known 𝓣 → Walks 𝓤 H A f.ended stayed (WpFn 𝓤 H (𝓣 .C) (𝓣 .Λ) code.function) (f.clauses 𝓤 H A mem run)
   walks 𝓣 known =
       walked 𝓤 H A f.ended stayed (f.clauses 𝓤 H A mem run) (WpFn 𝓤 H (𝓣 .C) (𝓣 .Λ) code.function)
-      (λ κs. (slice-vals, (slice-vals, (sint-vals w64, (sint-vals w64, (slice-vals, (ptr-vals, tt)))))))
+      (λ κs. (slice-vals, (slice-vals, (sint-vals w64, (sint-vals w64, (enum.vals Wk.the-type Wk′.the-laws, (slice-vals, (ptr-vals, tt))))))))
       (λ κs. (
         shr-slice-tells (named 0) (κs .0) i64,
         (
           shr-slice-tells (named 1) (κs .1 .0) i64,
-          (sint-tells w64, (sint-tells w64, (mut-slice-tells (named 2) (κs .1 .1 .0) T.the-row, (mut-tells (named 3) (κs .1 .1 .1 .0) Numbers, tt)))),
+          (
+            sint-tells w64,
+            (
+              sint-tells w64,
+              (
+                enum.tells Wk.the-type Wk′.the-laws,
+                (mut-slice-tells (named 2) (κs .1 .1 .0) T.the-row, (mut-tells (named 3) (κs .1 .1 .1 .0) Numbers, tt)),
+              ),
+            ),
+          ),
         ),
       ))
       (λ κs qs bounds a g are. via 𝓤 _ (fst∗ 𝓤 _ (emp 𝓤))
-      (let out = a .1 .1 .1 .1 .0 in
-      let work = a .1 .1 .1 .1 .1 .0 in
+      (let out = a .1 .1 .1 .1 .1 .0 in
+      let work = a .1 .1 .1 .1 .1 .1 .0 in
       walk 𝓤 H A W mem run (κs .0) (κs .1 .0) (κs .1 .1 .0) (κs .1 .1 .1 .0)
-      (qs .0) (qs .1 .0) (qs .1 .1 .0) (qs .1 .1 .1 .0) (a .0) (a .1 .0) (a .1 .1 .0) (a .1 .1 .1 .0)
+      (qs .0) (qs .1 .0) (qs .1 .1 .0) (qs .1 .1 .1 .0) (a .0) (a .1 .0) (a .1 .1 .0) (a .1 .1 .1 .0) (a .1 .1 .1 .1 .0)
       (out .ptr .0) (out .ptr .1) (out .name) (out .now) (work .ptr .0) (work .ptr .1) (work .name) (work .now) (are .1 .1 .0) (are .1 .1 .1 .0)
-      (𝓣 .C) (𝓣 .Λ) (fmOf 𝓤 H (W .laws) 𝓣) (known .0) (known .1 .0) (known .1 .1) (are .0 .0 .1) (are .1 .0 .0 .1) (are .1 .1 .1 .1 .0 .0 .1)))
+      (are .1 .1 .1 .1 .0)
+      (𝓣 .C) (𝓣 .Λ) (fmOf 𝓤 H (W .laws) 𝓣) (known .0) (known .1 .0) (known .1 .1) (are .0 .0 .1) (are .1 .0 .0 .1) (are .1 .1 .1 .1 .1 .0 .0 .1)))
 
   goes : AllGo 𝓤 H A W 4 (f.signature .params) (f.ended .kept) stayed
   goes = (
@@ -432,7 +453,10 @@ module _ {M : Type 1} (𝓤 : URA M) (H : Heap 𝓤) (A : Atoms 𝓤) (W : Given
         goes-none 𝓤 H A W 4 (λ _. i64) yes (λ κs x f. refl),
         (
           goes-none 𝓤 H A W 4 (λ _. i64) yes (λ κs x f. refl),
-          (goes-gave-slice 𝓤 H A W 4 2 tt (plain (λ _. T.the-row)), (goes-ref 𝓤 H A W 4 3 tt numbersSlot, tt)),
+          (
+            goes-none 𝓤 H A W 4 (λ _. Wk.the-row) yes (λ κs x f. refl),
+            (goes-gave-slice 𝓤 H A W 4 2 tt (plain (λ _. T.the-row)), (goes-ref 𝓤 H A W 4 3 tt numbersSlot, tt)),
+          ),
         ),
       ),
     ),

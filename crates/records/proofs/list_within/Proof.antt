@@ -33,7 +33,7 @@ returns : tie.Need-returns
 returns c =
     let s = c .before .before .before .before in
     let told = simp (toZ-ofZ, s .fits .root, s .fits .leaf, lent (c .before .before .before)) at (c .list-front .ensures) in
-    front-listed _ _ _ _ _ _ _ _ (whole (c .before)) (told .0) (told .1)
+    front-listed _ _ _ _ _ _ _ _ _ (whole (c .before)) (told .0) (told .1)
 
 pub list-within-spec : {M : Type 1} → statement M
 list-within-spec = tie.close (tie.spec mul-list-front list-front-requires returns)

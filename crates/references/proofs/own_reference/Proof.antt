@@ -3,13 +3,14 @@ use mathlib.Core.Path.{_≡_, refl}
 use borrow.Author.Needs.{needs}
 use lib.IntN.{ℤ, pos}
 use Rattle.model.specs.Graph.{Graph, graphOf, node}
-use Rattle.model.specs.Runs.{Run, whole}
+use Rattle.model.specs.Runs.{Run}
+use Rattle.extents.specs.Extents.{bitsOf}
 use Rattle.references.specs.References.{Reference, own}
 use Rattle.references.proofs.own_reference.Statement.{statement}
 use Rattle.references.proofs.own_reference.Tie as tie
 
 -- the reference with such a run
-own-run : (g : Graph) (v : ℤ) {r : Run} → r ≡ whole (node g v) → _≡_ {A = Reference} (record { owner = v; run = r }) (own g v)
+own-run : (g : Graph) (v : ℤ) {r : Run} → r ≡ bitsOf (node g v) → _≡_ {A = Reference} (record { owner = v; run = r }) (own g v)
 own-run g v e = rw e refl
 
 returns : tie.Need-returns

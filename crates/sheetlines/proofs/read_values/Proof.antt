@@ -16,7 +16,7 @@ use Rattle.model.specs.SheetFile.{lineOfRow}
 use Rattle.sheetlaws.proofs.Lines.{LineBounds}
 use Rattle.sheettables.specs.Kept.{lineRoom, lineNumbers}
 use Rattle.tables.proofs.Cells.{index-fits}
-use Rattle.sides.specs.Given.{Clear, Appended}
+use Rattle.sides.specs.Given.{rowRoom, Clear, Appended}
 use Rattle.sides.proofs.TableRows.{held-within, held-length}
 use Rattle.sheetlines.specs.declared.SheetRow.{SheetRow}
 use Rattle.sheetlines.specs.declared.Value.{Value}
@@ -28,7 +28,7 @@ use Rattle.sheetlines.proofs.read_values.Statement.{statement}
 use Rattle.sheetlines.proofs.read_values.Tie as tie
 
 abbrev Inv-loop : tie.InvT-loop
-Inv-loop text cs kept₀ sizes₀ row₀ c₀ n₀ kept sizes row c n = (length row ≡ 6) × Clear cs row × LinesLeft text cs kept₀ c₀ kept sizes c n
+Inv-loop text cs kept₀ sizes₀ row₀ c₀ n₀ kept sizes row c n = (length row ≡ rowRoom) × Clear cs row × LinesLeft text cs kept₀ c₀ kept sizes c n
 
 abbrev μ-loop : tie.MeasureT-loop
 μ-loop text cs kept₀ sizes₀ row₀ c₀ n₀ kept sizes row c n = length text - c .at
@@ -37,7 +37,7 @@ loop-holds : tie.Need-loop-holds Inv-loop μ-loop
 loop-holds c =
     let s = c .before in (
       refl,
-      getD-replicate 6 (s .args .cs .fields) (pos 0) (pos 0) (omega (arith, s .pre .1 .fewFields)),
+      getD-replicate rowRoom (s .args .cs .fields) (pos 0) (pos 0) (omega (arith, s .pre .1 .fewFields)),
       lines-start (s .args .cs) (s .args .kept .now) (s .pre .0) (s .pre .4),
     )
 
@@ -64,7 +64,7 @@ more k = k .before .before .before .if1 .taken
 abbrev rowAfter : tie.After-read-value Inv-loop μ-loop → List ℤ
 rowAfter k = k .read-value .last .1 .1 .1 .0
 
-wide : (k : tie.After-read-value Inv-loop μ-loop) → length (rowAfter k) ≡ 6
+wide : (k : tie.After-read-value Inv-loop μ-loop) → length (rowAfter k) ≡ rowRoom
 wide k = k .read-value .kept .1 .1 .1 .0 ∙ At k .loop .inv .0
 
 -- what reading the line gives

@@ -10,7 +10,7 @@ use lib.ListN.{drop, length, getD-replicate}
 use Rattle.lists.specs.Lists.{isNil}
 use Rattle.cursor.specs.Parts.{firstLine}
 use Rattle.sides.specs.declared.Row.{Row}
-use Rattle.sides.specs.Given.{Clear, RowGiven}
+use Rattle.sides.specs.Given.{rowRoom, Clear, RowGiven}
 use Rattle.sides.proofs.RowLines.{numbers-length}
 use Rattle.sides.proofs.TableRows.{RowsLeft, held-within, held-length, rows-start, rows-short, rows-all, rows-ended, rows-bad, rows-onward, rows-first, rows-second}
 use Rattle.sides.proofs.read_rows.Statement.{statement}
@@ -18,7 +18,7 @@ use Rattle.sides.proofs.read_rows.Tie as tie
 
 abbrev Inv-loop : tie.InvT-loop
 Inv-loop text cs last room first₀ second₀ row₀ c₀ n₀ m₀ first second row c n m =
-    (length row ≡ 6) × Clear cs row × RowsLeft text cs last room first₀ second₀ c₀ first second c n m
+    (length row ≡ rowRoom) × Clear cs row × RowsLeft text cs last room first₀ second₀ c₀ first second c n m
 
 abbrev μ-loop : tie.MeasureT-loop
 μ-loop text cs last room first₀ second₀ row₀ c₀ n₀ m₀ first second row c n m = length text - c .at
@@ -36,7 +36,7 @@ goes e = sym (e .before .is-table-end .ensures) ∙ e .if2 .left
 abbrev rowAfter : tie.After-read-row Inv-loop μ-loop → List ℤ
 rowAfter k = k .read-row .last .1 .1 .1 .0
 
-wide : (k : tie.After-read-row Inv-loop μ-loop) → length (rowAfter k) ≡ 6
+wide : (k : tie.After-read-row Inv-loop μ-loop) → length (rowAfter k) ≡ rowRoom
 wide k = k .read-row .kept .1 .1 .1 .0 ∙ At (k .before .before) .loop .inv .0
 
 -- what reading the line gives
@@ -46,7 +46,7 @@ Given k = let l = At (k .before .before) in let s = l .before .before .args in R
 loop-holds : tie.Need-loop-holds Inv-loop μ-loop
 loop-holds c =
     let s = c .before in
-    (refl, getD-replicate 6 (s .args .cs .fields) (pos 0) (pos 0) (omega (arith, s .pre .1 .fewFields)), rows-start (s .args .cs) (s .args .last) (s .pre .2 .0) (s .args .first .now) (s .args .second .now) (s .pre .0) (s .pre .2 .1))
+    (refl, getD-replicate rowRoom (s .args .cs .fields) (pos 0) (pos 0) (omega (arith, s .pre .1 .fewFields)), rows-start (s .args .cs) (s .args .last) (s .pre .2 .0) (s .args .first .now) (s .args .second .now) (s .pre .0) (s .pre .2 .1))
 
 is-table-end-requires : tie.Need-is-table-end-requires Inv-loop μ-loop
 is-table-end-requires c κs = c .if1 .taken

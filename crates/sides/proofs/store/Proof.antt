@@ -6,7 +6,8 @@ use lib.ListN.{length, getD}
 use lib.Seq.{paste, paste-zero, length-paste}
 use mir.Syntax.{w64}
 use mir.Facts.{toZ-ofZ}
-use Rattle.sides.specs.Given.{rowNumbers}
+use Rattle.columns.specs.Given.{maxNames}
+use Rattle.sides.specs.Given.{rowRoom, rowNumbers}
 use Rattle.sides.proofs.RowLines.{numbers-length, number-at, append-none, append-all, append-next}
 use Rattle.sides.proofs.store.Statement.{statement}
 use Rattle.sides.proofs.store.Tie as tie
@@ -19,11 +20,11 @@ Inv-loop table₀ n room row cs width j₀ table j = (j ≤ width) × (table ≡
 abbrev μ-loop : tie.MeasureT-loop
 μ-loop table₀ n room row cs width j₀ table j = width - j
 
-inner : (c : tie.In-loop Inv-loop μ-loop) → c .before .loop .j + 1 < 5
+inner : (c : tie.In-loop Inv-loop μ-loop) → c .before .loop .j + 1 < maxNames
 inner c = let s = c .before .before .before in omega (arith, s .pre .2 .few, s .pre .2 .several)
 
 -- the column of the next number
-column : (c : tie.In-loop Inv-loop μ-loop) → let s = c .before .before .before in getD (s .args .t5 .at) (c .before .loop .j + 1) 0 < 6
+column : (c : tie.In-loop Inv-loop μ-loop) → let s = c .before .before .before in getD (s .args .t5 .at) (c .before .loop .j + 1) 0 < rowRoom
 column c = let s = c .before .before .before in omega (arith, s .pre .2 .within (c .before .loop .j + 1) (omega (arith, s .pre .2 .several)), s .pre .2 .fewFields)
 
 -- the next number has its place

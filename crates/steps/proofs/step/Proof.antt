@@ -10,7 +10,7 @@ use Rattle.steps.proofs.step.Statement.{statement}
 use Rattle.steps.proofs.step.Tie as tie
 
 returns : tie.Need-returns
-returns c = step-returns _ _ _ (c .clip .result) _ _ _ (c .clip .ensures .0) (search needs) (search needs) (search (needs, shift-read))
+returns c = step-returns _ _ _ _ (c .clip .result) _ _ _ (c .clip .ensures .0) (search needs) (search needs) (search (needs, shift-read))
 
 offset-of-requires : tie.Need-offset-of-requires
 offset-of-requires c κs = (c .pre .0, c .pre .1)

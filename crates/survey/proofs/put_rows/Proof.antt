@@ -13,19 +13,19 @@ use Rattle.pairing.specs.Pairs.{tablesOf}
 use Rattle.pathlimit.proofs.Inputs.{root-row-below}
 use Rattle.pairs.specs.Found.{Rooms, PairReady}
 use Rattle.totals.specs.Kept.{KeptOf}
-use Rattle.survey.specs.Survey.{rowFindings}
+use Rattle.rootrows.specs.RootRow.{rowFindings}
 use Rattle.survey.proofs.Passing.{groups-few}
 use Rattle.survey.proofs.Putting.{Putting, putting-start, putting-length, putting-end, row-held, row-fits, putting-on}
 use Rattle.survey.proofs.put_rows.Statement.{statement}
 use Rattle.survey.proofs.put_rows.Tie as tie
 
 abbrev Inv-loop : tie.InvT-loop
-Inv-loop spec-nodes spec-edges impl-nodes impl-edges root-pairs leaf-pairs links spec-plan impl-plan spec-state₀ impl-state₀ spare₀ lines₀ out₀ count at₀ written₀ spec-state impl-state spare lines out at written =
-    Putting (tablesOf spec-nodes spec-edges impl-nodes impl-edges root-pairs leaf-pairs) written out₀ out at
-    × Rooms spec-state impl-state spare × (length lines ≡ length lines₀)
+Inv-loop spec-nodes spec-edges impl-nodes impl-edges root-pairs leaf-pairs links spec-plan impl-plan spec-state₀ impl-state₀ spare₀ read₀ written₀ plain lines₀ out₀ count at₀ row₀ spec-state impl-state spare read written lines out at row =
+    Putting (tablesOf spec-nodes spec-edges impl-nodes impl-edges root-pairs leaf-pairs) row out₀ out at
+    × Rooms spec-state impl-state spare × (length read ≡ length read₀) × (length written ≡ length written₀) × (length lines ≡ length lines₀)
 
 abbrev μ-loop : tie.MeasureT-loop
-μ-loop spec-nodes spec-edges impl-nodes impl-edges root-pairs leaf-pairs links spec-plan impl-plan spec-state₀ impl-state₀ spare₀ lines₀ out₀ count at₀ written₀ spec-state impl-state spare lines out at written = count - written
+μ-loop spec-nodes spec-edges impl-nodes impl-edges root-pairs leaf-pairs links spec-plan impl-plan spec-state₀ impl-state₀ spare₀ read₀ written₀ plain lines₀ out₀ count at₀ row₀ spec-state impl-state spare read written lines out at row = count - row
 
 -- where the function begins, and the tables there
 abbrev start : tie.At-loop Inv-loop μ-loop → tie.Start Inv-loop μ-loop
@@ -36,74 +36,58 @@ tables s =
     let a = s .args in
     tablesOf (a .spec-nodes .now) (a .spec-edges .now) (a .impl-nodes .now) (a .impl-edges .now) (a .root-pairs .now) (a .leaf-pairs .now)
 
--- from the sweep of a root row back to the beginning of its turn, from the pairs of the row to the sweep, from where its lines are written to the pairs, and
--- from the end of the turn to there
-abbrev turn : tie.After-sweep-row-arg3 Inv-loop μ-loop → tie.In-loop Inv-loop μ-loop
-turn c = c .before .before .before
-
-abbrev swept : tie.After-found-of-pairs-arg4 Inv-loop μ-loop → tie.After-sweep-row Inv-loop μ-loop
-swept c = c .before .before .before .before .before .before .before
-
-abbrev rowed : tie.After-slice-known3 Inv-loop μ-loop → tie.After-found-of-pairs Inv-loop μ-loop
-rowed c = c .before .before .before .before .before
+-- from a root row back to the beginning of its turn, from where its lines are written to the row, and from the end of the turn to there
+abbrev rowed : tie.After-slice-known3 Inv-loop μ-loop → tie.After-row-found Inv-loop μ-loop
+rowed c = c .before .before .before .before .before .before .before
 
 abbrev linesPut : tie.After-slice-known4 Inv-loop μ-loop → tie.After-put-lines Inv-loop μ-loop
 linesPut c = c .before .before
 
-abbrev rowTurn : tie.After-found-of-pairs Inv-loop μ-loop → tie.In-loop Inv-loop μ-loop
-rowTurn f = turn (swept (f .before .before) .before)
+abbrev rowTurn : tie.After-row-found Inv-loop μ-loop → tie.In-loop Inv-loop μ-loop
+rowTurn f = f .before .before .before .before .before .before .before .before
 
 -- the root row of a turn is there
-there : (c : tie.In-loop Inv-loop μ-loop) → c .before .loop .written < length (start (c .before) .args .root-pairs .now) / pairWidth
+there : (c : tie.In-loop Inv-loop μ-loop) → c .before .loop .passed < length (start (c .before) .args .root-pairs .now) / pairWidth
 there c = omega (arith, c .loop-test .taken)
 
--- its pairs can be found once the graphs are swept
-ready : (w : tie.After-sweep-row Inv-loop μ-loop) → let l = turn (w .before) .before in let a = start l .args in let new = w .sweep-row .last .1 .1 .1 .1 .1 .1 .1 in
-    PairReady (tables (start l)) (l .loop .written) (a .spec-plan .now) (a .impl-plan .now) (a .links .now) (new .0) (new .1 .0) (new .1 .1 .0)
-ready w = w .sweep-row .ensures _ _ (start (turn (w .before) .before) .pre .0)
-
 -- its findings are kept
-kept : (f : tie.After-found-of-pairs Inv-loop μ-loop) → let l = rowTurn f .before in
-    KeptOf (rowFindings (tables (start l)) (l .loop .written)) (f .found-of-pairs .last .1 .1 .1 .1 .1 .1 .1 .1 .1 .1 .1 .1 .0) (f .found-of-pairs .result)
-kept f = f .found-of-pairs .ensures _ (ready (swept (f .before .before))) [] (f .before .no-pair .ensures _)
+kept : (f : tie.After-row-found Inv-loop μ-loop) → let l = rowTurn f .before in
+    KeptOf (rowFindings (tables (start l)) (l .loop .passed)) (f .row-found .last .1 .1 .1 .1 .1 .1 .1 .1 .1 .1 .1 .1 .1 .1 .1 .1 .0) (f .row-found .result)
+kept f = f .row-found .ensures [] (f .before .no-pair .ensures _)
 
 -- there is room for their lines in the table
-enough : (f : tie.After-found-of-pairs Inv-loop μ-loop) → maxPairs ≤ length (f .found-of-pairs .last .1 .1 .1 .1 .1 .1 .1 .1 .1 .1 .1 .1 .0)
+enough : (f : tie.After-row-found Inv-loop μ-loop) → maxPairs ≤ length (f .row-found .last .1 .1 .1 .1 .1 .1 .1 .1 .1 .1 .1 .1 .1 .1 .1 .1 .0)
 enough f =
     let l = rowTurn f .before in
-    omega (arith, f .found-of-pairs .kept .1 .1 .1 .1 .1 .1 .1 .1 .1 .1 .1 .1 .0, l .loop .inv .2, start l .pre .2)
+    omega (arith, f .row-found .kept .1 .1 .1 .1 .1 .1 .1 .1 .1 .1 .1 .1 .1 .1 .1 .1 .0, l .loop .inv .4, start l .pre .5)
 
 -- and in the buffer, which keeps its length
-fits : (f : tie.After-found-of-pairs Inv-loop μ-loop) → let l = rowTurn f .before in
-    l .loop .at + length (linesOf (take (f .found-of-pairs .result .count) (f .found-of-pairs .last .1 .1 .1 .1 .1 .1 .1 .1 .1 .1 .1 .1 .0)))
+fits : (f : tie.After-row-found Inv-loop μ-loop) → let l = rowTurn f .before in
+    l .loop .at + length (linesOf (take (f .row-found .result .count) (f .row-found .last .1 .1 .1 .1 .1 .1 .1 .1 .1 .1 .1 .1 .1 .1 .1 .1 .0)))
     ≤ length (start l .args .out .now)
 fits f =
     let t = rowTurn f in
     let l = t .before in
     let s = start l in
-    row-fits (tables s) (l .loop .written) (l .loop .inv .0) (s .pre .0 .plans .inputs) (there t) (kept f) (enough f) (s .pre .3)
+    row-fits (tables s) (l .loop .passed) (l .loop .inv .0) (s .pre .0 .plans .inputs) (there t) (kept f) (enough f) (s .pre .6)
 
 long : (l : tie.At-loop Inv-loop μ-loop) → length (l .loop .out) ≡ length (start l .args .out .now)
-long l = let s = start l in putting-length (tables s) (l .loop .written) (l .loop .inv .0) (s .pre .3)
+long l = let s = start l in putting-length (tables s) (l .loop .passed) (l .loop .inv .0) (s .pre .6)
 
 loop-holds : tie.Need-loop-holds Inv-loop μ-loop
-loop-holds c = let s = c .before .before .before .before .before in (putting-start (tables s) (s .args .out .now), s .pre .1, refl)
+loop-holds c = let s = c .before .before .before .before .before in (putting-start (tables s) (s .args .out .now), s .pre .1, refl, refl, refl)
 
-sweep-row-requires : tie.Need-sweep-row-requires Inv-loop μ-loop
-sweep-row-requires c κs =
-    let l = turn c in
-    let s = start (l .before) in
-    record { leafPairs = s .args .leaf-pairs .now; links = s .args .links .now; ready = s .pre .0; rooms = l .before .loop .inv .1; row = there l }
-
-found-of-pairs-requires : tie.Need-found-of-pairs-requires Inv-loop μ-loop
-found-of-pairs-requires c κs =
-    let w = swept (c .before) in
-    let s = start (turn (w .before) .before) in
-    record {
-      rootPairs = s .args .root-pairs .now;
-      ready = ready w;
-      room = record { fs = []; kept = c .no-pair .ensures _; few = omega (arith, groups-few (s .pre .0 .plans .inputs)) };
-    }
+row-found-requires : tie.Need-row-found-requires Inv-loop μ-loop
+row-found-requires c κs =
+    let t = c .before .before .before .before .before .before .before in
+    let l = t .before in
+    let s = start l in
+    let i = l .loop .inv in (
+      record { ready = s .pre .0; rooms = i .1; room = omega (arith, s .pre .3, i .3); row = there t },
+      omega (arith, s .pre .2, i .2),
+      s .pre .4,
+      record { fs = []; kept = c .no-pair .ensures _; few = omega (arith, groups-few (s .pre .0 .plans .inputs)) },
+    )
 
 sub-put-lines : tie.Need-sub-put-lines Inv-loop μ-loop
 sub-put-lines c = let f = rowed c in omega (arith, fits f, long (rowTurn f .before))
@@ -116,7 +100,7 @@ put-lines-requires c κs =
     let f = rowed (c .before .before) in
     let l = rowTurn f .before in
     let s = start l in (
-      row-held (tables s) (l .loop .written) (l .loop .inv .0) (s .pre .0 .plans .inputs) (there (rowTurn f)) (kept f) (enough f),
+      row-held (tables s) (l .loop .passed) (l .loop .inv .0) (s .pre .0 .plans .inputs) (there (rowTurn f)) (kept f) (enough f),
       rw (tail-length (l .loop .out) (l .loop .at)) (omega (arith, fits f, long l)),
     )
 
@@ -124,12 +108,12 @@ add-at : tie.Need-add-at Inv-loop μ-loop
 add-at c =
     let w = linesPut c in
     let f = rowed (w .before .before .before) in
-    omega (arith, w .put-lines .ensures .count, fits f, start (rowTurn f .before) .good .1 .1 .1 .1 .1 .1 .1 .1 .1 .1 .1 .1 .1 .0 .0)
+    omega (arith, w .put-lines .ensures .count, fits f, start (rowTurn f .before) .good .1 .1 .1 .1 .1 .1 .1 .1 .1 .1 .1 .1 .1 .1 .1 .1 .0 .0)
 
-add-written : tie.Need-add-written Inv-loop μ-loop
-add-written c =
+add-passed : tie.Need-add-passed Inv-loop μ-loop
+add-passed c =
     let t = rowTurn (rowed (linesPut c .before .before .before)) in
-    omega (arith, root-row-below (start (t .before) .pre .0 .plans .inputs) (t .before .loop .written) (there t))
+    omega (arith, root-row-below (start (t .before) .pre .0 .plans .inputs) (t .before .loop .passed) (there t))
 
 loop-less : tie.Need-loop-less Inv-loop μ-loop
 loop-less c = omega (arith, rowTurn (rowed (linesPut c .before .before .before)) .loop-test .taken)
@@ -142,11 +126,12 @@ loop-again c =
     let l = t .before in
     let s = start l in
     let i = l .loop .inv in
-    let k = ready (swept (f .before .before)) in
-    let sizes = f .found-of-pairs .kept .1 .1 .1 .1 .1 .1 .1 .1 in (
-      putting-on (tables s) (l .loop .written) (i .0) (s .pre .0 .plans .inputs) (there t) (kept f) (enough f) (w .put-lines .ensures),
-      record { spec = sizes .0 ∙ k .rooms .spec; impl = sizes .1 .0 ∙ k .rooms .impl; list = sizes .1 .1 .0 ∙ k .rooms .list },
-      sizes .1 .1 .1 .1 .0 ∙ i .2,
+    let sizes = f .row-found .kept .1 .1 .1 .1 .1 .1 .1 .1 .1 in (
+      putting-on (tables s) (l .loop .passed) (i .0) (s .pre .0 .plans .inputs) (there t) (kept f) (enough f) (w .put-lines .ensures),
+      record { spec = sizes .0 ∙ i .1 .spec; impl = sizes .1 .0 ∙ i .1 .impl; list = sizes .1 .1 .0 ∙ i .1 .list },
+      sizes .1 .1 .1 .0 ∙ i .2,
+      sizes .1 .1 .1 .1 .0 ∙ i .3,
+      sizes .1 .1 .1 .1 .1 .1 .1 .0 ∙ i .4,
     )
 
 same-length : tie.Need-same-length Inv-loop μ-loop
@@ -162,12 +147,18 @@ same-length-4 : tie.Need-same-length-4 Inv-loop μ-loop
 same-length-4 c = c .before .loop .inv .2
 
 same-length-5 : tie.Need-same-length-5 Inv-loop μ-loop
-same-length-5 c = long (c .before)
+same-length-5 c = c .before .loop .inv .3
+
+same-length-6 : tie.Need-same-length-6 Inv-loop μ-loop
+same-length-6 c = c .before .loop .inv .4
+
+same-length-7 : tie.Need-same-length-7 Inv-loop μ-loop
+same-length-7 c = long (c .before)
 
 returns : tie.Need-returns Inv-loop μ-loop
 returns c =
     let l = c .before in
-    putting-end (tables (start l)) (l .loop .written) (l .loop .inv .0) (c .loop-test .left)
+    putting-end (tables (start l)) (l .loop .passed) (l .loop .inv .0) (c .loop-test .left)
 
 pub put-rows-spec : {M : Type 1} → statement M
 put-rows-spec =
@@ -176,15 +167,14 @@ put-rows-spec =
     Inv-loop
     μ-loop
     loop-holds
-    sweep-row-requires
     (λ c κs. search needs)
-    found-of-pairs-requires
+    row-found-requires
     sub-put-lines
     part-put-lines-start
     (λ c. search needs)
     put-lines-requires
     add-at
-    add-written
+    add-passed
     loop-less
     loop-again
     same-length
@@ -192,4 +182,6 @@ put-rows-spec =
     same-length-3
     same-length-4
     same-length-5
+    same-length-6
+    same-length-7
     returns)

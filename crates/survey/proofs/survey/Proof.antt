@@ -7,7 +7,10 @@ use lib.ListN.{length, length-replicate}
 use borrow.Author.Needs.{needs}
 use Rattle.model.specs.Compare.{Tables, groups}
 use Rattle.pairing.specs.Pairs.{tablesOf}
+use Prim.Native.Nat.{_*_}
+use Rattle.model.specs.Limits.{maxPairs}
 use Rattle.arrivals.specs.State.{stateRoom}
+use Rattle.holding.specs.Held.{heldWidth}
 use Rattle.survey.proofs.Passing.{findings-count, findings-few, surveyed-bare}
 use Rattle.survey.proofs.Unplanned.{findings-bare}
 use Rattle.survey.proofs.survey.Statement.{statement}
@@ -51,9 +54,11 @@ returns c =
 
 found-of-all-requires : tie.Need-found-of-all-requires
 found-of-all-requires c κs =
-    let s = start (c .before .before .before .before .before) in
+    let p = c .before .before .before .before .before .before in
+    let s = start (p .before .before) in
     let state = length-replicate {A = ℤ} stateRoom (pos 0) in
-    (s .pre, record { spec = state; impl = state; list = search needs })
+    let held = length-replicate {A = ℤ} (heldWidth * maxPairs) (pos 0) in
+    (s .pre, record { spec = state; impl = state; list = search needs }, omega (arith, held), omega (arith, held), λ e. p .is-plain .ensures .0 e (s .args .spec-edges .now) (s .args .impl-edges .now))
 
 pub survey-spec : {M : Type 1} → statement M
 survey-spec =
@@ -67,6 +72,9 @@ survey-spec =
     mul-with-equal
     with-equal-requires
     returns
+    (λ c κs. search needs)
+    (λ c. search needs)
+    (λ c. search needs)
     (λ c. search needs)
     (λ c. search needs)
     (λ c. search needs)

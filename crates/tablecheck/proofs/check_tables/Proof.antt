@@ -106,7 +106,7 @@ put-report-requires c κs =
       record {
         ready = k .before .before .before .before .before .prepare .ensures .ready (k .enum-told .given .1);
         held = kept e .held;
-        room = omega (arith, v .survey .kept .1 .1 .1 .1 .1 .1 .1 .1 .1 .1 .0, length-replicate {A = ℕ} 6554 0);
+        room = omega (arith, v .survey .kept .1 .1 .1 .1 .1 .1 .1 .1 .1 .1 .0, length-replicate {A = ℕ} 4681 0);
       },
       small e,
       omega (arith, ap length (kept-report (kept e)), kept-length (kept e), f .fixed-length .ensures, b .if2 .left),

@@ -25,7 +25,7 @@ lines s =
     (findings (tablesOf (a .spec-nodes .now) (a .spec-edges .now) (a .impl-nodes .now) (a .impl-edges .now) (a .root-pairs .now) (a .leaf-pairs .now)))
 
 -- the names, the lines and the result fit
-room : (s : tie.Start) → 28 + length (lines s) + length (resultLines (comparisonResult (s .args .kept .result))) ≤ length (s .args .out .now)
+room : (s : tie.Start) → 42 + length (lines s) + length (resultLines (comparisonResult (s .args .kept .result))) ≤ length (s .args .out .now)
 room s = omega (arith, report-length (lines s) (comparisonResult (s .args .kept .result)), s .pre .2)
 
 abbrev start : tie.After-put-heading → tie.Start
@@ -48,7 +48,7 @@ module _ (p : tie.After-put-pairs) where
   done : Put (heading ++ lines (start (heading-of p))) (start (heading-of p) .args .out .now) joined (at + p .put-pairs .result)
   done = put-tail (heading-of p .put-heading .ensures) (p .put-pairs .ensures)
 
-  done-count : at + p .put-pairs .result ≡ 28 + length (lines (start (heading-of p)))
+  done-count : at + p .put-pairs .result ≡ 42 + length (lines (start (heading-of p)))
   done-count = omega (arith, done .count, heading-length, length-append heading (lines (start (heading-of p))))
 
   done-length : length joined ≡ length (start (heading-of p) .args .out .now)

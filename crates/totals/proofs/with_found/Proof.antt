@@ -11,7 +11,7 @@ use Rattle.totals.proofs.with_found.Tie as tie
 placed : (f : tie.After-first-place) → let r = f .first-place .result in SFits w64 (r .root) × SFits w64 (r .leaf) × SFits w64 (r .address)
 placed f = search needs
 
-given : (s : tie.Start) → let r = s .args .result in SFits w64 (r .root) × SFits w64 (r .leaf) × SFits w64 (r .address) × SFits w64 (s .args .found .address)
+given : (s : tie.Start) → let r = s .args .result in SFits w64 (r .root) × SFits w64 (r .leaf) × SFits w64 (r .address) × SFits w64 (s .args .address)
 given s = search needs
 
 returns : tie.Need-returns
@@ -21,7 +21,7 @@ returns c =
     let p = d .before in
     let e = p .before in
     let f = e .before in
-    let v = f .before .before .before in
+    let v = f .before .before in
     let s = v .before in
     let a = s .args in
     let n = v .verdict-number .ensures .0 in

@@ -5,10 +5,10 @@ use Rattle.walker.proofs.batched.try_rooms.Statement.{statement}
 use Rattle.walker.proofs.batched.try_rooms.Tie as tie
 
 abbrev Inv-loop : tie.InvT-loop
-Inv-loop map shape root leaf addresses table expected counts₀ length i₀ counts i = i ≤ 7
+Inv-loop map shape asked addresses table expected counts₀ length i₀ counts i = i ≤ 7
 
 abbrev μ-loop : tie.MeasureT-loop
-μ-loop map shape root leaf addresses table expected counts₀ length i₀ counts i = 7 - i
+μ-loop map shape asked addresses table expected counts₀ length i₀ counts i = 7 - i
 
 pub try-rooms-spec : {M : Type 1} → statement M
 try-rooms-spec =

@@ -5,10 +5,10 @@ use Rattle.walker.proofs.checks.try_walks.Statement.{statement}
 use Rattle.walker.proofs.checks.try_walks.Tie as tie
 
 abbrev Inv-loop : tie.InvT-loop
-Inv-loop map shape root leaf reached found count counts₀ k₀ counts k = k ≤ 10
+Inv-loop map shape asked reached found count counts₀ k₀ counts k = k ≤ 10
 
 abbrev μ-loop : tie.MeasureT-loop
-μ-loop map shape root leaf reached found count counts₀ k₀ counts k = 10 - k
+μ-loop map shape asked reached found count counts₀ k₀ counts k = 10 - k
 
 pub try-walks-spec : {M : Type 1} → statement M
 try-walks-spec =

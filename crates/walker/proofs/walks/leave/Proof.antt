@@ -5,10 +5,10 @@ use Rattle.walker.proofs.walks.leave.Statement.{statement}
 use Rattle.walker.proofs.walks.leave.Tie as tie
 
 abbrev Inv-loop : tie.InvT-loop
-Inv-loop map edges places₀ k before count₀ e₀ places count e = e ≤ 64
+Inv-loop map edges kind places₀ k before count₀ e₀ places count e = e ≤ 64
 
 abbrev μ-loop : tie.MeasureT-loop
-μ-loop map edges places₀ k before count₀ e₀ places count e = 64 - e
+μ-loop map edges kind places₀ k before count₀ e₀ places count e = 64 - e
 
 pub leave-spec : {M : Type 1} → statement M
 leave-spec =

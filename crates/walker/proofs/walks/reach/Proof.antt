@@ -5,10 +5,10 @@ use Rattle.walker.proofs.walks.reach.Statement.{statement}
 use Rattle.walker.proofs.walks.reach.Tie as tie
 
 abbrev Inv-loop : tie.InvT-loop
-Inv-loop map shape root leaf reached₀ root-bit₀ reached root-bit = root-bit ≤ 640
+Inv-loop map shape asked reached₀ root-bit₀ reached root-bit = root-bit ≤ 640
 
 abbrev μ-loop : tie.MeasureT-loop
-μ-loop map shape root leaf reached₀ root-bit₀ reached root-bit = 640 - root-bit
+μ-loop map shape asked reached₀ root-bit₀ reached root-bit = 640 - root-bit
 
 pub reach-spec : {M : Type 1} → statement M
 reach-spec =

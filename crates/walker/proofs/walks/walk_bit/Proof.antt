@@ -5,10 +5,10 @@ use Rattle.walker.proofs.walks.walk_bit.Statement.{statement}
 use Rattle.walker.proofs.walks.walk_bit.Tie as tie
 
 abbrev Inv-loop : tie.InvT-loop
-Inv-loop map edges root leaf root-bit reached₀ places₀ count₀ k₀ reached places count k = k ≤ 256
+Inv-loop map edges asked root-bit reached₀ places₀ kind count₀ k₀ reached places count k = k ≤ 256
 
 abbrev μ-loop : tie.MeasureT-loop
-μ-loop map edges root leaf root-bit reached₀ places₀ count₀ k₀ reached places count k = 256 - k
+μ-loop map edges asked root-bit reached₀ places₀ kind count₀ k₀ reached places count k = 256 - k
 
 pub walk-bit-spec : {M : Type 1} → statement M
 walk-bit-spec =

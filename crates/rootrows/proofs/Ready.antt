@@ -1,4 +1,4 @@
--- Each graph can be swept from the root of a root row, and then the pairs of the row can be found. Plans and states are sp and ss for the specification, mp
+-- Each graph can be swept for a kind of walk from the root of a root row, and then the pairs of the row can be found for this kind. Plans and states are sp and ss for the specification, mp
 -- and ms for the implementation; the spare area is e.
 use mathlib.Core.Path.{_≡_, ap, subst}
 use mathlib.Core.List.{List, flatMap, List·Memᴰ·head, List·Memᴰ·tail}
@@ -8,6 +8,7 @@ use lib.IntN.{ℤ, pos, natAbs}
 use lib.ListN.{length, length-append}
 use Rattle.lists.specs.Lists.{_∈_}
 use Rattle.lists.proofs.Membership.{map-out}
+use Rattle.model.specs.declared.WalkKind.{WalkKind}
 use Rattle.model.specs.Limits.{pairWidth, maxPaths}
 use Rattle.model.specs.Rows.{Pair}
 use Rattle.model.specs.Graph.{Graph, graphOf}
@@ -86,13 +87,13 @@ module _ {t : Tables} {sp mp links : List ℕ} (k : Ready t sp mp links) {i : �
       (λ l m. let w = map-out (λ x. x .impl) (leafRows t) m in rw (w .2) (impl-few (w .0) (w .1)))
 
   -- then the pairs of the row can be found
-  pub pairs-ready : {u v : ℕ} {ss ms e : List ℤ} → pos u ≡ pairAt (t .rootPairs) i .spec → pos v ≡ pairAt (t .rootPairs) i .impl
-      → Swept (t .specNodes) (t .specEdges) sp u ss → Swept (t .implNodes) (t .implEdges) mp v ms → Rooms ss ms e → PairReady t i sp mp links ss ms e
-  pairs-ready {ss = ss} {ms} p q a b rooms =
+  pub pairs-ready : {kind : WalkKind} {u v : ℕ} {ss ms e : List ℤ} → pos u ≡ pairAt (t .rootPairs) i .spec → pos v ≡ pairAt (t .rootPairs) i .impl
+      → Swept kind (t .specNodes) (t .specEdges) sp u ss → Swept kind (t .implNodes) (t .implEdges) mp v ms → Rooms ss ms e → PairReady kind t i sp mp links ss ms e
+  pairs-ready {kind} {ss = ss} {ms} p q a b rooms =
       record {
         ready = k;
         rooms = rooms;
         row = h;
-        spec = subst (λ (r : ℤ). Swept (t .specNodes) (t .specEdges) sp (natAbs r) ss) p a;
-        impl = subst (λ (r : ℤ). Swept (t .implNodes) (t .implEdges) mp (natAbs r) ms) q b;
+        spec = subst (λ (r : ℤ). Swept kind (t .specNodes) (t .specEdges) sp (natAbs r) ss) p a;
+        impl = subst (λ (r : ℤ). Swept kind (t .implNodes) (t .implEdges) mp (natAbs r) ms) q b;
       }

@@ -10,9 +10,9 @@ use Rattle.model.specs.Paths.{Root}
 use Rattle.tables.specs.Tables.{pairAt}
 use Rattle.pathlimit.proofs.Inputs.{row-roots}
 use Rattle.sorting.specs.Rows.{rowWidth}
-use Rattle.survey.proofs.Ready.{spec-sweepable, impl-sweepable, pairs-ready}
-use Rattle.survey.proofs.sweep_row.Statement.{statement}
-use Rattle.survey.proofs.sweep_row.Tie as tie
+use Rattle.rootrows.proofs.Ready.{spec-sweepable, impl-sweepable, pairs-ready}
+use Rattle.rootrows.proofs.sweep_row.Statement.{statement}
+use Rattle.rootrows.proofs.sweep_row.Tie as tie
 
 -- from the first sweep back to where the function begins, and from the second to the first
 abbrev start : tie.After-sweep-root-arg2 → tie.Start
@@ -27,8 +27,8 @@ roots : (s : tie.Start) → let a = s .args in let p = pairAt (a .root-pairs .no
 roots s = row-roots (s .pre .ready .plans .inputs) (s .args .root-row) (s .pre .row)
 
 -- the spare area has its room after the first sweep
-list-room : (c : tie.After-sweep-root) → length (c .sweep-root .last .1 .1 .1 .1 .1 .0) ≡ rowWidth * maxPaths
-list-room c = c .sweep-root .kept .1 .1 .1 .1 .1 .0 ∙ start (c .before) .pre .rooms .list
+list-room : (c : tie.After-sweep-root) → length (c .sweep-root .last .1 .1 .1 .1 .1 .1 .0) ≡ rowWidth * maxPaths
+list-room c = c .sweep-root .kept .1 .1 .1 .1 .1 .1 .0 ∙ start (c .before) .pre .rooms .list
 
 spec-node-requires : tie.Need-spec-node-requires
 spec-node-requires c κs = let s = c .before .before in (omega (arith, s .pre .row), roots s .0 .row .low)
@@ -54,9 +54,9 @@ returns c leaves links ready =
     let k = start (f .before) .pre in
     pairs-ready ready (k .row) (f .before .before .before .spec-node .ensures) (m .before .before .before .impl-node .ensures)
     (f .sweep-root .ensures) (m .sweep-root2 .ensures) (record {
-      spec = f .sweep-root .kept .1 .1 .1 .1 .0 ∙ k .rooms .spec;
-      impl = m .sweep-root2 .kept .1 .1 .1 .1 .0 ∙ k .rooms .impl;
-      list = m .sweep-root2 .kept .1 .1 .1 .1 .1 .0 ∙ list-room f;
+      spec = f .sweep-root .kept .1 .1 .1 .1 .1 .0 ∙ k .rooms .spec;
+      impl = m .sweep-root2 .kept .1 .1 .1 .1 .1 .0 ∙ k .rooms .impl;
+      list = m .sweep-root2 .kept .1 .1 .1 .1 .1 .1 .0 ∙ list-room f;
     })
 
 pub sweep-row-spec : {M : Type 1} → statement M

@@ -25,8 +25,8 @@ extern "C" {
  *   - they point to that many bytes, which may be read, and for report written;
  *   - the two do not overlap, and nothing else writes to them during the call.
  *
- * The call needs less than 1,000,000 bytes of stack (888,712 is the most that was measured) and nothing else: it allocates nothing, keeps nothing from call to
- * call and calls no function of the C library but memset. It may be called from several threads at once. */
+ * The call needs less than 1,200,000 bytes of stack and nothing else: it allocates nothing, keeps nothing from call to call and calls no function of
+ * the C library but memset. It may be called from several threads at once. */
 int64_t healdrip_text_check(const uint8_t *text, size_t text_length, uint8_t *report, size_t report_length);
 
 #ifdef __cplusplus
@@ -41,13 +41,14 @@ int64_t healdrip_text_check(const uint8_t *text, size_t text_length, uint8_t *re
 /* How long a report on so many pairs can be: with a buffer of this length there is no refusal with number 11. That is proved (docs/CLAIMS.md).
  * A pair is a root row with a group of leaf rows, those that name one specification leaf. So the pairs are root rows times groups; root rows times
  * leaf rows are never fewer.
- *   28  the names of the upper table
- *   20  a pair's line: rows up to 999, a verdict of one digit, and two lists of up to 1024 records, since a pair has at most 1024 paths on
- *       each side; as "999 999 2 1024 1024". A pair with no record on either side has no line
+ *   42  the names of the upper table
+ *   30  a pair's line: rows up to 999, a verdict of one digit, and four lists, of reading and of writing walks on each side, of up to 1024
+ *       records, since a pair has at most 1024 paths on each side; as "999 999 2 1024 1024 1024 1024". A pair with no record in any of the
+ *       four has no line
  *   51  the empty line and the names of the lower table
  *   52  the last line: a verdict, counts up to 1000000, rows up to 999 and a bit address up to 2^55 - 1;
  *       as "2 1000000 1000000 1000000 999 999 36028797018963967"
  * Each line is counted with its line feed. */
-#define HEALDRIP_REPORT_LENGTH(pairs) ((size_t)28 + (size_t)20 * (size_t)(pairs) + 51 + 52)
+#define HEALDRIP_REPORT_LENGTH(pairs) ((size_t)42 + (size_t)30 * (size_t)(pairs) + 51 + 52)
 
 #endif

@@ -19,9 +19,9 @@ static_assert(HEALDRIP_NUMBER(-1650000999) == 16 && HEALDRIP_TABLE(-1650000999) 
 
 /* The report's length by the texts of its lines, each as long as it can be; sizeof counts the zero behind a text. */
 #define BYTES(text) (sizeof(text) - 1)
-#define UPPER_NAMES "root leaf verdict spec impl\n"
+#define UPPER_NAMES "root leaf verdict rspec rimpl wspec wimpl\n"
 #define LOWER_NAMES "\nverdict equal partial different root leaf address\n"
-#define LONGEST_LINE "999 999 2 1024 1024\n"
+#define LONGEST_LINE "999 999 2 1024 1024 1024 1024\n"
 #define LONGEST_RESULT "2 1000000 1000000 1000000 999 999 36028797018963967\n"
 static_assert((1LL << 55) - 1 == 36028797018963967, "the highest bit address");
 static_assert(HEALDRIP_REPORT_LENGTH(0) == BYTES(UPPER_NAMES LOWER_NAMES LONGEST_RESULT), "no pair");
@@ -36,7 +36,7 @@ static_assert(HEALDRIP_REPORT_LENGTH(500 + 500) == HEALDRIP_REPORT_LENGTH(0) + 1
         }                                                    \
     } while (0)
 
-enum { TEXT_ROOM = 65536, ROOM = 1 << 18 };
+enum { TEXT_ROOM = 65536, ROOM = 1 << 19 };
 static char text[TEXT_ROOM];
 static size_t text_length;
 static uint8_t report[ROOM];
@@ -142,6 +142,20 @@ int main(void) {
     int64_t refused = check(ROOM);
     CHECK(HEALDRIP_NUMBER(refused) == 13 && HEALDRIP_TABLE(refused) == 6 && HEALDRIP_ROW(refused) == 1);
 
+    /* A block that may be read alone, and built writable; and an access that there is not. */
+    const char *writable = UPPER_NAMES "0 0 2 1 1 0 1\n" LOWER_NAMES "2 0 0 1 0 0 0\n";
+    for (int access = 0; access < 2; access++) {
+        text_length = 0;
+        add("side kind base range unit access\n0 0 0 8 8 0\n0 2 0 8 8 1\n1 0 0 8 8 0\n1 2 0 8 8 %d\n", 3 * access);
+        add("\nside from to offset\n0 0 1 0\n1 0 1 0\n\nrole spec impl\n0 0 0\n1 1 1\n");
+        int64_t answer = check(HEALDRIP_REPORT_LENGTH(1));
+        if (access == 0) {
+            CHECK(answer == (int64_t)strlen(writable) && memcmp(report, writable, strlen(writable)) == 0);
+        } else {
+            CHECK(HEALDRIP_NUMBER(answer) == 2 && HEALDRIP_TABLE(answer) == 2 && HEALDRIP_ROW(answer) == 1);
+        }
+    }
+
     /* Every pair has a line: the buffer is long enough, and not much longer than the report. */
     const int counts[] = {1, 2, 11, 80, 101};
     for (size_t at = 0; at < sizeof counts / sizeof *counts; at++) {
@@ -149,7 +163,7 @@ int main(void) {
         joined_map(counts[at]);
         CHECK(text_length < TEXT_ROOM && HEALDRIP_REPORT_LENGTH(pairs) <= ROOM);
         int64_t length = check(HEALDRIP_REPORT_LENGTH(pairs));
-        CHECK(length > (int64_t)(10 * pairs) && length <= (int64_t)HEALDRIP_REPORT_LENGTH(pairs));
+        CHECK(length > (int64_t)(14 * pairs) && length <= (int64_t)HEALDRIP_REPORT_LENGTH(pairs));
     }
 
     /* A group has one line for each root, whatever the number of its banks. */
@@ -158,7 +172,7 @@ int main(void) {
     banked_map(BANKS, 0);
     CHECK(text_length < TEXT_ROOM);
     int64_t banked = check(HEALDRIP_REPORT_LENGTH(BANKS));
-    CHECK(banked > 10 * BANKS && banked <= (int64_t)HEALDRIP_REPORT_LENGTH(BANKS));
+    CHECK(banked > 14 * BANKS && banked <= (int64_t)HEALDRIP_REPORT_LENGTH(BANKS));
     const char *all_equal = "\n0 300 0 0 -1 -1 -1\n";
     CHECK(memcmp(report + banked - strlen(all_equal), all_equal, strlen(all_equal)) == 0);
     banked_map(BANKS, last_at - right);
@@ -168,7 +182,7 @@ int main(void) {
     CHECK(HEALDRIP_NUMBER(refused) == 16 && HEALDRIP_TABLE(refused) == 5 && HEALDRIP_ROW(refused) == BANKS - 1);
 
     /* A line as long as a line can be, and a last line with the widest rows and address. */
-    const char *widest = UPPER_NAMES "989 989 2 1024 1024\n" LOWER_NAMES "2 980099 0 1 989 989 36028797018570752\n";
+    const char *widest = UPPER_NAMES "989 989 2 1024 1024 1024 1024\n" LOWER_NAMES "2 980099 0 1 989 989 36028797018570752\n";
     widest_map();
     CHECK(text_length < TEXT_ROOM);
     int64_t length = check(HEALDRIP_REPORT_LENGTH(1));

@@ -36,7 +36,7 @@ fn parts(random: &mut Random, range: i64) -> Vec<Part> {
 /// edges that enter it. The first bank keeps the leaf's node.
 fn cut_leaf(random: &mut Random, draft: &mut Draft, row: usize, parts: &[Part]) -> Vec<usize> {
     let (leaf, at) = (draft.leaves[row], draft.at[row]);
-    let Node { base, unit, .. } = draft.nodes[leaf];
+    let Node { base, unit, access, .. } = draft.nodes[leaf];
     let entering: Vec<Edge> = draft.edges.iter().copied().filter(|edge| edge.to == leaf).collect();
     draft.edges.retain(|edge| edge.to != leaf);
     let mut rows = Vec::new();
@@ -44,13 +44,15 @@ fn cut_leaf(random: &mut Random, draft: &mut Draft, row: usize, parts: &[Part]) 
         let (bank_base, range) = (random.between(0, 4), end - begin);
         let at = (at + begin * unit).min(MAX_AT);
         let bank = if number == 0 {
-            draft.nodes[leaf] = Node { kind: BLOCK, base: bank_base, range, unit };
+            draft.nodes[leaf] = Node { kind: BLOCK, base: bank_base, range, unit, access };
             draft.at[row] = at;
             rows.push(row);
             leaf
         } else {
             rows.push(draft.leaves.len());
-            draft.bank(bank_base, range, unit, at)
+            let bank = draft.bank(bank_base, range, unit, at);
+            draft.nodes[bank].access = access;
+            bank
         };
         for edge in &entering {
             draft.join(edge.from, bank, edge.offset + base + begin - bank_base);
@@ -66,7 +68,7 @@ const MOST_STRIPES: i64 = 8;
 /// them segments of one unit, which lead to one and the other in turn: interleaved.
 fn interleave_leaf(random: &mut Random, draft: &mut Draft, row: usize) -> Vec<usize> {
     let leaf = draft.leaves[row];
-    let Node { base, range, unit, .. } = draft.nodes[leaf];
+    let Node { base, range, unit, access, .. } = draft.nodes[leaf];
     let entering: Vec<Edge> = draft.edges.iter().copied().filter(|edge| edge.to == leaf).collect();
     if range * entering.len() as i64 > MOST_STRIPES {
         return vec![row];
@@ -76,6 +78,7 @@ fn interleave_leaf(random: &mut Random, draft: &mut Draft, row: usize) -> Vec<us
     let later = range.min(2) - 1;
     let at = (draft.at[row] + later * unit).min(MAX_AT);
     let other = draft.bank(random.between(0, 4), range, unit, at);
+    draft.nodes[other].access = access;
     let banks = [(leaf, 0), (other, later)];
     for edge in entering {
         for stripe in 0..range {

@@ -2,19 +2,35 @@
 //! over all edge rows. Nothing here knows windows, runs or adjacency lists.
 //! Takes tables that the checks 1 to 4 have passed.
 
-use crate::reference::{Comparison, Outcome, PairLine, Record, Tables, BLOCK, MAX_CHAIN};
+use crate::reference::{Comparison, Lengths, Outcome, PairLine, Record, Tables, WalkKind};
+use crate::reference::{BLOCK, KINDS, MAX_CHAIN, READ_ONLY, WRITE_ONLY};
 use crate::reference::{IMPL_EDGES, IMPL_NODES, LEAF_PAIRS, ROOT_PAIRS, SPEC_EDGES, SPEC_NODES};
 use std::collections::{BTreeMap, BTreeSet};
 
 /// Pairs (root bit, leaf bit).
 pub type Reached = BTreeSet<(i64, i64)>;
 
+/// Kind, base, range, unit and access of a node.
+fn row(nodes: &[i64], node: usize) -> [i64; 5] {
+    std::array::from_fn(|column| nodes[node * 5 + column])
+}
+
 fn first_bit(nodes: &[i64], node: usize) -> i64 {
-    nodes[node * 4 + 1] * nodes[node * 4 + 3]
+    let [_, base, _, unit, _] = row(nodes, node);
+    base * unit
 }
 
 fn last_bit(nodes: &[i64], node: usize) -> i64 {
-    (nodes[node * 4 + 1] + nodes[node * 4 + 2]) * nodes[node * 4 + 3] - 1
+    let [_, base, range, unit, _] = row(nodes, node);
+    (base + range) * unit - 1
+}
+
+/// The access that shuts out a kind of walk.
+fn shut_out(kind: WalkKind) -> i64 {
+    match kind {
+        WalkKind::Reading => WRITE_ONLY,
+        WalkKind::Writing => READ_ONLY,
+    }
 }
 
 /// The edge rows that leave a node.
@@ -23,9 +39,13 @@ fn edges_from(edges: &[i64], node: usize) -> impl Iterator<Item = &[i64]> {
 }
 
 fn step(
-    nodes: &[i64], edges: &[i64], node: usize, leaf: usize, address: i64,
+    nodes: &[i64], edges: &[i64], node: usize, leaf: usize, address: i64, kind: WalkKind,
     leaf_bits: &mut BTreeSet<i64>,
 ) {
+    let [.., access] = row(nodes, node);
+    if access == shut_out(kind) {
+        return;
+    }
     if address < first_bit(nodes, node) || address > last_bit(nodes, node) {
         return;
     }
@@ -34,23 +54,25 @@ fn step(
     }
     for edge in edges_from(edges, node) {
         let to = edge[1] as usize;
-        let bit_offset = edge[2] * nodes[to * 4 + 3];
-        step(nodes, edges, to, leaf, address - bit_offset, leaf_bits);
+        let [.., unit, _] = row(nodes, to);
+        step(nodes, edges, to, leaf, address - edge[2] * unit, kind, leaf_bits);
     }
 }
 
-/// The leaf bits that one address of the root reaches.
-pub fn walk(nodes: &[i64], edges: &[i64], root: usize, leaf: usize, address: i64) -> BTreeSet<i64> {
+/// The leaf bits that one address of the root reaches by walks of one kind.
+pub fn walk(
+    nodes: &[i64], edges: &[i64], root: usize, leaf: usize, address: i64, kind: WalkKind,
+) -> BTreeSet<i64> {
     let mut leaf_bits = BTreeSet::new();
-    step(nodes, edges, root, leaf, address, &mut leaf_bits);
+    step(nodes, edges, root, leaf, address, kind, &mut leaf_bits);
     leaf_bits
 }
 
-/// The reached set of a root and a leaf.
-pub fn reached(nodes: &[i64], edges: &[i64], root: usize, leaf: usize) -> Reached {
+/// The reached set of a root and a leaf by walks of one kind.
+pub fn reached(nodes: &[i64], edges: &[i64], root: usize, leaf: usize, kind: WalkKind) -> Reached {
     let mut reached = Reached::new();
     for address in first_bit(nodes, root)..=last_bit(nodes, root) {
-        for leaf_bit in walk(nodes, edges, root, leaf, address) {
+        for leaf_bit in walk(nodes, edges, root, leaf, address, kind) {
             reached.insert((address, leaf_bit));
         }
     }
@@ -109,15 +131,27 @@ pub fn verdict(spec: &Reached, implementation: &Reached) -> i64 {
     }
 }
 
-/// A root row with a leaf row that leads its group: what the specification reaches in the
-/// leaf, and what the implementation reaches in the banks, each bit counted on from where
-/// its bank begins.
+/// What walks of one kind reach: the specification's in the leaf, and the implementation's in
+/// the banks, each bit counted on from where its bank begins.
+pub struct Sides {
+    pub spec: Reached,
+    pub implementation: Reached,
+}
+
+impl Sides {
+    /// The lowest root bit of which the two sides reach unlike leaf bits.
+    fn lowest_difference(&self) -> Option<i64> {
+        let differing = self.spec.symmetric_difference(&self.implementation);
+        differing.map(|(root_bit, _)| *root_bit).min()
+    }
+}
+
+/// A root row with a leaf row that leads its group, and what each kind of walk reaches.
 pub struct Visit {
     pub root: usize,
     pub leaf: usize,
     pub banks: usize,
-    pub spec: Reached,
-    pub implementation: Reached,
+    pub kinds: [Sides; 2],
 }
 
 /// The visits of two small graphs that no refusal concerns, in their order.
@@ -129,16 +163,20 @@ pub fn visits(tables: &Tables) -> Vec<Visit> {
             if leaf_rows[..leaf].iter().any(|earlier| earlier[0] == leading[0]) {
                 continue;
             }
-            let (nodes, edges) = (&tables[SPEC_NODES], &tables[SPEC_EDGES]);
-            let spec = reached(nodes, edges, roots[0] as usize, leading[0] as usize);
-            let (nodes, edges) = (&tables[IMPL_NODES], &tables[IMPL_EDGES]);
-            let mut implementation = Reached::new();
             let banks: Vec<_> = leaf_rows.iter().filter(|row| row[0] == leading[0]).collect();
-            for bank in &banks {
-                let in_bank = reached(nodes, edges, roots[1] as usize, bank[1] as usize);
-                implementation.extend(in_bank.iter().map(|(x, leaf_bit)| (*x, leaf_bit + bank[2])));
-            }
-            visits.push(Visit { root, leaf, banks: banks.len(), spec, implementation });
+            let kinds = KINDS.map(|kind| {
+                let (nodes, edges) = (&tables[SPEC_NODES], &tables[SPEC_EDGES]);
+                let spec = reached(nodes, edges, roots[0] as usize, leading[0] as usize, kind);
+                let (nodes, edges) = (&tables[IMPL_NODES], &tables[IMPL_EDGES]);
+                let mut implementation = Reached::new();
+                for bank in &banks {
+                    let in_bank = reached(nodes, edges, roots[1] as usize, bank[1] as usize, kind);
+                    let counted_on = |(x, leaf_bit): &(i64, i64)| (*x, leaf_bit + bank[2]);
+                    implementation.extend(in_bank.iter().map(counted_on));
+                }
+                Sides { spec, implementation }
+            });
+            visits.push(Visit { root, leaf, banks: banks.len(), kinds });
         }
     }
     visits
@@ -148,19 +186,27 @@ pub fn visits(tables: &Tables) -> Vec<Visit> {
 pub fn judge(visits: &[Visit]) -> Comparison {
     let mut outcome = Outcome { whole: 0, counts: [0; 3], root: -1, leaf: -1, address: -1 };
     let mut lines = Vec::new();
-    for Visit { root, leaf, spec, implementation, .. } in visits {
-        let verdict = verdict(spec, implementation);
+    for Visit { root, leaf, kinds, .. } in visits {
+        let [reading, writing] = kinds;
+        let verdict = verdict(&reading.spec, &reading.implementation)
+            .max(verdict(&writing.spec, &writing.implementation));
         if verdict > 0 && outcome.root < 0 {
             outcome.root = *root as i64;
             outcome.leaf = *leaf as i64;
-            let differing = spec.symmetric_difference(implementation);
-            outcome.address = differing.map(|(root_bit, _)| *root_bit).min().unwrap();
+            outcome.address = match (reading.lowest_difference(), writing.lowest_difference()) {
+                (Some(one), Some(other)) => one.min(other),
+                (one, other) => one.or(other).expect("an unequal pair differs somewhere"),
+            };
         }
         outcome.counts[verdict as usize] += 1;
         outcome.whole = outcome.whole.max(verdict);
-        if !spec.is_empty() || !implementation.is_empty() {
-            let (spec, implementation) = (list(spec).len(), list(implementation).len());
-            lines.push(PairLine { root: *root, leaf: *leaf, verdict, spec, implementation });
+        let lengths = [reading, writing].map(|Sides { spec, implementation }| Lengths {
+            spec: list(spec).len(),
+            implementation: list(implementation).len(),
+        });
+        let nothing = Lengths { spec: 0, implementation: 0 };
+        if lengths != [nothing; 2] {
+            lines.push(PairLine { root: *root, leaf: *leaf, verdict, lengths });
         }
     }
     Comparison { outcome, lines }
@@ -191,8 +237,8 @@ fn has_chain(nodes: usize, edges: &[i64], length: usize) -> bool {
 
 /// The number of the refusal, 4, 5 or 6, of a graph whose rows are each valid.
 pub fn refused(nodes: &[i64], edges: &[i64]) -> Option<i64> {
-    let count = nodes.len() / 4;
-    if edges.chunks(3).any(|edge| nodes[edge[0] as usize * 4] == BLOCK) {
+    let count = nodes.len() / 5;
+    if edges.chunks(3).any(|edge| row(nodes, edge[0] as usize)[0] == BLOCK) {
         Some(4)
     } else if has_chain(count, edges, count) {
         Some(5)

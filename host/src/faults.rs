@@ -3,10 +3,12 @@
 
 use crate::generate::{tables, Draft, SEGMENT};
 use crate::reference::{refusal, Refusal, Tables};
-use crate::reference::{IMPL_NODES, MAX_AT, MAX_TEXT, MAX_UNITS, SPEC_NODES};
+use crate::reference::{IMPL_NODES, MAX_AT, MAX_TEXT, MAX_UNITS, NODE_WIDTH, SPEC_NODES};
+use crate::reference::{READ_AND_WRITE, READ_ONLY, WRITE_ONLY};
 
 /// Two roots and three leaves, each root joined with each leaf, and both sides alike but for
 /// the first leaf, which the implementation has in two banks, in the first and last leaf row.
+/// The second root is write only and the last leaf read only, so that no walk joins them.
 pub fn base() -> Tables {
     let mut spec = Draft::default();
     let roots = [spec.root(0, 64, 8), spec.root(8, 32, 16)];
@@ -14,12 +16,23 @@ pub fn base() -> Tables {
     for (from, to) in roots.into_iter().flat_map(|root| leaves.map(|leaf| (root, leaf))) {
         spec.join(from, to, 2);
     }
+    spec.nodes[roots[1]].access = WRITE_ONLY;
+    spec.nodes[leaves[2]].access = READ_ONLY;
     let mut implementation = spec.clone();
     implementation.nodes[leaves[0]].range = 8;
     let bank = implementation.bank(0, 8, 8, 64);
     roots.iter().for_each(|&root| implementation.join(root, bank, 10));
     spec.leaves.push(leaves[0]);
     tables(&spec, &implementation)
+}
+
+/// The same with every node open to both kinds of walks.
+pub fn open_base() -> Tables {
+    let mut tables = base();
+    for table in [SPEC_NODES, IMPL_NODES] {
+        tables[table].chunks_mut(NODE_WIDTH).for_each(|node| node[4] = READ_AND_WRITE);
+    }
+    tables
 }
 
 pub type TableFault = Box<dyn Fn(&mut Tables)>;
@@ -41,12 +54,15 @@ fn clear(table: usize) -> TableFault {
     Box::new(move |tables| tables[table].clear())
 }
 
+/// A row of nodes.
+const SEGMENT_ROW: [i64; NODE_WIDTH] = [SEGMENT, 0, 1, 8, READ_AND_WRITE];
+
 /// Adds a chain of that many edges between nodes of its own; `closed` leads it back.
 fn add_chain(node_table: usize, edges: i64, closed: bool) -> TableFault {
     Box::new(move |tables| {
-        let start = tables[node_table].len() as i64 / 4;
+        let start = (tables[node_table].len() / NODE_WIDTH) as i64;
         for row in start..=start + edges {
-            tables[node_table].extend([SEGMENT, 0, 1, 8]);
+            tables[node_table].extend(SEGMENT_ROW);
             let back = closed && row == start + edges;
             if back || row < start + edges {
                 tables[node_table + 1].extend([row, if back { start } else { row + 1 }, 0]);
@@ -59,8 +75,10 @@ fn add_chain(node_table: usize, edges: i64, closed: bool) -> TableFault {
 fn graph_faults(nodes: usize) -> Vec<(Refusal, TableFault)> {
     let edges = nodes + 1;
     vec![
-        (refusal(2, nodes, 1), put(nodes, 7, 7)),
-        (refusal(2, nodes, 3), put(nodes, 14, 0)),
+        (refusal(2, nodes, 1), put(nodes, 8, 7)),
+        (refusal(2, nodes, 2), put(nodes, 14, 3)),
+        (refusal(2, nodes, 3), put(nodes, 17, 0)),
+        (refusal(2, nodes, 4), put(nodes, 24, -1)),
         (refusal(4, edges, 1), put(edges, 3, 2)),
         (refusal(3, edges, 2), put(edges, 8, MAX_UNITS + 1)),
         (refusal(3, edges, 3), put(edges, 9, -1)),
@@ -71,14 +89,15 @@ fn graph_faults(nodes: usize) -> Vec<(Refusal, TableFault)> {
 }
 
 /// Faults of the shape of a table: `rows` as too many rows, which a text can hold
-/// too, else as a length that is no multiple of the row width.
+/// too, else as a length that is no multiple of the row width. Those of the node tables, 28
+/// and 32 numbers, are multiples of four.
 fn shape_faults(table: usize, rows: bool) -> (Refusal, TableFault) {
-    let node = [SEGMENT, 0, 1, 8];
     let numbers = match (table, rows) {
-        (0 | 2, true) => node.repeat(2_001),
+        (0 | 2, true) => SEGMENT_ROW.repeat(2_001),
         (1 | 3, true) => [0, 2, 0].repeat(2_601),
         (_, true) => [0, 0, 0].repeat(1_001),
-        (1 | 3, false) => vec![0, 0],
+        (0, false) => vec![0, 0, 0],
+        (1..=3, false) => vec![0, 0],
         (_, false) => vec![0],
     };
     (refusal(1, table, 0), append(table, numbers))
@@ -137,8 +156,10 @@ pub fn row_faults() -> Vec<(Refusal, TableFault)> {
         (refusal(16, 5, 2), row(5, 2, &[2, 2, -1])),
         (refusal(8, 5, 2), row(5, 2, &[2, 2, MAX_AT])),
         (refusal(8, 5, 2), row(5, 2, &[4, 3, 0])),
-        (refusal(2, 0, 4), row(0, 4, &[3, -1, 0, 7])),
-        (refusal(2, 2, 4), row(2, 4, &[0, MAX_UNITS, MAX_UNITS, 9])),
+        (refusal(2, 0, 4), row(0, 4, &[3, -1, 0, 7, 3])),
+        (refusal(2, 2, 4), row(2, 4, &[0, MAX_UNITS, MAX_UNITS, 9, -1])),
+        (refusal(2, 0, 4), row(0, 4, &[2, 0, 1, 128, 3])),
+        (refusal(2, 2, 4), row(2, 4, &[2, 0, 1, 128, -1])),
     ]
 }
 
@@ -197,9 +218,12 @@ pub fn text_faults() -> Vec<(i64, TextFault)> {
         (12, insert_byte(1, 1, b'A')),
         (12, insert_byte(2, 0, 0)),
         (12, Box::new(|text| text.push(b'0'))),
-        (13, replace_line(0, 0, b"side kind base range base")),
-        (14, replace_line(0, 2, b"0 0 00 1 8")),
-        (14, replace_line(0, 4, b"2 0 0 1 8")),
+        (13, replace_line(0, 0, b"side kind base range base access")),
+        (13, replace_line(0, 0, b"access side kind base range unit access")),
+        (14, replace_line(0, 1, b"0 0 0 64 8 -0")),
+        (14, replace_line(0, 2, b"0 0 00 1 8 0")),
+        (14, replace_line(0, 3, b"0 2 0 16 8")),
+        (14, replace_line(0, 4, b"2 0 0 1 8 0")),
         (13, end_after(0, 4)),
         (13, replace_line(1, 0, b"side from to")),
         (14, replace_line(1, 3, b"0 0 2 -0")),

@@ -4,7 +4,8 @@
 
 use crate::banks::{any_banks, build_from_banks};
 use crate::reference::{refusal, Names, Refusal, Tables, BLOCK, SPACE, UNITS};
-use crate::reference::{EDGE_NAMES, NODE_NAMES, PAIR_NAMES, WIDTHS};
+use crate::reference::{ACCESSES, READ_AND_WRITE, READ_ONLY, WRITE_ONLY};
+use crate::reference::{EDGE_NAMES, NODE_NAMES, NODE_WIDTH, PAIR_NAMES, WIDTHS};
 use crate::reference::{IMPL_EDGES, IMPL_NODES, LEAF_PAIRS, ROOT_PAIRS, SPEC_EDGES, SPEC_NODES};
 use crate::reference::{MAX_AT, MAX_EDGES, MAX_NODES, MAX_PAIRS, MAX_TEXT, MAX_UNITS};
 use std::collections::BTreeSet;
@@ -82,9 +83,14 @@ pub struct Node {
     pub base: i64,
     pub range: i64,
     pub unit: i64,
+    pub access: i64,
 }
 
 impl Node {
+    fn row(&self) -> [i64; NODE_WIDTH] {
+        [self.kind, self.base, self.range, self.unit, self.access]
+    }
+
     fn first(&self) -> i64 {
         self.base * self.unit
     }
@@ -113,8 +119,9 @@ pub struct Draft {
 }
 
 impl Draft {
+    /// Adds a node that is open to both kinds of walks.
     pub fn node(&mut self, kind: i64, base: i64, range: i64, unit: i64) -> usize {
-        self.nodes.push(Node { kind, base, range, unit });
+        self.nodes.push(Node { kind, base, range, unit, access: READ_AND_WRITE });
         self.nodes.len() - 1
     }
 
@@ -160,7 +167,7 @@ impl Draft {
     }
 
     pub fn node_table(&self) -> Vec<i64> {
-        self.nodes.iter().flat_map(|node| [node.kind, node.base, node.range, node.unit]).collect()
+        self.nodes.iter().flat_map(Node::row).collect()
     }
 
     pub fn edge_table(&self) -> Vec<i64> {
@@ -375,13 +382,14 @@ fn insert_segment(random: &mut Random, draft: &mut Draft, edge: usize) {
 
 /// Puts two segments in the place of one, the window cut between them.
 fn split_segment(random: &mut Random, draft: &mut Draft, segment: usize) {
-    let Node { kind, base, range, unit } = draft.nodes[segment];
+    let Node { kind, base, range, unit, access } = draft.nodes[segment];
     if kind != SEGMENT || range < 2 {
         return;
     }
     let cut = random.between(1, range - 1);
     draft.nodes[segment].range = cut;
     let upper = draft.node(kind, base + cut, range - cut, unit);
+    draft.nodes[upper].access = access;
     for edge in draft.edges.clone() {
         if edge.from == segment {
             draft.join(upper, edge.to, edge.offset);
@@ -530,15 +538,79 @@ fn mixed_rows(random: &mut Random, count: usize) -> Vec<usize> {
     rows
 }
 
+// Accesses
+
+/// How many nodes of a map are closed to one kind of walk.
+#[derive(Clone, Copy, PartialEq, Eq)]
+pub enum Closed {
+    None,
+    Few,
+    Many,
+}
+
+/// Closes nodes of a graph to one kind of walk.
+fn close(random: &mut Random, draft: &mut Draft, closed: Closed) {
+    let one = random.pick(&[READ_ONLY, WRITE_ONLY]);
+    match closed {
+        Closed::None => (),
+        Closed::Few => {
+            let node = random.below(draft.nodes.len());
+            draft.nodes[node].access = one;
+        }
+        // Mostly of one kind: where both are mixed along the paths, hardly a walk lives.
+        Closed::Many => {
+            for node in &mut draft.nodes {
+                match random.below(10) {
+                    0 => node.access = random.pick(&ACCESSES),
+                    1 | 2 => node.access = one,
+                    _ => (),
+                }
+            }
+        }
+    }
+}
+
+/// Opens a node, or gives it another access.
+fn close_otherwise(random: &mut Random, draft: &mut Draft) {
+    let closed = |node: &&mut Node| node.access != READ_AND_WRITE;
+    if random.chance(50) {
+        draft.nodes.iter_mut().filter(closed).take(1).for_each(|node| node.access = READ_AND_WRITE);
+    } else {
+        let node = random.below(draft.nodes.len());
+        draft.nodes[node].access = random.pick(&ACCESSES);
+    }
+}
+
 /// A pair of small graphs with few paths, none of which a refusal concerns.
 pub fn small_map(random: &mut Random) -> Tables {
     let spec = draft(random);
     implemented(random, spec)
 }
 
-/// A specification with an implementation of it, rows and pairs in any order.
-pub fn implemented(random: &mut Random, mut spec: Draft) -> Tables {
-    let implementation = implementation(random, &mut spec);
+/// The same with every node open to both kinds of walks.
+pub fn open_map(random: &mut Random) -> Tables {
+    let spec = draft(random);
+    implemented_with(random, spec, Closed::None)
+}
+
+/// A specification with an implementation of it, rows and pairs in any order. In about half
+/// of the maps some nodes are closed to one kind of walk.
+pub fn implemented(random: &mut Random, spec: Draft) -> Tables {
+    let closed = random.pick(&[Closed::None, Closed::None, Closed::Few, Closed::Many]);
+    implemented_with(random, spec, closed)
+}
+
+/// The same with so many nodes of the specification closed, and of the implementation some.
+pub fn implemented_with(random: &mut Random, mut spec: Draft, closed: Closed) -> Tables {
+    if closed != Closed::None {
+        close(random, &mut spec, closed);
+    }
+    let mut implementation = implementation(random, &mut spec);
+    if closed != Closed::None && random.chance(60) {
+        for _ in 0..random.between(1, 2) {
+            close_otherwise(random, &mut implementation);
+        }
+    }
     let mut spec = spec.mixed(random);
     let mut implementation = implementation.mixed(random);
     mix_roots(random, &mut spec, &mut implementation);
@@ -557,12 +629,14 @@ pub fn raised(random: &mut Random, tables: &Tables) -> Tables {
     let mut tables = tables.clone();
     let coarse = random.chance(30);
     let mut smallest = STEP;
-    for node in [SPEC_NODES, IMPL_NODES].map(|table| tables[table].clone()).concat().chunks(4) {
+    for node in
+        [SPEC_NODES, IMPL_NODES].map(|table| tables[table].clone()).concat().chunks(NODE_WIDTH)
+    {
         smallest = smallest.min(if coarse { STEP } else { node[3] });
     }
     let most = (MAX_UNITS - LEFT) * smallest / STEP;
     let mut steps = [SPEC_NODES, IMPL_NODES].map(|table| {
-        let count = tables[table].len() / 4;
+        let count = tables[table].len() / NODE_WIDTH;
         let draw = |_| match random.below(6) {
             0 => 0,
             1 => most,
@@ -576,18 +650,18 @@ pub fn raised(random: &mut Random, tables: &Tables) -> Tables {
         steps[1][pair[1] as usize] = steps[0][pair[0] as usize];
     }
     if coarse {
-        let units: Vec<i64> = tables[IMPL_NODES].chunks(4).map(|node| node[3]).collect();
+        let units: Vec<i64> = tables[IMPL_NODES].chunks(NODE_WIDTH).map(|node| node[3]).collect();
         for pair in tables[LEAF_PAIRS].chunks_mut(3) {
             pair[2] = (pair[2] * (STEP / units[pair[1] as usize])).min(MAX_AT);
         }
     }
     for (side, nodes) in [SPEC_NODES, IMPL_NODES].into_iter().enumerate() {
         let steps = &steps[side];
-        for (node, step) in tables[nodes].chunks_mut(4).zip(steps) {
+        for (node, step) in tables[nodes].chunks_mut(NODE_WIDTH).zip(steps) {
             node[3] = if coarse { STEP } else { node[3] };
             node[1] += step * (STEP / node[3]);
         }
-        let units: Vec<i64> = tables[nodes].chunks(4).map(|node| node[3]).collect();
+        let units: Vec<i64> = tables[nodes].chunks(NODE_WIDTH).map(|node| node[3]).collect();
         for edge in tables[nodes + 1].chunks_mut(3) {
             let (from, to) = (edge[0] as usize, edge[1] as usize);
             edge[2] += (steps[from] - steps[to]) * (STEP / units[to]);
@@ -606,7 +680,7 @@ fn deepen_leaf(tables: &mut Tables, leaf: usize, bits: i64) {
     for pair in tables[LEAF_PAIRS].chunks_mut(3).filter(|pair| pair[0] == leaf as i64) {
         pair[2] = (pair[2] + bits).min(MAX_AT);
     }
-    let node = &mut tables[SPEC_NODES][leaf * 4..][..4];
+    let node = &mut tables[SPEC_NODES][leaf * NODE_WIDTH..][..NODE_WIDTH];
     if node[0] == BLOCK {
         node[1] -= bits / node[3];
         node[2] += bits / node[3];
@@ -617,7 +691,7 @@ fn deepen_leaf(tables: &mut Tables, leaf: usize, bits: i64) {
 
 /// Adds the rows of another map, its node rows counted on.
 fn append_map(tables: &mut Tables, more: &Tables) {
-    let counts = [SPEC_NODES, IMPL_NODES].map(|table| tables[table].len() as i64 / 4);
+    let counts = [SPEC_NODES, IMPL_NODES].map(|table| (tables[table].len() / NODE_WIDTH) as i64);
     for table in [SPEC_NODES, IMPL_NODES] {
         tables[table].extend(&more[table]);
     }
@@ -642,10 +716,10 @@ fn shuffle_rows(random: &mut Random, table: &mut Vec<i64>, width: usize) {
 pub fn reordered(random: &mut Random, tables: &Tables) -> Tables {
     let mut tables = tables.clone();
     for (side, nodes) in [SPEC_NODES, IMPL_NODES].into_iter().enumerate() {
-        let places = random.shuffled(tables[nodes].len() / 4);
+        let places = random.shuffled(tables[nodes].len() / NODE_WIDTH);
         let old = tables[nodes].clone();
-        for (row, node) in old.chunks(4).enumerate() {
-            tables[nodes][places[row] * 4..][..4].copy_from_slice(node);
+        for (row, node) in old.chunks(NODE_WIDTH).enumerate() {
+            tables[nodes][places[row] * NODE_WIDTH..][..NODE_WIDTH].copy_from_slice(node);
         }
         let move_row = |row: &mut i64| *row = places[*row as usize] as i64;
         for edge in tables[nodes + 1].chunks_mut(3) {
@@ -743,12 +817,21 @@ pub fn text_with_columns(tables: &Tables, columns: [&[usize]; 3]) -> Vec<u8> {
     text_by(tables, |_, rows| (next.next().unwrap().to_vec(), rows))
 }
 
-/// The text with columns in any order, sometimes optional ones that are not needed, sides
-/// and roles interleaved.
+/// The text with columns in any order, sometimes optional ones that are not needed, where
+/// there is room for them, sides and roles interleaved.
 pub fn mixed_text(random: &mut Random, tables: &Tables) -> Vec<u8> {
+    let text = mixed_by(random, tables, 30);
+    if text.len() > MAX_TEXT {
+        return mixed_by(random, tables, 0);
+    }
+    text
+}
+
+/// The same, with all columns of a table in so many of a hundred.
+fn mixed_by(random: &mut Random, tables: &Tables, percent: usize) -> Vec<u8> {
     text_by(tables, |names, rows| {
         let mut columns = needed_columns(names, &rows);
-        if random.chance(30) {
+        if random.chance(percent) {
             columns = (0..names.count()).collect();
         }
         random.shuffle(&mut columns);
@@ -762,7 +845,7 @@ pub fn mixed_text(random: &mut Random, tables: &Tables) -> Vec<u8> {
 pub const WRONG_FIELDS: &str = " - -0 00 01 -01 --1 1- 1-1 a side x1 -1 2 3 24 129 2000 \
     999999999999999999 1000000000000000000 -999999999999999999 -1000000000000000000 \
     9223372036854775808 18446744073709551617 281474976710656 281474976710657 \
-    -281474976710656 -281474976710657 at 36028797018963967 36028797018963968";
+    -281474976710656 -281474976710657 at 36028797018963967 36028797018963968 access";
 
 const ALLOWED: &[u8] = b"abcdefghijklmnopqrstuvwxyz0123456789- \n";
 const NOT_ALLOWED: &[u8] = b"\t\r\0+*()ASZ_.,\x7f\x80\xff`{/:";
@@ -955,6 +1038,60 @@ pub fn banked(edges: &[usize]) -> Tables {
     tables(&spec, &implementation)
 }
 
+/// The access of a root, of a leaf and of a node that is not paired.
+fn access_limits() -> Vec<Limit> {
+    let mut limits = Vec::new();
+    for access in [-1, 0, 1, 2, 3] {
+        for (table, row) in
+            [SPEC_NODES, IMPL_NODES].into_iter().flat_map(|t| [0, 1, 2].map(|row| (t, row)))
+        {
+            let mut tables = tables(&with_node(0, 1), &with_node(0, 1));
+            tables[table][row * NODE_WIDTH + 4] = access;
+            let expected = (!ACCESSES.contains(&access)).then_some(refusal(2, table, row));
+            limits.push(Limit {
+                name: format!("access {access} in {table} {row}"),
+                tables,
+                expected,
+            });
+        }
+    }
+    limits
+}
+
+/// Paths count whether walks may take them or not: the nodes of one graph closed to a kind.
+fn paths_of_closed_nodes() -> Vec<Limit> {
+    let mut limits = Vec::new();
+    for (name, accesses) in [
+        ("all read only", [READ_ONLY; 3]),
+        ("all write only", [WRITE_ONLY; 3]),
+        ("a root read only", [READ_ONLY, 0, 0]),
+        ("a root write only", [WRITE_ONLY, 0, 0]),
+        ("a leaf read only", [0, 0, READ_ONLY]),
+        ("a leaf write only", [0, 0, WRITE_ONLY]),
+        ("a segment read only", [0, READ_ONLY, 0]),
+        ("a segment write only", [0, WRITE_ONLY, 0]),
+        ("a segment that no walk reaches", [READ_ONLY, WRITE_ONLY, 0]),
+        ("a leaf that no walk reaches", [WRITE_ONLY, 0, READ_ONLY]),
+    ] {
+        for (beside, taken) in [(0, true), (1, false)] {
+            for side in 0..2 {
+                let mut draft = doubled(10, beside);
+                let last = draft.nodes.len() - 1;
+                for (place, node) in [0, 5, last].into_iter().enumerate() {
+                    draft.nodes[node].access = accesses[place];
+                }
+                let other = joined(1);
+                let sides = if side == 0 { [&draft, &other] } else { [&other, &draft] };
+                let tables = tables(sides[0], sides[1]);
+                let expected = (!taken).then_some(refusal(10, 1 + 2 * side, 0));
+                let name = format!("{} paths, {name}, side {side}", 1_024 + beside);
+                limits.push(Limit { name, tables, expected });
+            }
+        }
+    }
+    limits
+}
+
 /// Where a bank begins.
 fn at_limits() -> Vec<Limit> {
     let mut limits = Vec::new();
@@ -1110,6 +1247,8 @@ pub fn limits() -> Vec<Limit> {
         let name = format!("{roots} root pairs, {leaves} leaf pairs");
         limits.push(Limit { name, tables: tables(&draft, &draft), expected });
     }
+    limits.extend(access_limits());
+    limits.extend(paths_of_closed_nodes());
     limits.extend(at_limits());
     limits.extend(group_limits());
     limits.extend(paths_of_groups());
@@ -1143,12 +1282,15 @@ fn crowded_at_end(roots: usize, leaves: usize) -> Draft {
 pub fn far_rows() -> Vec<Limit> {
     let mut last_unit = filled(2_000, 1);
     last_unit.nodes[1_999].unit = 7;
+    let mut last_access = filled(2_000, 1);
+    last_access.nodes[1_999].access = 3;
     let mut last_end = filled(3, 2_600);
     last_end.edges[2_599].to = 3;
     let mut last_start = filled(3, 2_600);
     last_start.edges[2_599].from = 1;
     let graphs = [
         ("unit of the last node", last_unit, (2, 0, 1_999)),
+        ("access of the last node", last_access, (2, 0, 1_999)),
         ("end of the last edge", last_end, (3, 1, 2_599)),
         ("start of the last edge", last_start, (4, 1, 2_599)),
     ];

@@ -36,8 +36,8 @@ side from to offset
 ";
 
 const EQUAL: &str = "\
-root leaf verdict spec impl
-0 0 0 1 1
+root leaf verdict rspec rimpl wspec wimpl
+0 0 0 1 1 1 1
 
 verdict equal partial different root leaf address
 0 1 0 0 -1 -1 -1
@@ -258,8 +258,8 @@ role spec impl
 1 1 4
 ",
         printed: "\
-root leaf verdict spec impl
-0 0 2 1 4
+root leaf verdict rspec rimpl wspec wimpl
+0 0 2 1 4 1 4
 
 verdict equal partial different root leaf address
 2 0 0 1 0 0 2176
@@ -278,8 +278,8 @@ role spec impl at
 1 1 4 384
 ",
         printed: "\
-root leaf verdict spec impl
-0 0 2 1 3
+root leaf verdict rspec rimpl wspec wimpl
+0 0 2 1 3 1 3
 
 verdict equal partial different root leaf address
 2 0 0 1 0 0 2048
@@ -296,8 +296,8 @@ role spec impl at
 1 1 4 384
 ",
         printed: "\
-root leaf verdict spec impl
-0 0 1 1 2
+root leaf verdict rspec rimpl wspec wimpl
+0 0 1 1 2 1 2
 
 verdict equal partial different root leaf address
 1 0 1 0 0 0 2304
@@ -312,8 +312,8 @@ role spec impl at
 1 1 4 384
 ",
         printed: "\
-root leaf verdict spec impl
-0 0 1 1 1
+root leaf verdict rspec rimpl wspec wimpl
+0 0 1 1 1 1 1
 
 verdict equal partial different root leaf address
 1 0 1 0 0 0 2048
@@ -331,8 +331,8 @@ role spec impl at
 1 1 4 384
 ",
         printed: "\
-root leaf verdict spec impl
-0 0 2 1 3
+root leaf verdict rspec rimpl wspec wimpl
+0 0 2 1 3 1 3
 
 verdict equal partial different root leaf address
 2 0 0 1 0 0 2304
@@ -343,8 +343,8 @@ verdict equal partial different root leaf address
         graphs: ONE_BLOCK,
         pairs: "role spec impl at\n0 0 0 0\n1 1 1 8\n",
         printed: "\
-root leaf verdict spec impl
-0 0 2 1 1
+root leaf verdict rspec rimpl wspec wimpl
+0 0 2 1 1 1 1
 
 verdict equal partial different root leaf address
 2 0 0 1 0 0 0
@@ -368,8 +368,8 @@ verdict equal partial different root leaf address
         graphs: ONE_BLOCK,
         pairs: "role spec impl\n0 0 0\n1 1 4\n1 1 1\n",
         printed: "\
-root leaf verdict spec impl
-0 0 2 1 2
+root leaf verdict rspec rimpl wspec wimpl
+0 0 2 1 2 1 2
 
 verdict equal partial different root leaf address
 2 0 0 1 0 0 128
@@ -381,8 +381,8 @@ verdict equal partial different root leaf address
         graphs: ONE_BLOCK,
         pairs: "role spec impl at\n0 0 0 0\n1 1 1 0\n1 1 4 128\n",
         printed: "\
-root leaf verdict spec impl
-0 0 2 1 1
+root leaf verdict rspec rimpl wspec wimpl
+0 0 2 1 1 1 1
 
 verdict equal partial different root leaf address
 2 0 0 1 0 0 128
@@ -393,8 +393,8 @@ verdict equal partial different root leaf address
         graphs: ONE_BLOCK,
         pairs: "role spec impl at\n0 0 0 0\n1 1 2 0\n1 1 4 0\n",
         printed: "\
-root leaf verdict spec impl
-0 0 2 1 2
+root leaf verdict rspec rimpl wspec wimpl
+0 0 2 1 2 1 2
 
 verdict equal partial different root leaf address
 2 0 0 1 0 0 96
@@ -414,10 +414,10 @@ role spec impl at
 1 3 5 0
 ",
         printed: "\
-root leaf verdict spec impl
-0 0 0 1 1
-0 1 2 1 2
-0 4 0 1 1
+root leaf verdict rspec rimpl wspec wimpl
+0 0 0 1 1 1 1
+0 1 2 1 2 1 2
+0 4 0 1 1 1 1
 
 verdict equal partial different root leaf address
 2 2 0 1 0 1 320
@@ -437,10 +437,10 @@ role spec impl at
 1 2 2 0
 ",
         printed: "\
-root leaf verdict spec impl
-0 0 2 1 2
-0 1 0 1 1
-0 2 0 1 1
+root leaf verdict rspec rimpl wspec wimpl
+0 0 2 1 2 1 2
+0 1 0 1 1 1 1
+0 2 0 1 1 1 1
 
 verdict equal partial different root leaf address
 2 2 0 1 0 0 320
@@ -458,9 +458,9 @@ role spec impl at
 1 2 2 0
 ",
         printed: "\
-root leaf verdict spec impl
-0 0 0 1 1
-0 2 1 1 1
+root leaf verdict rspec rimpl wspec wimpl
+0 0 0 1 1 1 1
+0 2 1 1 1 1 1
 
 verdict equal partial different root leaf address
 1 1 1 0 0 2 320
@@ -481,11 +481,11 @@ role spec impl at
 1 3 5 0
 ",
         printed: "\
-root leaf verdict spec impl
-0 4 0 1 1
-1 0 0 1 1
-1 1 2 1 2
-1 4 0 1 1
+root leaf verdict rspec rimpl wspec wimpl
+0 4 0 1 1 1 1
+1 0 0 1 1 1 1
+1 1 2 1 2 1 2
+1 4 0 1 1 1 1
 
 verdict equal partial different root leaf address
 2 5 0 1 1 1 320
@@ -503,8 +503,8 @@ verdict equal partial different root leaf address
         graphs: INTERLEAVED_CLOSE,
         pairs: "role spec impl at\n0 0 0 0\n1 1 5 0\n1 1 6 32\n",
         printed: "\
-root leaf verdict spec impl
-0 0 2 1 4
+root leaf verdict rspec rimpl wspec wimpl
+0 0 2 1 4 1 4
 
 verdict equal partial different root leaf address
 2 0 0 1 0 0 16
@@ -531,8 +531,8 @@ role spec impl at
 1 1 2 36028797018963967
 ",
         printed: "\
-root leaf verdict spec impl
-0 0 2 1 2
+root leaf verdict rspec rimpl wspec wimpl
+0 0 2 1 2 1 2
 
 verdict equal partial different root leaf address
 2 0 0 1 0 0 64
@@ -543,8 +543,8 @@ verdict equal partial different root leaf address
         graphs: FARTHEST,
         pairs: "role spec impl at\n0 0 0 0\n1 1 1 36028797018963967\n",
         printed: "\
-root leaf verdict spec impl
-0 0 2 1 1
+root leaf verdict rspec rimpl wspec wimpl
+0 0 2 1 1 1 1
 
 verdict equal partial different root leaf address
 2 0 0 1 0 0 0

@@ -5,9 +5,9 @@
 //!
 //! All nodes of the texts count in units of 8 bits; offsets, bases and ranges are units.
 
-use crate::generate::{groups, implemented, plain_text, root_rows, tables};
-use crate::generate::{Draft, Edge, Random, SEGMENT};
-use crate::reference::{Tables, BLOCK, SPACE};
+use crate::generate::{groups, implemented, implemented_with, plain_text, root_rows, tables};
+use crate::generate::{Closed, Draft, Edge, Random, SEGMENT};
+use crate::reference::{Tables, BLOCK, READ_ONLY, SPACE, WRITE_ONLY};
 
 /// Records that an engine may keep for a graph if its lists share an arena of fixed size.
 pub const ARENA: usize = 3_072;
@@ -268,7 +268,7 @@ fn few_joined(count: usize) -> Draft {
 }
 
 /// Leaf rows that all roots of `long_report` reach.
-const REACHED: usize = 9;
+const REACHED: usize = 7;
 
 /// Roots in gaps for all leaves but the last few, which they reach: with these the report is
 /// longer than its buffer, and with one less it would fit. Slow for an engine that goes leaf
@@ -302,6 +302,33 @@ fn alike_digits(count: usize, chain: usize) -> Draft {
     }
     lead(&mut draft, 0, 1, &vec![vec![0]; chain]);
     draft
+}
+
+/// Unit at which the first of the ways of `all_unequal` begins: more than its offsets along a
+/// path are together.
+const FIRST_WAY: i64 = 2_000;
+
+/// A root before leaves, over a hub that is entered in that many ways: each through a node of
+/// one unit, with the displacements in no order of places. In the implementation each leaf is a
+/// unit further, so that no record of a pair is in both lists. Slow for an engine that searches
+/// the lowest unequal bit of each pair, though that of the first unequal pair alone is told.
+pub fn all_unequal(leaves: usize, ways: usize) -> [Draft; 2] {
+    let places = scattered(ways);
+    [0, 1].map(|further| {
+        let mut draft = inner(1, SPAN);
+        let root = draft.root(0, SPAN, 8);
+        for way in 0..ways {
+            let place = FIRST_WAY + SPACING * places(way) as i64;
+            let node = draft.node(SEGMENT, place, 1, 8);
+            draft.join(root, node, 0);
+            draft.join(node, 0, way as i64);
+        }
+        for number in 0..leaves {
+            let leaf = draft.leaf(0, SPAN, 8);
+            draft.join(0, leaf, number as i64 + further);
+        }
+        draft
+    })
 }
 
 // Groups of banks
@@ -411,6 +438,25 @@ fn crowded_group([spec, mut implementation]: [Draft; 2]) -> [Draft; 2] {
     [spec, implementation]
 }
 
+// Accesses
+
+/// The graphs with a read only node on no path more in the specification. Slow for an engine
+/// that does all of its work once for each kind of walk, though the lists are the same.
+pub fn with_one_access([mut spec, implementation]: [Draft; 2]) -> [Draft; 2] {
+    let node = spec.node(SEGMENT, 0, 1, 8);
+    spec.nodes[node].access = READ_ONLY;
+    [spec, implementation]
+}
+
+/// The graph with its first nodes, as many as there are hubs, read only and write only in turn:
+/// half of the roots are seen by each kind of walk.
+fn with_hubs_of_either_kind(mut draft: Draft, hubs: usize) -> Draft {
+    for (hub, node) in draft.nodes[..hubs].iter_mut().enumerate() {
+        node.access = [READ_ONLY, WRITE_ONLY][hub % 2];
+    }
+    draft
+}
+
 // Texts
 
 /// A map of two drafts.
@@ -424,7 +470,8 @@ fn both_ways(name: &str, sides: [Draft; 2]) -> [Hostile; 2] {
     [straight(name, sides), straight(&format!("{name}, turned"), back)]
 }
 
-/// The maps with as many rows as a text has room for, or so many times fewer.
+/// The maps with as many rows as a text has room for, or with as many lines as a report has, or
+/// so many times fewer.
 fn maps(fewer: usize) -> Vec<Hostile> {
     let few = |count: usize| count / fewer;
     let fillers = few(ARENA / 32);
@@ -439,7 +486,7 @@ fn maps(fewer: usize) -> Vec<Hostile> {
         both_ways("paths that die late behind 4 hubs", alike(late(4, few(615)))),
         both_ways("nodes that fill an arena", alike(filled_arena(fillers, 1, few(505)))),
         both_ways("nodes that fill an arena, 4 hubs", alike(filled_arena(fillers, 4, few(505)))),
-        both_ways("each root another part of a hub", [3, 2].map(|it| parts(few(500), 8, it))),
+        both_ways("each root another part of a hub", [3, 2].map(|it| parts(few(340), 8, it))),
         both_ways("wide roots, leaves in gaps of a hub", alike(wide_roots(few(570), LIVE))),
         both_ways("leaves in gaps of parallel edges", alike(parallel_edges(few(400), LIVE))),
         both_ways(
@@ -455,20 +502,38 @@ fn maps(fewer: usize) -> Vec<Hostile> {
     ];
     let same_when_turned = [
         straight("chain of 64, mostly empty", alike(alike_digits(few(543), INNER_CHAIN))),
-        straight("hub, mostly empty", alike(alike_digits(few(625), 1))),
+        straight("hub, mostly empty", alike(alike_digits(few(600), 1))),
     ];
     let paired = gaps_of_half(few(650));
     let with_banks = [
         straight("banks in reverse", many_banks(few(650), |row| row)),
         straight("banks in no order", many_banks(few(650), scattered(few(650)))),
-        straight("32 banks of 32 records", interleaved_banks(few(310), 10, 32, 32)),
-        straight("100 banks of 10 records", interleaved_banks(few(310), 10, 100, 10)),
+        straight("32 banks of 32 records", interleaved_banks(few(230), 10, 32, 32)),
+        straight("100 banks of 10 records", interleaved_banks(few(230), 10, 100, 10)),
         straight("roots in gaps of a hub, two banks", in_pairs(paired.clone())),
         straight("roots in gaps of a hub, two banks, turned", in_pairs(turned(&paired))),
         straight("refusal 10 at the last group", crowded_group(in_pairs(paired))),
     ];
-    let maps = maps.into_iter().flatten();
-    maps.chain(same_when_turned).chain(with_banks).collect()
+    let sides = all_unequal(few(400), few(300));
+    let unequal = [
+        straight("400 leaves, 300 ways, all unequal", sides.clone()),
+        straight("400 leaves, 300 ways, all unequal, one access", with_one_access(sides)),
+    ];
+    let of_either_kind = with_hubs_of_either_kind(gaps_behind(4, few(530)), 4);
+    let with_accesses = [
+        both_ways("roots in gaps, one access", with_one_access(alike(gaps(few(530), LIVE)))),
+        both_ways("roots in gaps behind 4 hubs of either kind", alike(of_either_kind)),
+        both_ways(
+            "nodes that fill an arena, 4 hubs, one access",
+            with_one_access(alike(filled_arena(fillers, 4, few(460)))),
+        ),
+        both_ways(
+            "each root another part of a hub, one access",
+            with_one_access([3, 2].map(|it| parts(few(340), 8, it))),
+        ),
+    ];
+    let maps = maps.into_iter().chain(with_accesses).flatten();
+    maps.chain(same_when_turned).chain(with_banks).chain(unequal).collect()
 }
 
 /// The texts, each of at most MAX_TEXT bytes.
@@ -560,5 +625,6 @@ pub fn filling_map(random: &mut Random) -> Tables {
         let leaf = draft.leaf(random.between(0, 1_024 * spacing), range, 8);
         draft.join(hub, leaf, 0);
     }
-    implemented(random, draft)
+    let closed = random.pick(&[Closed::None, Closed::Few]);
+    implemented_with(random, draft, closed)
 }

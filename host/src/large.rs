@@ -1,8 +1,13 @@
 //! Named maps from tiny to the limits, for the benchmark and for tests.
 
-use crate::generate::{groups, plain_text, root_rows, small_map, tables, text_of_length, unjoined};
+use crate::generate::{groups, open_map, plain_text, root_rows, tables, text_of_length, unjoined};
 use crate::generate::{Draft, Random, SEGMENT};
-use crate::reference::{parse, Tables, BLOCK, MAX_BATCH, MAX_EDGES, MAX_NODES, MAX_TEXT, UNITS};
+use crate::hostile::{all_unequal, with_one_access};
+use crate::reference::{
+    parse, Tables, WalkKind, ACCESSES, BLOCK, READ_AND_WRITE, READ_ONLY, UNITS,
+};
+use crate::reference::{IMPL_NODES, LEAF_PAIRS, NODE_WIDTH, SPEC_NODES, WIDTHS};
+use crate::reference::{MAX_BATCH, MAX_EDGES, MAX_NODES, MAX_TEXT};
 
 pub struct Map {
     pub name: &'static str,
@@ -266,11 +271,8 @@ fn displacements_in_reverse(name: &'static str, count: usize, records: i64) -> M
 /// A system of usual form: each leaf behind a chain of bridges of mixed units that
 /// all roots share, some edges doubled, some dead ends; node rows of the
 /// implementation numbered against the direction of its edges.
-fn system(name: &'static str) -> Map {
-    const LEAVES: i64 = 115;
+fn system(name: &'static str, leaves: i64, nodes: usize, edges: usize) -> Map {
     const BRIDGES: usize = 16;
-    const NODES: usize = 2_000;
-    const EDGES: usize = 2_600;
     const LEAF_BITS: i64 = 512;
     let roots_and_hubs = |draft: &mut Draft, hubs: usize| -> Vec<usize> {
         let hubs: Vec<usize> = (0..hubs).map(|_| draft.node(SEGMENT, 0, SPAN, 8)).collect();
@@ -284,7 +286,7 @@ fn system(name: &'static str) -> Map {
     let hub = roots_and_hubs(&mut spec, 1)[0];
     let mut implementation = Draft::default();
     let hubs = roots_and_hubs(&mut implementation, 5);
-    for leaf in 0..LEAVES {
+    for leaf in 0..leaves {
         let block = spec.leaf(0, LEAF_BITS / 32, 32);
         spec.join(hub, block, leaf * LEAF_BITS / 32);
         let mut last = implementation.node(SEGMENT, 0, LEAF_BITS / 8, 8);
@@ -298,15 +300,15 @@ fn system(name: &'static str) -> Map {
         let block = implementation.leaf(0, LEAF_BITS / 32, 32);
         implementation.join(last, block, 0);
     }
-    while implementation.nodes.len() < NODES {
+    while implementation.nodes.len() < nodes {
         let dead_end = implementation.node(SEGMENT, 0, 1, 8);
         implementation.join(hubs[0], dead_end, 0);
     }
     // Far enough apart that few of them lie on one path.
-    for number in 0..EDGES - implementation.edges.len() {
+    for number in 0..edges - implementation.edges.len() {
         implementation.edges.push(implementation.edges[number * 13]);
     }
-    let reversed: Vec<usize> = (0..NODES).rev().collect();
+    let reversed: Vec<usize> = (0..nodes).rev().collect();
     whole(name, tables(&spec, &implementation.renumbered(&reversed)))
 }
 
@@ -513,8 +515,8 @@ pub fn maps() -> Vec<Map> {
     let clipped = Funnel { leaf_offset: -999, ..wide };
     let maps = vec![
         whole("P1", parse(P1.as_bytes()).expect("P1 keeps the file rules")),
-        whole("small map, seed 7", small_map(&mut Random::new(7))),
-        system("5 x 115, 2,000 nodes, 2,600 edges"),
+        whole("small map, seed 7", open_map(&mut Random::new(7))),
+        system("5 x 115, 2,000 nodes, 2,600 edges", 115, MAX_NODES, MAX_EDGES),
         whole("10^6 pairs, none connected", tables(&none, &none)),
         whole(
             "65,536 bytes, none connected",
@@ -540,6 +542,63 @@ pub fn maps() -> Vec<Map> {
     maps.into_iter().chain(banked_maps()).collect()
 }
 
+// Accesses
+
+impl Map {
+    /// How many nodes are closed to one kind of walk.
+    pub fn closed(&self) -> usize {
+        let nodes = [SPEC_NODES, IMPL_NODES].map(|table| &self.tables[table]);
+        let closed = |node: &&[i64]| node[4] != READ_AND_WRITE;
+        nodes.iter().flat_map(|nodes| nodes.chunks(NODE_WIDTH)).filter(closed).count()
+    }
+
+    /// The map with another access of the leaves of a leaf row, in these tables.
+    fn close_leaves(&mut self, row: usize, node_tables: &[usize], access: i64) {
+        for &table in node_tables {
+            let leaf = self.tables[LEAF_PAIRS][row * WIDTHS[LEAF_PAIRS] + table / 2] as usize;
+            self.tables[table][leaf * NODE_WIDTH + 4] = access;
+        }
+    }
+
+    /// The map as it is; with a leaf of the specification that is read only, and no other
+    /// access; and with a leaf of either side read only, write only and open to both, in turn.
+    fn with_accesses(self) -> [Map; 3] {
+        let [mut one, mut many] = [(); 2].map(|()| Map { tables: self.tables.clone(), ..self });
+        one.close_leaves(0, &[SPEC_NODES], READ_ONLY);
+        for row in 0..self.tables[LEAF_PAIRS].len() / WIDTHS[LEAF_PAIRS] {
+            many.close_leaves(row, &[SPEC_NODES, IMPL_NODES], ACCESSES[row % ACCESSES.len()]);
+        }
+        [self, one, many]
+    }
+}
+
+/// Maps with no access, with a single one, and with many; at the end one without and with a
+/// single one on a node that is on no path. Where one is not 0 the text of each node is longer.
+pub fn access_maps() -> Vec<Map> {
+    let none = unjoined(900, 900);
+    let records = Funnel { roots: 30, leaves: 30, step: 1, ..FUNNEL };
+    let maps = [
+        system("5 x 100, 1,800 nodes, 2,350 edges", 100, 1_800, 2_350),
+        diagonal("450 x 450, hub, diagonal alive", 450),
+        records.map("30 x 30, 1,024 paths, no merging"),
+        whole("900 x 900, none connected", tables(&none, &none)),
+    ];
+    let unequal = all_unequal(400, 300);
+    let unequal = [unequal.clone(), with_one_access(unequal)].map(|[spec, implementation]| {
+        whole("400 leaves, 300 ways, all unequal", tables(&spec, &implementation))
+    });
+    maps.into_iter().flat_map(Map::with_accesses).chain(unequal).collect()
+}
+
+/// The deepest of the maps on which the text check takes most stack, with accesses.
+pub fn deep_maps_with_accesses() -> Vec<Map> {
+    let [.., chain, shared, owners] = deep_maps();
+    [chain, shared, owners]
+        .into_iter()
+        .flat_map(|map| map.with_accesses().into_iter().skip(1))
+        .collect()
+}
+
 // Single graphs
 
 #[derive(Clone, Copy, PartialEq, Eq)]
@@ -549,8 +608,8 @@ pub enum Call {
     Walk,
 }
 
-/// A graph for the calls on one graph, with the root, the leaf and the bit address that
-/// list and walk are asked for.
+/// A graph for the calls on one graph, with the root, the leaf, the bit address and the kind
+/// of walk that list and walk are asked for.
 pub struct Single {
     pub name: &'static str,
     pub calls: &'static [Call],
@@ -559,12 +618,14 @@ pub struct Single {
     pub root: i64,
     pub leaf: i64,
     pub address: i64,
+    pub kind: WalkKind,
 }
 
 /// A graph that is checked and nothing else.
 fn checked(name: &'static str, draft: &Draft) -> Single {
     let (nodes, edges) = (draft.node_table(), draft.edge_table());
-    Single { name, calls: &[Call::Check], nodes, edges, root: 0, leaf: 0, address: 0 }
+    let (calls, kind) = (&[Call::Check], WalkKind::Writing);
+    Single { name, calls, nodes, edges, root: 0, leaf: 0, address: 0, kind }
 }
 
 /// A graph whose first root and leaf are asked for, at this bit address.
@@ -638,6 +699,7 @@ pub fn singles() -> Vec<Single> {
             root: 0,
             leaf: 1,
             address: 2_048,
+            kind: WalkKind::Writing,
         },
         asked("1 path, 30 doubled edges to no leaf", BOTH, &beside_dead_end(30), ADDRESS),
         asked("10 doubled edges, hub, 900 leaves", BOTH, &hub.draft(), ADDRESS),

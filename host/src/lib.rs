@@ -11,6 +11,7 @@
 //! The scripts `test` and `bench` at the top of the repository build the archives
 //! and run this project.
 
+pub mod accessed;
 mod banks;
 pub mod bitwalk;
 pub mod faults;

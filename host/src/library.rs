@@ -30,20 +30,21 @@ extern "C" {
     /// How many records are written, or the refusal's number below zero.
     fn benchcalls_list(
         nodes: *const i64, nodes_len: usize, edges: *const i64, edges_len: usize, root: i64,
-        leaf: i64, out: *mut i64, out_len: usize,
+        leaf: i64, kind: i64, out: *mut i64, out_len: usize,
     ) -> i64;
 
     /// How many leaf bits are written, or the refusal's number below zero.
     fn benchcalls_walk(
         nodes: *const i64, nodes_len: usize, edges: *const i64, edges_len: usize, root: i64,
-        leaf: i64, address: i64, out: *mut i64, out_len: usize,
+        leaf: i64, address: i64, kind: i64, out: *mut i64, out_len: usize,
     ) -> i64;
 
     /// How many rows are written and how many records were read as `counts` gives it, or the
     /// refusal's number below zero.
     pub(crate) fn benchcalls_batch(
         nodes: *const i64, nodes_len: usize, edges: *const i64, edges_len: usize, root: i64,
-        leaf: i64, addresses: *const i64, addresses_len: usize, out: *mut i64, out_len: usize,
+        leaf: i64, addresses: *const i64, addresses_len: usize, kind: i64, out: *mut i64,
+        out_len: usize,
     ) -> i64;
 
     /// The answer as `summary` gives it; the tables in the order of their numbers.
@@ -69,38 +70,38 @@ pub fn check(nodes: &[i64], edges: &[i64]) -> i64 {
     unsafe { benchcalls_check(nodes.as_ptr(), nodes.len(), edges.as_ptr(), edges.len()) }
 }
 
-/// List of a root and a leaf by the verified code, three numbers for each record.
+/// List of a root and a leaf by the verified code, three numbers for each record. The kind of
+/// walk is a number, as in all calls of this file: see `kind_number`.
 #[cfg(benchcalls_library)]
-pub fn list(nodes: &[i64], edges: &[i64], root: i64, leaf: i64, out: &mut [i64]) -> i64 {
-    let (n, e, room) = (nodes.len(), edges.len(), out.len());
+pub fn list(nodes: &[i64], edges: &[i64], root: i64, leaf: i64, kind: i64, out: &mut [i64]) -> i64 {
+    let (n, e, room, out) = (nodes.len(), edges.len(), out.len(), out.as_mut_ptr());
     // SAFETY: every pointer is valid for its length during the call.
-    unsafe {
-        benchcalls_list(nodes.as_ptr(), n, edges.as_ptr(), e, root, leaf, out.as_mut_ptr(), room)
-    }
+    unsafe { benchcalls_list(nodes.as_ptr(), n, edges.as_ptr(), e, root, leaf, kind, out, room) }
 }
 
 /// Walk of a bit address from a root to a leaf by the verified code.
 #[cfg(benchcalls_library)]
 pub fn walk(
-    nodes: &[i64], edges: &[i64], root: i64, leaf: i64, address: i64, out: &mut [i64],
+    nodes: &[i64], edges: &[i64], root: i64, leaf: i64, address: i64, kind: i64, out: &mut [i64],
 ) -> i64 {
     let (n, e, room, out) = (nodes.len(), edges.len(), out.len(), out.as_mut_ptr());
+    let (nodes, edges) = (nodes.as_ptr(), edges.as_ptr());
     // SAFETY: every pointer is valid for its length during the call.
-    unsafe { benchcalls_walk(nodes.as_ptr(), n, edges.as_ptr(), e, root, leaf, address, out, room) }
+    unsafe { benchcalls_walk(nodes, n, edges, e, root, leaf, address, kind, out, room) }
 }
 
 /// Walk of a batch of bit addresses from a root to a leaf by the verified code, two numbers
 /// for each row.
 #[cfg(benchcalls_library)]
 pub fn batch(
-    nodes: &[i64], edges: &[i64], root: i64, leaf: i64, addresses: &[i64], out: &mut [i64],
+    nodes: &[i64], edges: &[i64], root: i64, leaf: i64, addresses: &[i64], kind: i64,
+    out: &mut [i64],
 ) -> i64 {
     let (n, e, a, room) = (nodes.len(), edges.len(), addresses.len(), out.len());
-    let (addresses, out) = (addresses.as_ptr(), out.as_mut_ptr());
+    let (nodes, edges, addresses) = (nodes.as_ptr(), edges.as_ptr(), addresses.as_ptr());
+    let out = out.as_mut_ptr();
     // SAFETY: every pointer is valid for its length during the call.
-    unsafe {
-        benchcalls_batch(nodes.as_ptr(), n, edges.as_ptr(), e, root, leaf, addresses, a, out, room)
-    }
+    unsafe { benchcalls_batch(nodes, n, edges, e, root, leaf, addresses, a, kind, out, room) }
 }
 
 /// Comparison of tables by the verified code.
@@ -132,6 +133,14 @@ pub fn read_sheet(text: &[u8], nodes: &mut [i64], edges: &mut [i64]) -> i64 {
     let (t, n, e) = (text.len(), nodes.len(), edges.len());
     // SAFETY: every pointer is valid for its length during the call.
     unsafe { benchcalls_read_sheet(text.as_ptr(), t, nodes.as_mut_ptr(), n, edges.as_mut_ptr(), e) }
+}
+
+/// The kind of walk as the calls on one graph take it. Any other number is writing too.
+pub fn kind_number(kind: crate::reference::WalkKind) -> i64 {
+    match kind {
+        crate::reference::WalkKind::Reading => 0,
+        crate::reference::WalkKind::Writing => 1,
+    }
 }
 
 /// An answer as one number: the whole verdict, then the counts of equal, partial and

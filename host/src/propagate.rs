@@ -1,16 +1,17 @@
-//! Comparison by lists that go forward. For a root row and a graph the nodes are taken in
-//! topological order, and what arrives at each is found once: part of the list of a node
-//! before it where one way leads in, a list of its own where unlike ways meet. The records
-//! of a list are made when they are first asked for. Lists may be as long and as many as
-//! need be. Verdicts and lines come in visiting order, in one pass.
+//! Comparison by lists that go forward. For a root row, a graph and a kind of walk the nodes
+//! are taken in topological order, and what arrives at each is found once: part of the list
+//! of a node before it where one way leads in, a list of its own where unlike ways meet. The
+//! records of a list are made when they are first asked for. Lists may be as long and as
+//! many as need be. Verdicts and lines come in visiting order, in one pass.
 
-use crate::reference::{check_paths, check_tables, parse, refusal, report, Bank, Graph, Pairing};
-use crate::reference::{Comparison, Outcome, PairLine, Record, Refusal, Tables, OUTPUT};
+use crate::reference::{check_paths, check_tables, kinds_to_judge, parse, refusal, report};
+use crate::reference::{Bank, Graph, Pairing, WalkKind};
+use crate::reference::{Comparison, Lengths, Outcome, PairLine, Record, Refusal, Tables, OUTPUT};
 use std::mem::take;
 use std::ops::Range;
 
 /// Bytes of the shortest line of a report.
-const SHORTEST_LINE: usize = 10;
+const SHORTEST_LINE: usize = 14;
 /// The records of a list are made once it was asked more often than this whether it has any
 /// between two addresses.
 const ASKED: usize = 64;
@@ -178,11 +179,12 @@ struct End {
     origin: i64,
 }
 
-/// A graph with what arrives from one root.
+/// A graph with what arrives from one root by walks of one kind.
 struct Side<'a> {
     roots: &'a [usize],
     ends: Vec<Option<End>>,
-    /// From the lowest to the highest address that may walk on to a paired leaf.
+    /// From the lowest to the highest address that may walk on to a paired leaf; none at a
+    /// node that is closed to the walks.
     extents: Vec<(i64, i64)>,
     /// Edges that lead on to a paired leaf: the node that each enters, and its bit offset.
     leaving: Vec<Vec<(usize, i64)>>,
@@ -196,18 +198,21 @@ struct Side<'a> {
 }
 
 impl<'a> Side<'a> {
-    fn new(graph: &Graph, roots: &'a [usize], banks: &[&[Bank]]) -> Side<'a> {
+    fn new(graph: &Graph, kind: WalkKind, roots: &'a [usize], banks: &[&[Bank]]) -> Side<'a> {
         let mut ends = vec![None; graph.nodes.len()];
         let mut extents = vec![(0, -1); graph.nodes.len()];
         for (group, banks) in banks.iter().enumerate() {
             for &Bank { leaf, at } in *banks {
                 let node = &graph.nodes[leaf];
                 ends[leaf] = Some(End { group, origin: node.first - at });
-                extents[leaf] = (node.first, node.last);
+                if node.is_open(kind) {
+                    extents[leaf] = (node.first, node.last);
+                }
             }
         }
         let mut leaving = vec![Vec::new(); graph.nodes.len()];
-        for &node in graph.order.iter().rev() {
+        let open = |node: &&usize| graph.nodes[**node].is_open(kind);
+        for &node in graph.order.iter().rev().filter(open) {
             for edge in &graph.leaving[node] {
                 let low = graph.nodes[node].first.max(extents[edge.to].0 + edge.offset);
                 let high = graph.nodes[node].last.min(extents[edge.to].1 + edge.offset);
@@ -401,43 +406,82 @@ fn lowest_difference(spec: &[Record], implementation: &[Record]) -> Option<i64> 
     ends.chunk_by(|one, other| one == other).filter(|it| it.len() == 1).map(|it| it[0].1).min()
 }
 
+/// What walks of one kind give: both graphs with what arrives from one root, and the lists and
+/// the verdict of the group that was judged last.
+struct Judge<'a> {
+    sides: [Side<'a>; 2],
+    /// The parts that the group sees, where it sees one on each side, and the distance.
+    kept: Option<(Part, Part, i64)>,
+    lists: [Vec<Record>; 2],
+    verdict: i64,
+}
+
+impl<'a> Judge<'a> {
+    fn new(graphs: &[Graph; 2], kind: WalkKind, pairing: &'a Pairing) -> Judge<'a> {
+        let sides = [0, 1]
+            .map(|side| Side::new(&graphs[side], kind, &pairing.roots[side], &pairing.banks(side)));
+        Judge { sides, kept: None, lists: [Vec::new(), Vec::new()], verdict: 0 }
+    }
+
+    /// Finds what arrives from the roots of a row, and adds the groups that are met.
+    fn sweep(&mut self, root: usize, groups: &mut Vec<usize>) {
+        self.sides.iter_mut().for_each(|side| side.sweep(side.roots[root], groups));
+        self.kept = None;
+    }
+
+    fn judge(&mut self, group: usize) {
+        // The same parts of the same lists at the same distance: the verdict before.
+        let [one, other] = [0, 1].map(|side: usize| self.sides[side].part_at(group));
+        let parts = one.zip(other).map(|(one, other)| (one.0, other.0, one.1 - other.1));
+        if parts.is_none() || parts != self.kept {
+            self.lists = [0, 1].map(|side: usize| self.sides[side].list_at(group));
+            self.verdict = verdict(&self.lists[0], &self.lists[1]);
+            self.kept = parts;
+        }
+    }
+
+    fn lengths(&self) -> Lengths {
+        Lengths { spec: self.lists[0].len(), implementation: self.lists[1].len() }
+    }
+
+    fn lowest_difference(&self) -> Option<i64> {
+        lowest_difference(&self.lists[0], &self.lists[1])
+    }
+}
+
 /// Judges all pairs; none where there are more lines than that.
 fn judge_pairs(graphs: &[Graph; 2], pairing: &Pairing, most: usize) -> Option<Comparison> {
     let Pairing { roots, groups } = pairing;
-    let mut sides = [0, 1].map(|side| Side::new(&graphs[side], &roots[side], &pairing.banks(side)));
+    let kinds = kinds_to_judge(graphs);
+    let mut judges: Vec<Judge> =
+        kinds.iter().map(|&kind| Judge::new(graphs, kind, pairing)).collect();
     let mut outcome = Outcome { whole: 0, counts: [0; 3], root: -1, leaf: -1, address: -1 };
     let (mut lines, mut met) = (Vec::new(), Vec::new());
     for root in 0..roots[0].len() {
-        sides.iter_mut().for_each(|side| side.sweep(side.roots[root], &mut met));
+        judges.iter_mut().for_each(|judge| judge.sweep(root, &mut met));
         met.sort_unstable();
         met.dedup();
-        let (mut kept, mut lists, mut judged) = (None, [Vec::new(), Vec::new()], 0);
         for group in met.drain(..) {
-            // The same parts of the same lists at the same distance: the verdict before.
-            let [one, other] = [0, 1].map(|side: usize| sides[side].part_at(group));
-            let parts = one.zip(other).map(|(one, other)| (one.0, other.0, one.1 - other.1));
-            if parts.is_none() || parts != kept {
-                lists = [0, 1].map(|side: usize| sides[side].list_at(group));
-                judged = verdict(&lists[0], &lists[1]);
-                kept = parts;
-            }
+            judges.iter_mut().for_each(|judge| judge.judge(group));
+            let verdict = judges.iter().map(|judge| judge.verdict).max().unwrap_or(0);
             let leaf = groups[group].row;
-            let (spec, implementation) = (lists[0].len(), lists[1].len());
-            if spec + implementation > 0 {
-                lines.push(PairLine { root, leaf, verdict: judged, spec, implementation });
+            let lengths = [0, judges.len() - 1].map(|judge| judges[judge].lengths());
+            if lengths.iter().any(|kind| kind.spec > 0 || kind.implementation > 0) {
+                lines.push(PairLine { root, leaf, verdict, lengths });
             }
             if lines.len() > most {
                 return None;
             }
-            if judged != 0 && outcome.whole == 0 {
+            if verdict != 0 && outcome.whole == 0 {
                 (outcome.root, outcome.leaf) = (root as i64, leaf as i64);
-                outcome.address = lowest_difference(&lists[0], &lists[1]).unwrap_or(-1);
+                let lowest = judges.iter().filter_map(Judge::lowest_difference).min();
+                outcome.address = lowest.unwrap_or(-1);
             }
-            outcome.counts[judged as usize] += 1;
-            outcome.whole = outcome.whole.max(judged);
+            outcome.counts[verdict as usize] += 1;
+            outcome.whole = outcome.whole.max(verdict);
         }
     }
-    // Pairs whose group is not met have two empty lists.
+    // Pairs whose group is not met have empty lists.
     let unequal = outcome.counts[1] + outcome.counts[2];
     outcome.counts[0] = (roots[0].len() * groups.len()) as i64 - unequal;
     Some(Comparison { outcome, lines })

@@ -21,6 +21,21 @@ pub const SPACE: i64 = 0;
 pub const BLOCK: i64 = 2;
 pub const UNITS: [i64; 5] = [8, 16, 32, 64, 128];
 
+/// What may be done at a node.
+pub const READ_AND_WRITE: i64 = 0;
+pub const READ_ONLY: i64 = 1;
+pub const WRITE_ONLY: i64 = 2;
+pub const ACCESSES: [i64; 3] = [READ_AND_WRITE, READ_ONLY, WRITE_ONLY];
+
+/// The kinds of walks, in the order in which a report shows their lists.
+#[derive(Clone, Copy, Debug, PartialEq, Eq)]
+pub enum WalkKind {
+    Reading,
+    Writing,
+}
+
+pub const KINDS: [WalkKind; 2] = [WalkKind::Reading, WalkKind::Writing];
+
 /// Numbers of the tables, as a refusal names them.
 pub const SPEC_NODES: usize = 0;
 pub const SPEC_EDGES: usize = 1;
@@ -31,8 +46,9 @@ pub const LEAF_PAIRS: usize = 5;
 pub const TEXT: usize = 6;
 pub const OUTPUT: usize = 7;
 
-/// Numbers in a row of each of the six tables.
-pub const WIDTHS: [usize; 6] = [4, 3, 4, 3, 3, 3];
+/// Numbers in a row of nodes, and in a row of each of the six tables.
+pub const NODE_WIDTH: usize = 5;
+pub const WIDTHS: [usize; 6] = [NODE_WIDTH, 3, NODE_WIDTH, 3, 3, 3];
 
 /// The names of a table of a text: those that its names line has, and those that it may
 /// have. A row holds its numbers in this order, and 0 under a name that is absent.
@@ -43,7 +59,7 @@ pub struct Names {
 }
 
 pub const NODE_NAMES: Names =
-    Names { required: &["side", "kind", "base", "range", "unit"], optional: &[] };
+    Names { required: &["side", "kind", "base", "range", "unit"], optional: &["access"] };
 pub const EDGE_NAMES: Names = Names { required: &["side", "from", "to", "offset"], optional: &[] };
 pub const PAIR_NAMES: Names = Names { required: &["role", "spec", "impl"], optional: &["at"] };
 
@@ -97,15 +113,21 @@ pub struct BatchRows {
     pub records: usize,
 }
 
-/// A root row and a group with a record on either side: the root row, the group's lowest
-/// leaf row, the verdict, both list lengths.
+/// How many records the lists of one kind of walk have, on either side.
+#[derive(Clone, Copy, Debug, PartialEq, Eq)]
+pub struct Lengths {
+    pub spec: usize,
+    pub implementation: usize,
+}
+
+/// A root row and a group with a record of either kind of walk, on either side: the root row,
+/// the group's lowest leaf row, the verdict, and the list lengths in the order of KINDS.
 #[derive(Clone, Copy, Debug, PartialEq, Eq)]
 pub struct PairLine {
     pub root: usize,
     pub leaf: usize,
     pub verdict: i64,
-    pub spec: usize,
-    pub implementation: usize,
+    pub lengths: [Lengths; 2],
 }
 
 /// Counts of the verdicts by verdict, the whole verdict, and root row, lowest leaf row
@@ -127,11 +149,22 @@ pub struct Comparison {
 
 // Graphs
 
-/// A node's kind and its first and last bit.
+/// A node's kind, its first and last bit, and what may be done there.
 pub(crate) struct Node {
     kind: i64,
     pub(crate) first: i64,
     pub(crate) last: i64,
+    access: i64,
+}
+
+impl Node {
+    /// A walk of that kind may stand on the node.
+    pub(crate) fn is_open(&self, kind: WalkKind) -> bool {
+        match kind {
+            WalkKind::Reading => self.access != WRITE_ONLY,
+            WalkKind::Writing => self.access != READ_ONLY,
+        }
+    }
 }
 
 /// An edge as its start holds it: where it goes, and its offset in bits.
@@ -158,9 +191,10 @@ fn check_shape(table: &[i64], number: usize, limit: usize) -> Result<(), Refusal
 }
 
 fn valid_node(node: &[i64]) -> bool {
-    let (kind, base, range, unit) = (node[0], node[1], node[2], node[3]);
+    let (kind, base, range, unit, access) = (node[0], node[1], node[2], node[3], node[4]);
     (0..=BLOCK).contains(&kind)
         && UNITS.contains(&unit)
+        && ACCESSES.contains(&access)
         && base >= 0
         && range >= 1
         && base as i128 + range as i128 <= MAX_UNITS as i128
@@ -184,13 +218,13 @@ impl Graph {
             entered: Vec::new(),
             order: Vec::new(),
         };
-        for (row, node) in nodes.chunks(4).enumerate() {
+        for (row, node) in nodes.chunks(NODE_WIDTH).enumerate() {
             if !valid_node(node) {
                 return Err(refusal(2, node_table, row));
             }
-            let (kind, base, range, unit) = (node[0], node[1], node[2], node[3]);
+            let (kind, base, range, unit, access) = (node[0], node[1], node[2], node[3], node[4]);
             let (first, last) = (base * unit, (base + range) * unit - 1);
-            graph.nodes.push(Node { kind, first, last });
+            graph.nodes.push(Node { kind, first, last, access });
             graph.leaving.push(Vec::new());
             graph.entered.push(false);
         }
@@ -202,7 +236,7 @@ impl Graph {
             if graph.nodes[from].kind == BLOCK {
                 return Err(refusal(4, edge_table, row));
             }
-            let offset = edge[2] * nodes[to * 4 + 3];
+            let offset = edge[2] * nodes[to * NODE_WIDTH + 3];
             graph.leaving[from].push(Edge { to, offset });
             graph.entered[to] = true;
         }
@@ -276,16 +310,16 @@ impl Graph {
         leads
     }
 
-    /// Lists the paths from a node depth first. The root bits alive so far are
-    /// first..=last; a root bit is `shift` above the address at the node. Each path
-    /// that ends alive at a leaf gives one run to that leaf's entry of `found`.
+    /// Lists the paths from a node depth first, for walks of one kind. The root bits alive
+    /// so far are first..=last; a root bit is `shift` above the address at the node. Each
+    /// path that ends alive at a leaf gives one run to that leaf's entry of `found`.
     fn collect(
-        &self, node: usize, (first, last, shift): (i64, i64, i64), leads: &[bool],
+        &self, kind: WalkKind, node: usize, (first, last, shift): (i64, i64, i64), leads: &[bool],
         found: &mut [Vec<Record>],
     ) {
         let first = first.max(self.nodes[node].first + shift);
         let last = last.min(self.nodes[node].last + shift);
-        if !leads[node] || first > last {
+        if !leads[node] || first > last || !self.nodes[node].is_open(kind) {
             return;
         }
         if self.nodes[node].kind == BLOCK {
@@ -294,22 +328,25 @@ impl Graph {
         }
         for edge in &self.leaving[node] {
             if leads[edge.to] {
-                self.collect(edge.to, (first, last, shift + edge.offset), leads, found);
+                self.collect(kind, edge.to, (first, last, shift + edge.offset), leads, found);
             }
         }
     }
 
-    /// Adds the leaf bits that one address at a node reaches.
-    fn collect_bits(&self, node: usize, address: i64, leads: &[bool], found: &mut Vec<i64>) {
-        let Node { kind, first, last } = self.nodes[node];
-        if !leads[node] || !(first..=last).contains(&address) {
+    /// Adds the leaf bits that a walk of one kind reaches from one address at a node.
+    fn collect_bits(
+        &self, kind: WalkKind, node: usize, address: i64, leads: &[bool], found: &mut Vec<i64>,
+    ) {
+        let here = &self.nodes[node];
+        let stands = here.is_open(kind) && here.first <= address && address <= here.last;
+        if !leads[node] || !stands {
             return;
         }
-        if kind == BLOCK {
-            found.push(address - first);
+        if here.kind == BLOCK {
+            found.push(address - here.first);
         }
         for edge in &self.leaving[node] {
-            self.collect_bits(edge.to, address - edge.offset, leads, found);
+            self.collect_bits(kind, edge.to, address - edge.offset, leads, found);
         }
     }
 
@@ -329,14 +366,15 @@ pub fn check(nodes: &[i64], edges: &[i64]) -> Result<(), Refusal> {
     Graph::new(nodes, edges, SPEC_NODES).map(|_| ())
 }
 
-/// The distinct leaf bits, ascending, that an address reaches; `room` is how many fit.
+/// The distinct leaf bits, ascending, that an address reaches by walks of one kind; `room` is
+/// how many fit.
 pub fn walk(
-    nodes: &[i64], edges: &[i64], root: i64, leaf: i64, address: i64, room: usize,
+    nodes: &[i64], edges: &[i64], root: i64, leaf: i64, address: i64, kind: WalkKind, room: usize,
 ) -> Result<Vec<i64>, Refusal> {
     let graph = Graph::new(nodes, edges, SPEC_NODES)?;
     let (root, leaf) = graph.named(root, leaf)?;
     let mut bits = Vec::new();
-    graph.collect_bits(root, address, &graph.leads_to(&[leaf]), &mut bits);
+    graph.collect_bits(kind, root, address, &graph.leads_to(&[leaf]), &mut bits);
     bits.sort_unstable();
     bits.dedup();
     if bits.len() > room {
@@ -403,12 +441,13 @@ impl<'a> Lister<'a> {
         Lister { graph, groups, leads }
     }
 
-    /// The list of the root with each of the groups: that of what all its banks reach.
-    fn lists(&self, root: usize) -> Vec<Vec<Record>> {
+    /// The list of the root with each of the groups, for walks of one kind: that of what all
+    /// its banks reach.
+    fn lists(&self, root: usize, kind: WalkKind) -> Vec<Vec<Record>> {
         let mut found = vec![Vec::new(); self.graph.nodes.len()];
         let Node { first, last, .. } = self.graph.nodes[root];
         for leads in &self.leads {
-            self.graph.collect(root, (first, last, 0), leads, &mut found);
+            self.graph.collect(kind, root, (first, last, 0), leads, &mut found);
         }
         let mut runs_to = |&Bank { leaf, at }: &Bank| {
             let mut runs = take(&mut found[leaf]);
@@ -420,30 +459,32 @@ impl<'a> Lister<'a> {
     }
 }
 
-/// The list of a root and a leaf; `room` counts numbers, three for each record.
+/// The list of a root and a leaf for walks of one kind; `room` counts numbers, three for each
+/// record.
 pub fn list(
-    nodes: &[i64], edges: &[i64], root: i64, leaf: i64, room: usize,
+    nodes: &[i64], edges: &[i64], root: i64, leaf: i64, kind: WalkKind, room: usize,
 ) -> Result<Vec<Record>, Refusal> {
     let graph = Graph::new(nodes, edges, SPEC_NODES)?;
     let (root, leaf) = graph.named(root, leaf)?;
     let alone = [Bank { leaf, at: 0 }];
     let lister = Lister::new(&graph, vec![&alone], Listing::ByPair);
-    let list = lister.lists(root).remove(0);
+    let list = lister.lists(root, kind).remove(0);
     if list.len() * 3 > room {
         return Err(refusal(11, OUTPUT, 0));
     }
     Ok(list)
 }
 
-/// The rows of a batch of addresses, record by record and within a record by place; `room`
-/// counts numbers, two for each row.
+/// The rows of a batch of addresses for walks of one kind, record by record and within a
+/// record by place; `room` counts numbers, two for each row.
 pub fn batch(
-    nodes: &[i64], edges: &[i64], root: i64, leaf: i64, addresses: &[i64], room: usize,
+    nodes: &[i64], edges: &[i64], root: i64, leaf: i64, addresses: &[i64], kind: WalkKind,
+    room: usize,
 ) -> Result<BatchRows, Refusal> {
     if addresses.len() > MAX_BATCH {
         return Err(refusal(19, OUTPUT, 0));
     }
-    let list = list(nodes, edges, root, leaf, usize::MAX)?;
+    let list = list(nodes, edges, root, leaf, kind, usize::MAX)?;
     let mut rows = Vec::new();
     for record in &list {
         for (place, &address) in addresses.iter().enumerate() {
@@ -627,7 +668,7 @@ pub(crate) fn check_tables(tables: &Tables) -> Result<([Graph; 2], Pairing), Ref
 }
 
 /// Refusal 10, by root rows and groups in visiting order, the specification first. A
-/// group's paths are those to all its banks together.
+/// group's paths are those to all its banks together, whether a walk may take them or not.
 pub(crate) fn check_paths(graphs: &[Graph; 2], pairing: &Pairing) -> Result<(), Refusal> {
     let Pairing { roots, groups } = pairing;
     let mut counted = [0, 1].map(|side: usize| vec![false; graphs[side].nodes.len()]);
@@ -664,26 +705,47 @@ pub fn compare_by(tables: &Tables, listing: Listing) -> Result<Comparison, Refus
     Ok(judge_pairs(&graphs, &pairing, listing))
 }
 
+/// The kinds of walks that are to be judged: the first alone where every node is open to both,
+/// since then their lists are the same.
+pub(crate) fn kinds_to_judge(graphs: &[Graph; 2]) -> &'static [WalkKind] {
+    let mut nodes = graphs.iter().flat_map(|graph| &graph.nodes);
+    let open = nodes.all(|node| node.access == READ_AND_WRITE);
+    &KINDS[..if open { 1 } else { 2 }]
+}
+
+/// The lists of a pair by one kind of walk, the specification's first.
+type Lists = [Vec<Record>; 2];
+
 fn judge_pairs(graphs: &[Graph; 2], pairing: &Pairing, listing: Listing) -> Comparison {
     let Pairing { roots, groups } = pairing;
     let spec = Lister::new(&graphs[0], pairing.banks(0), listing);
     let implementation = Lister::new(&graphs[1], pairing.banks(1), listing);
+    let kinds = kinds_to_judge(graphs);
     let mut outcome = Outcome { whole: 0, counts: [0; 3], root: -1, leaf: -1, address: -1 };
     let mut lines = Vec::new();
     for (root, (&spec_root, &impl_root)) in roots[0].iter().zip(&roots[1]).enumerate() {
-        let lists = spec.lists(spec_root).into_iter().zip(implementation.lists(impl_root));
-        for (leaf, (spec, implementation)) in groups.iter().map(|group| group.row).zip(lists) {
-            let verdict = verdict(&spec, &implementation);
+        let of_kind = |&kind: &WalkKind| -> Vec<Lists> {
+            let spec = spec.lists(spec_root, kind).into_iter();
+            spec.zip(implementation.lists(impl_root, kind)).map(Into::into).collect()
+        };
+        let by_kind: Vec<Vec<Lists>> = kinds.iter().map(of_kind).collect();
+        for (place, leaf) in groups.iter().map(|group| group.row).enumerate() {
+            let lists = || by_kind.iter().map(|lists| &lists[place]);
+            let verdict = lists().map(|[spec, built]| verdict(spec, built)).max().unwrap_or(0);
             if verdict != 0 && outcome.whole == 0 {
+                let lowest = lists().filter_map(|[spec, built]| lowest_difference(spec, built));
                 outcome.root = root as i64;
                 outcome.leaf = leaf as i64;
-                outcome.address = lowest_difference(&spec, &implementation).unwrap_or(-1);
+                outcome.address = lowest.min().unwrap_or(-1);
             }
             outcome.counts[verdict as usize] += 1;
             outcome.whole = outcome.whole.max(verdict);
-            let (spec, implementation) = (spec.len(), implementation.len());
-            if spec + implementation > 0 {
-                lines.push(PairLine { root, leaf, verdict, spec, implementation });
+            let lengths = [0, kinds.len() - 1].map(|kind| {
+                let [spec, built] = &by_kind[kind][place];
+                Lengths { spec: spec.len(), implementation: built.len() }
+            });
+            if lengths.iter().any(|kind| kind.spec + kind.implementation > 0) {
+                lines.push(PairLine { root, leaf, verdict, lengths });
             }
         }
     }
@@ -800,10 +862,11 @@ pub fn parse(text: &[u8]) -> Result<Tables, Refusal> {
 // Reports
 
 pub fn report(comparison: &Comparison) -> Vec<u8> {
-    let mut report = String::from("root leaf verdict spec impl\n");
-    for line in &comparison.lines {
-        let PairLine { root, leaf, verdict, spec, implementation } = line;
-        report += &format!("{root} {leaf} {verdict} {spec} {implementation}\n");
+    let mut report = String::from("root leaf verdict rspec rimpl wspec wimpl\n");
+    for PairLine { root, leaf, verdict, lengths: [reading, writing] } in &comparison.lines {
+        report += &format!("{root} {leaf} {verdict}");
+        report += &format!(" {} {}", reading.spec, reading.implementation);
+        report += &format!(" {} {}\n", writing.spec, writing.implementation);
     }
     report += "\nverdict equal partial different root leaf address\n";
     let Outcome { whole, counts: [equal, partial, different], root, leaf, address } =

@@ -2,7 +2,9 @@
 //! meets in their order, and the two tables of the specification graph that it makes.
 
 use crate::reference::{check_bytes, columns, lines_of, refusal, values, Names, Refusal};
-use crate::reference::{BLOCK, MAX_EDGES, OUTPUT, SPACE, SPEC_EDGES, TEXT};
+use crate::reference::{
+    BLOCK, MAX_EDGES, NODE_WIDTH, OUTPUT, READ_AND_WRITE, SPACE, SPEC_EDGES, TEXT,
+};
 
 pub const SHEET_NAMES: Names =
     Names { required: &["initiator", "block", "base", "size"], optional: &[] };
@@ -72,13 +74,13 @@ pub fn tables(lines: &[Line]) -> [Vec<i64>; 2] {
     let initiators = ascending(lines.iter().map(|line| line.initiator));
     let blocks = ascending(lines.iter().map(|line| line.block));
     let row_in = |numbers: &[i64], number| numbers.partition_point(|&other| other < number);
-    let mut nodes = [SPACE, 0, SHEET_BYTES, BYTE].repeat(initiators.len());
-    nodes.extend([BLOCK, 0, 0, BYTE].repeat(blocks.len()));
+    let mut nodes = [SPACE, 0, SHEET_BYTES, BYTE, READ_AND_WRITE].repeat(initiators.len());
+    nodes.extend([BLOCK, 0, 0, BYTE, READ_AND_WRITE].repeat(blocks.len()));
     let mut edges = Vec::new();
     for Line { initiator, block, base, size } in lines {
         let from = row_in(&initiators, *initiator);
         let to = initiators.len() + row_in(&blocks, *block);
-        nodes[to * 4 + 2] = *size;
+        nodes[to * NODE_WIDTH + 2] = *size;
         edges.extend([from as i64, to as i64, *base]);
     }
     [nodes, edges]

@@ -4,14 +4,14 @@
 
 #[cfg(benchcalls_library)]
 use crate::large::Batch;
-#[cfg(benchcalls_library)]
-use crate::library::benchcalls_batch;
 #[cfg(healdrip_library)]
 use crate::library::healdrip_text_check;
+#[cfg(benchcalls_library)]
+use crate::library::{benchcalls_batch, kind_number};
 use std::arch::asm;
 
 /// In bytes, twice what a call may take.
-const ROOM: usize = 2_000_000;
+const ROOM: usize = 2_400_000;
 /// The stack's end is a multiple of this, so that the figure is the same in each run.
 const ALIGNMENT: usize = 4_096;
 /// A byte that is written as it was painted looks untouched: two paints are tried.
@@ -19,8 +19,7 @@ const PAINTS: [u8; 2] = [0x5a, 0xa5];
 /// Bytes of an argument on the stack.
 const WORD: usize = 8;
 
-/// A C call and its arguments: the first six in registers, the others on the stack, an
-/// even number of them.
+/// A C call and its arguments: the first six in registers, the others on the stack.
 struct Call<'a> {
     function: *const (),
     registers: [usize; 6],
@@ -46,7 +45,8 @@ pub fn of_batch(batch: &Batch, out: &mut [i64]) -> usize {
     let registers =
         [nodes.as_ptr() as usize, nodes.len(), edges.as_ptr() as usize, edges.len(), root, leaf];
     let out_start = out.as_mut_ptr() as usize;
-    let pushed = &[addresses.as_ptr() as usize, addresses.len(), out_start, out.len()];
+    let kind = kind_number(batch.graph.kind) as usize;
+    let pushed = &[addresses.as_ptr() as usize, addresses.len(), kind, out_start, out.len()];
     let call = Call { function: benchcalls_batch as *const (), registers, pushed };
     // SAFETY: these are the arguments of the call, and every slice is valid for its length.
     unsafe { of_call(&call) }
@@ -70,7 +70,8 @@ unsafe fn of_call(call: &Call) -> usize {
 unsafe fn painted(paint: u8, call: &Call) -> usize {
     let mut stack = vec![paint; ROOM + ALIGNMENT];
     let length = ROOM + stack[ROOM..].as_ptr().align_offset(ALIGNMENT);
-    let start = length - WORD * call.pushed.len();
+    // At a call the stack pointer is a multiple of two words.
+    let start = length - WORD * call.pushed.len().next_multiple_of(2);
     for (word, argument) in stack[start..length].chunks_mut(WORD).zip(call.pushed) {
         word.copy_from_slice(&argument.to_ne_bytes());
     }

@@ -10,8 +10,8 @@ use host::faults::{base, table_faults};
 use host::generate::{raised, small_map, Draft, Random};
 use host::large::{batches, Batch, P1};
 use host::library;
-use host::reference::{self, parse, refusal, BatchRows, Record, Refusal, Tables};
-use host::reference::{IMPL_NODES, LEAF_PAIRS, MAX_BATCH, OUTPUT, ROOT_PAIRS, SPEC_EDGES};
+use host::reference::{self, parse, refusal, BatchRows, Record, Refusal, Tables, WalkKind};
+use host::reference::{IMPL_NODES, KINDS, LEAF_PAIRS, MAX_BATCH, OUTPUT, ROOT_PAIRS, SPEC_EDGES};
 use host::stack;
 
 const MAPS: u64 = 3_000;
@@ -29,20 +29,28 @@ struct Asked {
     root: i64,
     leaf: i64,
     addresses: Vec<i64>,
+    kind: WalkKind,
 }
 
 impl Asked {
     /// The library's call, which changes nothing of what it is given but the buffer.
     fn call(&self, out: &mut [i64]) -> i64 {
-        let Asked { nodes, edges, root, leaf, addresses } = self.clone();
-        let answer = library::batch(&nodes, &edges, root, leaf, &addresses, out);
+        let Asked { nodes, edges, root, leaf, addresses, kind } = self.clone();
+        let kind = library::kind_number(kind);
+        let answer = library::batch(&nodes, &edges, root, leaf, &addresses, kind, out);
         assert!(nodes == self.nodes && edges == self.edges && addresses == self.addresses);
         answer
     }
 
     /// What the reference gives, its rows held to single walks.
     fn rows(&self) -> Result<BatchRows, Refusal> {
-        batch_rows(&self.nodes, &self.edges, self.root, self.leaf, &self.addresses)
+        let Asked { nodes, edges, root, leaf, addresses, kind } = self;
+        batch_rows(nodes, edges, *root, *leaf, addresses, *kind)
+    }
+
+    /// The same call for each kind of walk.
+    fn of_each_kind(&self) -> [Asked; 2] {
+        KINDS.map(|kind| Asked { kind, ..self.clone() })
     }
 
     /// Holds the library to these rows, with buffers of every length up to some more than
@@ -54,10 +62,15 @@ impl Asked {
     }
 
     /// Holds the library and the reference to rows that were typed in.
-    fn check_typed(&self, rows: &[[i64; 2]], records: usize) {
+    fn check_rows(&self, rows: &[[i64; 2]], records: usize) {
         let expected = Ok(BatchRows { rows: rows.to_vec(), records });
         assert_eq!(self.rows(), expected);
         self.check(expected);
+    }
+
+    /// The same for both kinds of walks, where every node is open.
+    fn check_typed(&self, rows: &[[i64; 2]], records: usize) {
+        self.of_each_kind().iter().for_each(|asked| asked.check_rows(rows, records));
     }
 }
 
@@ -69,14 +82,15 @@ fn on_side(tables: &Tables, side: usize, addresses: &[i64]) -> Asked {
         root: tables[ROOT_PAIRS][side],
         leaf: tables[LEAF_PAIRS][side],
         addresses: addresses.to_vec(),
+        kind: WalkKind::Reading,
     }
 }
 
 /// A batch of the benchmark.
 fn of_batch(batch: &Batch) -> Asked {
     let (nodes, edges) = (batch.graph.nodes.clone(), batch.graph.edges.clone());
-    let (root, leaf) = (batch.graph.root, batch.graph.leaf);
-    Asked { nodes, edges, root, leaf, addresses: batch.addresses.clone() }
+    let (root, leaf, kind) = (batch.graph.root, batch.graph.leaf, batch.graph.kind);
+    Asked { nodes, edges, root, leaf, addresses: batch.addresses.clone(), kind }
 }
 
 /// A root of 32 bits before a leaf of 16. The records, with displacement: 0..7 (-8), 0..15
@@ -86,8 +100,33 @@ fn aliased(addresses: &[i64]) -> Asked {
     let (root, leaf) = (draft.root(0, 4, 8), draft.leaf(0, 2, 8));
     [3, 0, 1, -1, 0].into_iter().for_each(|offset| draft.join(root, leaf, offset));
     let (nodes, edges) = (draft.node_table(), draft.edge_table());
-    let (root, leaf) = (root as i64, leaf as i64);
-    Asked { nodes, edges, root, leaf, addresses: addresses.to_vec() }
+    let (root, leaf, kind) = (root as i64, leaf as i64, WalkKind::Reading);
+    Asked { nodes, edges, root, leaf, addresses: addresses.to_vec(), kind }
+}
+
+/// A root of 64 bits, and a leaf of 32 bits behind two segments: the first, read only, shows
+/// bits 0 to 31, the second, write only, bits 16 to 47 as bits 8 on.
+#[test]
+fn rows_of_either_kind() {
+    let nodes = [[0, 0, 8, 8, 0], [1, 0, 4, 8, 1], [1, 2, 4, 8, 2], [2, 0, 4, 8, 0]].concat();
+    let edges = [[0, 1, 0], [0, 2, 0], [1, 3, 0], [2, 3, 1]].concat();
+    let addresses = vec![20, 0, 16, 31, 32, 39, 40, 47, 8];
+    let asked = Asked { nodes, edges, root: 0, leaf: 3, addresses, kind: WalkKind::Reading };
+    let [reading, writing] = asked.of_each_kind();
+    reading.check_rows(&[[0, 20], [1, 0], [2, 16], [3, 31], [8, 8]], 1);
+    // Addresses 40 and 47 are behind the last bit of the leaf.
+    writing.check_rows(&[[0, 12], [2, 8], [3, 23], [4, 24], [5, 31]], 1);
+    // The root write only and the first segment open; then the leaf read only as well.
+    let mut closed = asked.clone();
+    (closed.nodes[4], closed.nodes[9]) = (2, 0);
+    let [reading, writing] = closed.of_each_kind();
+    reading.check_rows(&[], 0);
+    writing.check_rows(
+        &[[0, 20], [1, 0], [2, 16], [3, 31], [8, 8], [0, 12], [2, 8], [3, 23], [4, 24], [5, 31]],
+        2,
+    );
+    closed.nodes[19] = 1;
+    closed.check_typed(&[], 0);
 }
 
 #[test]
@@ -115,11 +154,11 @@ fn addresses_of_any_size() {
         for far in FAR {
             for addresses in [vec![far], vec![far; 3], vec![16, far, 17], [far; 512].to_vec()] {
                 let asked = on_side(&tables, side, &addresses);
-                asked.check(asked.rows());
+                asked.of_each_kind().iter().for_each(|asked| asked.check(asked.rows()));
             }
         }
         let asked = on_side(&tables, side, &FAR);
-        asked.check(asked.rows());
+        asked.of_each_kind().iter().for_each(|asked| asked.check(asked.rows()));
     }
 }
 
@@ -187,10 +226,14 @@ fn faults() -> Vec<(Refusal, Fault)> {
 /// Holds the library and the reference to a refusal, or to so many rows of one record.
 fn check_refused(asked: &WithRoom, expected: Result<usize, Refusal>) {
     let WithRoom { tables: [nodes, edges, ..], root, leaf, addresses, room } = asked;
-    let given = reference::batch(nodes, edges, *root, *leaf, addresses, *room);
-    assert_eq!(given.as_ref().map(|batch| batch.rows.len()), expected.as_ref().copied());
-    let call = |out: &mut [i64]| library::batch(nodes, edges, *root, *leaf, addresses, out);
-    check_rooms(&full_batch(given), [*room], call);
+    for kind in KINDS {
+        let given = reference::batch(nodes, edges, *root, *leaf, addresses, kind, *room);
+        assert_eq!(given.as_ref().map(|batch| batch.rows.len()), expected.as_ref().copied());
+        let kind = library::kind_number(kind);
+        let call =
+            |out: &mut [i64]| library::batch(nodes, edges, *root, *leaf, addresses, kind, out);
+        check_rooms(&full_batch(given), [*room], call);
+    }
 }
 
 #[test]
@@ -198,7 +241,7 @@ fn refusals_in_their_order() {
     check_refused(&without_fault(), Ok(512));
     let faults = faults();
     let numbers: Vec<i64> = faults.iter().map(|(told, _)| told.number).collect();
-    assert_eq!(numbers, [19, 1, 1, 2, 2, 4, 3, 3, 4, 5, 6, 7, 7, 10, 11]);
+    assert_eq!(numbers, [19, 1, 1, 2, 2, 2, 2, 4, 3, 3, 4, 5, 6, 7, 7, 10, 11]);
     for (place, (told, earlier)) in faults.iter().enumerate() {
         for (_, later) in &faults[place..] {
             let mut asked = without_fault();
@@ -260,7 +303,7 @@ impl Seen {
 
 #[test]
 fn generated_batches() {
-    let mut seen = Seen::default();
+    let mut seen = [Seen::default(), Seen::default()];
     for seed in 0..MAPS {
         let random = &mut Random::new(900_000 + seed);
         let mut tables = small_map(random);
@@ -268,18 +311,22 @@ fn generated_batches() {
             tables = raised(random, &tables);
         }
         for side in 0..2 {
-            let mut asked = on_side(&tables, side, &[]);
-            let Asked { nodes, edges, root, leaf, .. } = &asked;
-            let list = reference::list(nodes, edges, *root, *leaf, usize::MAX);
-            asked.addresses = drawn(random, &list.expect("the map is taken"));
-            let expected = asked.rows();
-            seen.add(&asked.addresses, &expected.as_ref().expect("the map is taken").rows);
-            asked.check(expected);
+            let [reading, writing] = on_side(&tables, side, &[]).of_each_kind();
+            for (kind, mut asked) in [reading, writing].into_iter().enumerate() {
+                let Asked { nodes, edges, root, leaf, kind: walks, .. } = &asked;
+                let list = reference::list(nodes, edges, *root, *leaf, *walks, usize::MAX);
+                asked.addresses = drawn(random, &list.expect("the map is taken"));
+                let expected = asked.rows();
+                let rows = &expected.as_ref().expect("the map is taken").rows;
+                seen[kind].add(&asked.addresses, rows);
+                asked.check(expected);
+            }
         }
     }
     println!("{seen:?}");
-    let Seen { equal, several, shared, behind } = seen;
-    assert!(equal.min(several).min(shared).min(behind) > MAPS / 10, "{seen:?}");
+    for Seen { equal, several, shared, behind } in &seen {
+        assert!(equal.min(several).min(shared).min(behind) > &(MAPS / 10), "{seen:?}");
+    }
 }
 
 #[test]

@@ -113,6 +113,9 @@ fn printed_tables(text: &[u8]) -> String {
         Err(refusal) => return as_text(&refusal_report(&refusal)),
     };
     let [nodes, edges] = tables(&lines);
+    // The tables of a sheet have no column access, since every node is open.
+    assert!(nodes.chunks(5).all(|node| node[4] == 0));
+    let nodes: Vec<i64> = nodes.chunks(5).flat_map(|node| &node[..4]).copied().collect();
     let nodes = side_0("side kind base range unit", &nodes, 4);
     format!("{nodes}\n{}", side_0("side from to offset", &edges, 3))
 }

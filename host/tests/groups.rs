@@ -1,5 +1,8 @@
 //! Groups of banks: maps with what they print, typed in by hand, and lent pair rows.
 
+mod both_kinds;
+
+use both_kinds::{list, walk};
 use host::bitwalk;
 use host::generate::banked;
 use host::grouped::{cases, Case};

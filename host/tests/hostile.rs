@@ -31,7 +31,7 @@ type Answer = Result<Lines, [usize; 3]>;
 
 /// Name, root rows and groups, and the answer. Turned round the rows are exchanged, and
 /// nothing else.
-const EXPECTED: [(&str, [usize; 2], Answer); 25] = [
+const EXPECTED: [(&str, [usize; 2], Answer); 31] = [
     // Four roots reach every leaf, each by one record.
     ("roots in gaps of a hub", [570, 570], Ok((4 * 570, 0, 1))),
     ("roots in gaps behind 2 hubs", [570, 570], Ok((4 * 570, 0, 1))),
@@ -43,7 +43,7 @@ const EXPECTED: [(&str, [usize; 2], Answer); 25] = [
     ("nodes that fill an arena", [505, 505], Ok((4 * 505, 0, 1))),
     ("nodes that fill an arena, 4 hubs", [505, 505], Ok((4 * 505, 0, 1))),
     // Each record of the implementation is one unit shorter.
-    ("each root another part of a hub", [500, 8], Ok((500 * 8, 1, 512))),
+    ("each root another part of a hub", [340, 8], Ok((340 * 8, 1, 512))),
     // Four leaves are reached by every root, each by a record for each way.
     ("wide roots, leaves in gaps of a hub", [570, 570], Ok((4 * 570, 0, 31))),
     // Four leaves are reached by every root, each over one edge, and one beside them.
@@ -54,31 +54,60 @@ const EXPECTED: [(&str, [usize; 2], Answer); 25] = [
     ("refusal 10 at the last pair", [570, 570], Err([10, IMPL_EDGES, 569_569])),
     // The digits 00 to 42 stand six times on either side, the others five times.
     ("chain of 64, mostly empty", [543, 543], Ok((43 * 36 + 57 * 25, 0, 1))),
-    // The digits 00 to 24 stand seven times on either side, the others six times.
-    ("hub, mostly empty", [625, 625], Ok((25 * 49 + 75 * 36, 0, 1))),
+    // All digits stand six times on either side.
+    ("hub, mostly empty", [600, 600], Ok((100 * 36, 0, 1))),
     // Each bank brings a record of its own.
     ("banks in reverse", [650, 1], Ok((650, 0, 650))),
     ("banks in no order", [650, 1], Ok((650, 0, 650))),
     // Each record of the implementation is one unit shorter.
-    ("32 banks of 32 records", [310, 10], Ok((310 * 10, 1, 1_024))),
-    ("100 banks of 10 records", [310, 10], Ok((310 * 10, 1, 1_000))),
+    ("32 banks of 32 records", [230, 10], Ok((230 * 10, 1, 1_024))),
+    ("100 banks of 10 records", [230, 10], Ok((230 * 10, 1, 1_000))),
     // Four roots reach every group, in both banks alike.
     ("roots in gaps of a hub, two banks", [650, 325], Ok((4 * 325, 0, 1))),
     // Every root reaches the later banks of the first four groups, and nothing else.
     ("roots in gaps of a hub, two banks, turned", [650, 325], Ok((4 * 650, 0, 1))),
     ("refusal 10 at the last group", [650, 325], Err([10, IMPL_EDGES, 649_324])),
+    // As without the access.
+    ("roots in gaps, one access", [530, 530], Ok((4 * 530, 0, 1))),
+    ("nodes that fill an arena, 4 hubs, one access", [460, 460], Ok((4 * 460, 0, 1))),
+    ("each root another part of a hub, one access", [340, 8], Ok((340 * 8, 1, 512))),
+    // Each record of the implementation has another displacement.
+    ("400 leaves, 300 ways, all unequal", [1, 400], Ok((400, 2, 300))),
+    ("400 leaves, 300 ways, all unequal, one access", [1, 400], Ok((400, 2, 300))),
+    // Two of the four roots are behind hubs that are read only.
+    (EITHER_KIND, [530, 530], Ok((4 * 530, 0, 1))),
 ];
+
+/// Half of its lines have their records by reading alone, and half by writing alone.
+const EITHER_KIND: &str = "roots in gaps behind 4 hubs of either kind";
+
+/// How the lines of a report end, each as often as the others.
+fn line_ends(name: &str, verdict: i64, records: usize) -> Vec<String> {
+    let lengths = if name.starts_with(EITHER_KIND) {
+        vec![[records, 0], [0, records]]
+    } else {
+        vec![[records; 2]]
+    };
+    let end = |[read, written]: [usize; 2]| format!(" {verdict} {read} {read} {written} {written}");
+    lengths.into_iter().map(end).collect()
+}
 
 /// Every line of a report and the counts of its last line.
 fn check_report(name: &str, report: &[u8], pairs: usize, (lines, verdict, records): Lines) {
     let report = String::from_utf8(report.to_vec()).expect(name);
     let (upper, lower) = report.split_once("\n\n").expect(name);
-    let end = format!(" {verdict} {records} {records}");
-    assert!(upper.lines().skip(1).all(|line| line.ends_with(&end)), "{name}");
+    let ends = line_ends(name, verdict, records);
+    for end in &ends {
+        let alike = upper.lines().skip(1).filter(|line| line.ends_with(end)).count();
+        assert_eq!(alike * ends.len(), lines, "{name}");
+    }
     assert_eq!(upper.lines().count(), 1 + lines, "{name}");
-    // Where they are unequal, the first record has 2 units, and 3 in the specification.
-    let (unequal, place) = if verdict == 0 { (0, "-1 -1 -1") } else { (lines, "0 0 16") };
-    let last = format!("{verdict} {} {unequal} 0 {place}", pairs - unequal);
+    let [partial, different] = [1, 2].map(|number| if verdict == number { lines } else { 0 });
+    // Where they are partial, the first record has 2 units, and 3 in the specification; where
+    // they are different, the first record is of unit 2,000.
+    let place = ["-1 -1 -1", "0 0 16", "0 0 16000"][verdict as usize];
+    let equal = pairs - partial - different;
+    let last = format!("{verdict} {equal} {partial} {different} {place}");
     assert_eq!(lower.lines().last(), Some(last.as_str()), "{name}");
 }
 
@@ -209,7 +238,7 @@ fn layers_of_windows() {
         shares[comparison.outcome.whole as usize] += 1;
         pairs += root_rows(&tables) * groups(&tables);
         lines += comparison.lines.len();
-        records += comparison.lines.iter().map(|line| line.spec).sum::<usize>();
+        records += comparison.lines.iter().map(|line| line.lengths[0].spec).sum::<usize>();
     }
     println!(
         "equal, partial, different {shares:?}; {pairs} pairs, {lines} lines, {records} records"
@@ -227,7 +256,8 @@ fn maps_that_fill_an_arena() {
     for seed in 0..maps {
         let Ok(comparison) = check(&filling_map(&mut Random::new(seed))) else { continue };
         // Each node of 32 records has a leaf that sees them all.
-        let nodes = comparison.lines.iter().filter(|line| line.root == 0 && line.spec == 32);
+        let of_first = comparison.lines.iter().filter(|line| line.root == 0);
+        let nodes = of_first.filter(|line| line.lengths.iter().any(|kind| kind.spec == 32));
         filled += u64::from(nodes.count() * 32 >= ARENA);
     }
     println!("{filled} of {maps} maps fill an arena");

@@ -2,8 +2,8 @@
 
 use host::bitwalk;
 use host::large::{deep_maps, maps, narrow_maps, small_versions, Map};
-use host::reference::{compare, list, text_check, Outcome, PairLine, Record};
-use host::reference::{LEAF_PAIRS, MAX_TEXT, REPORT_ROOM, ROOT_PAIRS};
+use host::reference::{compare, list, text_check, Lengths, Outcome, PairLine, Record};
+use host::reference::{KINDS, LEAF_PAIRS, MAX_TEXT, REPORT_ROOM, ROOT_PAIRS};
 
 /// Name, counts of the verdicts, pairs with a record, records of the implementation.
 const EXPECTED: [(&str, [i64; 3], usize, usize); 25] = [
@@ -95,8 +95,10 @@ fn outcomes() {
         let Outcome { whole, counts: found, .. } = comparison.outcome;
         assert_eq!((found, comparison.lines.len()), (counts, lines), "{name}");
         assert_eq!(whole, i64::from(counts[1] > 0), "{name}");
-        let found: usize = comparison.lines.iter().map(|line| line.implementation).sum();
-        assert_eq!(found, records, "{name}");
+        for kind in 0..2 {
+            let records_of = |line: &PairLine| line.lengths[kind].implementation;
+            assert_eq!(comparison.lines.iter().map(records_of).sum::<usize>(), records, "{name}");
+        }
     }
 }
 
@@ -106,9 +108,8 @@ fn pairs_that_are_all_alike() {
     for (name, verdict, spec, implementation, address) in ALIKE {
         let map = named(&maps, name);
         let comparison = compare(&map.tables).expect(name);
-        let alike = |line: &PairLine| {
-            (line.verdict, line.spec, line.implementation) == (verdict, spec, implementation)
-        };
+        let lengths = [Lengths { spec, implementation }; 2];
+        let alike = |line: &PairLine| (line.verdict, line.lengths) == (verdict, lengths);
         assert_eq!(comparison.lines.len(), map.pairs(), "{name}");
         assert!(comparison.lines.iter().all(alike), "{name}");
         assert_eq!((comparison.outcome.whole, comparison.outcome.address), (verdict, address));
@@ -130,10 +131,13 @@ fn last_records() {
         for (side, expected) in [spec, implementation].into_iter().enumerate() {
             let (root, leaf) = (tables[ROOT_PAIRS][side], tables[LEAF_PAIRS][side]);
             let (nodes, edges) = (&tables[2 * side], &tables[2 * side + 1]);
-            let records = list(nodes, edges, root, leaf, usize::MAX).expect(name);
-            let last = records.into_iter().max_by_key(|record| (record.displacement, record.first));
-            let Record { first, last, displacement } = last.expect(name);
-            assert_eq!([first, last, displacement], expected, "{name}");
+            for kind in KINDS {
+                let records = list(nodes, edges, root, leaf, kind, usize::MAX).expect(name);
+                let by_displacement = |record: &Record| (record.displacement, record.first);
+                let last = records.into_iter().max_by_key(by_displacement);
+                let Record { first, last, displacement } = last.expect(name);
+                assert_eq!([first, last, displacement], expected, "{name}");
+            }
         }
     }
 }

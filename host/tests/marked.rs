@@ -1,12 +1,15 @@
 //! The marked maps P1 to P8, with what they give typed in by hand.
 
+mod both_kinds;
+
+use both_kinds::{list, walk};
 use host::generate::Random;
 use host::large::P1;
 use host::reference::*;
 
 const P1_REPORT: &str = "\
-root leaf verdict spec impl
-0 0 1 1 1
+root leaf verdict rspec rimpl wspec wimpl
+0 0 1 1 1 1 1
 
 verdict equal partial different root leaf address
 1 0 1 0 0 0 2432
@@ -54,8 +57,8 @@ fn p1_walks() {
 #[test]
 fn p2_is_equal() {
     let report = "\
-root leaf verdict spec impl
-0 0 0 1 1
+root leaf verdict rspec rimpl wspec wimpl
+0 0 0 1 1 1 1
 
 verdict equal partial different root leaf address
 0 1 0 0 -1 -1 -1
@@ -67,8 +70,8 @@ verdict equal partial different root leaf address
 #[test]
 fn p3_is_different() {
     let report = "\
-root leaf verdict spec impl
-0 0 2 1 1
+root leaf verdict rspec rimpl wspec wimpl
+0 0 2 1 1 1 1
 
 verdict equal partial different root leaf address
 2 0 0 1 0 0 2048
@@ -79,7 +82,7 @@ verdict equal partial different root leaf address
 
 #[test]
 fn p4_base_and_range() {
-    let node = |base, range| check(&[0, base, range, 8], &[]);
+    let node = |base, range| check(&[0, base, range, 8, 0], &[]);
     assert_eq!(node(281474976710655, 1), Ok(()));
     assert_eq!(node(281474976710656, 1), Err(refusal(2, 0, 0)));
     assert_eq!(node(0, 281474976710656), Ok(()));
@@ -88,7 +91,7 @@ fn p4_base_and_range() {
 
 #[test]
 fn p5_offset() {
-    let edge = |offset| check(&[0, 0, 1, 8, 2, 0, 1, 8], &[0, 1, offset]);
+    let edge = |offset| check(&[0, 0, 1, 8, 0, 2, 0, 1, 8, 0], &[0, 1, offset]);
     assert_eq!(edge(281474976710656), Ok(()));
     assert_eq!(edge(-281474976710656), Ok(()));
     assert_eq!(edge(281474976710657), Err(refusal(3, 1, 0)));
@@ -98,7 +101,7 @@ fn p5_offset() {
 #[test]
 fn p6_chain() {
     let chain = |edges: i64| {
-        let nodes: Vec<i64> = (0..=edges).flat_map(|_| [1, 0, 1, 8]).collect();
+        let nodes: Vec<i64> = (0..=edges).flat_map(|_| [1, 0, 1, 8, 0]).collect();
         let edges: Vec<i64> = (0..edges).flat_map(|row| [row, row + 1, 0]).collect();
         check(&nodes, &edges)
     };
@@ -120,7 +123,8 @@ fn p7_runs() {
 fn p7_as_graph() {
     // A root of 16 bytes, two segments of 8 bytes or of 7 and 8, one leaf.
     let list_with = |lower_range| {
-        let nodes = [0, 0, 16, 8, 1, 0, lower_range, 8, 1, 8, 8, 8, 2, 0, 16, 8];
+        let segments = [[1, 0, lower_range, 8, 0], [1, 8, 8, 8, 0]];
+        let nodes = [[0, 0, 16, 8, 0], segments[0], segments[1], [2, 0, 16, 8, 0]].concat();
         list(&nodes, &[0, 1, 0, 0, 2, 0, 1, 3, 0, 2, 3, 0], 0, 3, 6).unwrap()
     };
     assert_eq!(list_with(8), [record(0, 127, 0)]);
@@ -132,7 +136,7 @@ fn p8_paths() {
     let copies = |count| P1.replace("0 0 1 0\n", &"0 0 1 0\n".repeat(count));
     assert_eq!(prints(&copies(1_024)), P1_REPORT);
     assert_eq!(prints(&copies(1_025)), "refusal table row\n10 1 0\n");
-    let nodes = [0, 0, 4096, 8, 2, 256, 64, 8];
+    let nodes = [0, 0, 4096, 8, 0, 2, 256, 64, 8, 0];
     let edges = |count| [0, 1, 0].repeat(count);
     assert_eq!(list(&nodes, &edges(1_024), 0, 1, 3), Ok(vec![record(2048, 2559, 2048)]));
     assert_eq!(list(&nodes, &edges(1_025), 0, 1, 3), Err(refusal(10, 1, 0)));
@@ -141,13 +145,13 @@ fn p8_paths() {
 #[test]
 fn what_is_not_the_rule() {
     // Offset scaled by the unit of `to`: 3 units of 32 bits, not of 8.
-    let nodes = [0, 0, 64, 8, 2, 0, 2, 32];
+    let nodes = [0, 0, 64, 8, 0, 2, 0, 2, 32, 0];
     assert_eq!(list(&nodes, &[0, 1, 3], 0, 1, 3), Ok(vec![record(96, 159, 96)]));
     // Clipped at the segment between, and leaf bits counted from the leaf's base.
-    let nodes = [0, 0, 64, 8, 1, 10, 2, 8, 2, 9, 40, 8];
+    let nodes = [0, 0, 64, 8, 0, 1, 10, 2, 8, 0, 2, 9, 40, 8, 0];
     assert_eq!(list(&nodes, &[0, 1, 0, 1, 2, 0], 0, 2, 3), Ok(vec![record(80, 95, 72)]));
     // Root bits touch, displacements differ: two records.
-    let nodes = [0, 0, 64, 8, 2, 0, 4, 8];
+    let nodes = [0, 0, 64, 8, 0, 2, 0, 4, 8, 0];
     let two = vec![record(0, 31, 0), record(32, 63, 32)];
     assert_eq!(list(&nodes, &[0, 1, 0, 0, 1, 4], 0, 1, 6), Ok(two));
     // A block behind one path equals the block behind two halves.
@@ -172,8 +176,8 @@ role spec impl
 1 1 3
 ";
     let report = "\
-root leaf verdict spec impl
-0 0 0 1 1
+root leaf verdict rspec rimpl wspec wimpl
+0 0 0 1 1 1 1
 
 verdict equal partial different root leaf address
 0 1 0 0 -1 -1 -1
@@ -207,9 +211,9 @@ role spec impl
 1 3 3
 ";
     let report = "\
-root leaf verdict spec impl
-0 0 1 1 1
-0 1 2 1 0
+root leaf verdict rspec rimpl wspec wimpl
+0 0 1 1 1 1 1
+0 1 2 1 0 1 0
 
 verdict equal partial different root leaf address
 2 1 1 1 0 0 8
@@ -256,9 +260,9 @@ fn tallies() {
     assert_eq!(tallied("", 15), only(15, [0, 0, 0, 1]));
     // The answer is that of the text check, and each refusal counts.
     let refused = only(0, [0, 0, 0, 1]);
-    assert_eq!(tally(P1.as_bytes(), 106, fresh, 0).0.unwrap(), P1_REPORT.as_bytes());
-    assert_eq!(tally(P1.as_bytes(), 106, fresh, 0).1, only(0, [0, 1, 0, 0]));
-    assert_eq!(tally(P1.as_bytes(), 105, fresh, 0), (Err(refusal(11, 7, 0)), refused));
+    assert_eq!(tally(P1.as_bytes(), 124, fresh, 0).0.unwrap(), P1_REPORT.as_bytes());
+    assert_eq!(tally(P1.as_bytes(), 124, fresh, 0).1, only(0, [0, 1, 0, 0]));
+    assert_eq!(tally(P1.as_bytes(), 123, fresh, 0), (Err(refusal(11, 7, 0)), refused));
     assert_eq!(tally(b"", 200, fresh, 0), (Err(refusal(13, 6, 1)), refused));
     assert_eq!(tally(&[b'\n'; 65_537], 200, fresh, 0), (Err(refusal(12, 6, 0)), refused));
 }
@@ -281,7 +285,7 @@ fn a_tally_stays_where_no_caller_is_named() {
         for counts in [[0; 64], unlike(), [top - 1; 64], [top; 64], [u64::MAX; 64]] {
             let expected = (Err(refusal(15, 7, 0)), counts);
             for text in ending_texts() {
-                for room in [0, 105, 200] {
+                for room in [0, 123, 200] {
                     assert_eq!(tally(text.as_bytes(), room, counts, caller), expected);
                 }
             }

@@ -1,6 +1,9 @@
 //! Refusals: the readings of the open places typed in by hand, every limit from
 //! both sides, and the order among any two faults.
 
+mod both_kinds;
+
+use both_kinds::{list, walk};
 use host::faults::{base, row_faults, table_faults, text_faults};
 use host::generate::{far_rows, joined, limits, plain_text, text_of_length};
 use host::large::P1;
@@ -131,9 +134,12 @@ fn numbers_of_any_size_in_lent_tables() {
     for (one, other) in far.into_iter().flat_map(|one| far.map(|other| (one, other))) {
         let valid = one == 0 && (1..=8).contains(&other)
             || (1..=8).contains(&one) && (1..=8).contains(&other);
-        assert_eq!(check(&[0, one, other, 8], &[]).is_ok(), valid, "{one} {other}");
-        assert_eq!(check(&[one, 0, 1, other], &[]).is_ok(), (0..3).contains(&one) && other == 8);
-        let nodes = [0, 0, 1, 8, 2, 0, 1, 8];
+        assert_eq!(check(&[0, one, other, 8, 0], &[]).is_ok(), valid, "{one} {other}");
+        let valid = (0..3).contains(&one) && other == 8;
+        assert_eq!(check(&[one, 0, 1, other, 0], &[]).is_ok(), valid, "{one} {other}");
+        let valid = (0..3).contains(&one) && (0..3).contains(&other);
+        assert_eq!(check(&[one, 0, 1, 8, other], &[]).is_ok(), valid, "{one} {other}");
+        let nodes = [0, 0, 1, 8, 0, 2, 0, 1, 8, 0];
         let edge = check(&nodes, &[one, other, 0]);
         assert_eq!(edge.is_ok(), one == 0 && other == 1, "{one} {other}");
         assert!(
@@ -158,11 +164,11 @@ fn empty_graphs_roots_and_leaves() {
     assert_eq!(check(&[], &[]), Ok(()));
     assert_eq!(list(&[], &[], 0, 0, 0), Err(refusal(7, 4, 0)));
     // A space with no edge is a root; a block that no edge enters is a leaf.
-    assert_eq!(list(&[0, 0, 1, 8, 2, 0, 1, 8], &[], 0, 1, 0), Ok(vec![]));
+    assert_eq!(list(&[0, 0, 1, 8, 0, 2, 0, 1, 8, 0], &[], 0, 1, 0), Ok(vec![]));
     // A block is no root even if no edge enters it.
-    assert_eq!(list(&[0, 0, 1, 8, 2, 0, 1, 8], &[], 1, 1, 0), Err(refusal(7, 4, 0)));
+    assert_eq!(list(&[0, 0, 1, 8, 0, 2, 0, 1, 8, 0], &[], 1, 1, 0), Err(refusal(7, 4, 0)));
     // A segment that is entered is no root; a space is no leaf.
-    let nodes = [0, 0, 1, 8, 1, 0, 1, 8, 2, 0, 1, 8];
+    let nodes = [0, 0, 1, 8, 0, 1, 0, 1, 8, 0, 2, 0, 1, 8, 0];
     let edges = [0, 1, 0, 1, 2, 0];
     assert_eq!(list(&nodes, &edges, 1, 2, 9), Err(refusal(7, 4, 0)));
     assert_eq!(list(&nodes, &edges, 2, 2, 9), Err(refusal(7, 4, 0)));
@@ -173,7 +179,7 @@ fn empty_graphs_roots_and_leaves() {
 
 #[test]
 fn room_of_single_calls() {
-    let nodes = [0, 0, 64, 8, 2, 0, 4, 8];
+    let nodes = [0, 0, 64, 8, 0, 2, 0, 4, 8, 0];
     let edges = [0, 1, 0, 0, 1, 1];
     assert_eq!(list(&nodes, &edges, 0, 1, 6).unwrap().len(), 2);
     assert_eq!(list(&nodes, &edges, 0, 1, 5), Err(refusal(11, 7, 0)));
@@ -183,9 +189,9 @@ fn room_of_single_calls() {
     let many = [0, 1, 0].repeat(1_025);
     assert_eq!(walk(&nodes, &many, 0, 1, -5, 0), Err(refusal(10, 1, 0)));
     // Many paths of which few are distinct, and many that end nowhere.
-    let mut ladder = vec![0, 0, 8, 8];
-    ladder.extend([1, 0, 8, 8].repeat(60));
-    ladder.extend([2, 0, 8, 8]);
+    let mut ladder = vec![0, 0, 8, 8, 0];
+    ladder.extend([1, 0, 8, 8, 0].repeat(60));
+    ladder.extend([2, 0, 8, 8, 0]);
     let doubled: Vec<i64> = (0..60).flat_map(|n| [n, n + 1, 0, n, n + 1, 0]).collect();
     assert_eq!(
         walk(&ladder, &[&doubled[..], &[60, 61, 0]].concat(), 0, 61, 0, 9),

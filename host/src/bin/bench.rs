@@ -1,8 +1,9 @@
 //! Times the verified code beside the reference and the engine that propagates lists on
 //! the named maps and prints tables in markdown: the calls on one graph, batches of addresses,
-//! the text check, the comparison on tables, the text check on texts made to be slow, the
-//! reading of address sheets, and the whole program with its start. The answers must agree.
-//! The last tables have the stack that the text check and a batch take.
+//! the text check, the text check on maps with accesses, the comparison on tables, the text
+//! check on texts made to be slow, the reading of address sheets, and the whole program with
+//! its start. The answers must agree. The last tables have the stack that the text check and
+//! a batch take.
 //!
 //! ```text
 //! bench [--long] [part of a map's name or of a table's title]
@@ -14,10 +15,12 @@
 //! where it is of one run.
 
 use host::hostile::{texts, Hostile};
-use host::large::{batches, deep_maps, maps, singles, Batch, Call, Map, Single};
+use host::large::{access_maps, deep_maps, deep_maps_with_accesses, maps, Map};
+use host::large::{batches, singles, Batch, Call, Single};
 use host::propagate;
 use host::reference::{batch, check, compare_by, list, printed, text_check, text_check_by, walk};
-use host::reference::{BatchRows, Listing, Refusal, MAX_EDGES, MAX_NODES, REPORT_ROOM};
+use host::reference::{BatchRows, Listing, Refusal};
+use host::reference::{MAX_EDGES, MAX_NODES, NODE_WIDTH, REPORT_ROOM};
 use host::sheet::read_sheet;
 use host::sheet_texts::{sheets, Sheet};
 use std::ffi::c_long;
@@ -52,6 +55,7 @@ const ALSO_AS_TABLES: usize = 2;
 const ONE_GRAPH: &str = "One graph";
 const BATCHES: &str = "Batches";
 const TEXT_CHECK: &str = "Text check";
+const ACCESS: &str = "Access";
 const COMPARISON: &str = "Comparison on tables";
 const HOSTILE: &str = "Texts made to be slow, one run each";
 const SHEETS: &str = "Sheets";
@@ -107,29 +111,30 @@ fn time<T>(mut run: impl FnMut() -> T) -> f64 {
 
 /// A call on one graph by the reference: the numbers that it writes.
 fn rust_call(call: Call, graph: &Single) -> Result<Vec<i64>, Refusal> {
-    let Single { nodes, edges, root, leaf, address, .. } = graph;
+    let Single { nodes, edges, root, leaf, address, kind, .. } = graph;
     match call {
         Call::Check => check(nodes, edges).map(|_| Vec::new()),
         Call::List => {
-            let records = list(nodes, edges, *root, *leaf, usize::MAX)?.into_iter();
+            let records = list(nodes, edges, *root, *leaf, *kind, usize::MAX)?.into_iter();
             Ok(records.flat_map(|r| [r.first, r.last, r.displacement]).collect())
         }
-        Call::Walk => walk(nodes, edges, *root, *leaf, *address, usize::MAX),
+        Call::Walk => walk(nodes, edges, *root, *leaf, *address, *kind, usize::MAX),
     }
 }
 
 #[cfg(benchcalls_library)]
 fn time_call(call: Call, graph: &Single) -> Option<f64> {
     use host::library;
-    let Single { nodes, edges, root, leaf, address, .. } = graph;
+    let Single { nodes, edges, root, leaf, address, kind, .. } = graph;
+    let kind = library::kind_number(*kind);
     let expected = rust_call(call, graph);
     let mut out = vec![0; expected.as_ref().map_or(0, Vec::len)];
     let mut answer = 0;
     let millis = time(|| {
         answer = match call {
             Call::Check => library::check(nodes, edges),
-            Call::List => library::list(nodes, edges, *root, *leaf, &mut out),
-            Call::Walk => library::walk(nodes, edges, *root, *leaf, *address, &mut out),
+            Call::List => library::list(nodes, edges, *root, *leaf, kind, &mut out),
+            Call::Walk => library::walk(nodes, edges, *root, *leaf, *address, kind, &mut out),
         }
     });
     // A record is three numbers.
@@ -228,23 +233,24 @@ fn print_singles(graphs: &[Single]) {
 
 /// A batch by the reference, with room for all rows.
 fn rust_batch(batched: &Batch) -> BatchRows {
-    let Batch { graph: Single { nodes, edges, root, leaf, .. }, addresses } = batched;
-    batch(nodes, edges, *root, *leaf, addresses, usize::MAX).expect("the batch is taken")
+    let Batch { graph: Single { nodes, edges, root, leaf, kind, .. }, addresses } = batched;
+    batch(nodes, edges, *root, *leaf, addresses, *kind, usize::MAX).expect("the batch is taken")
 }
 
 /// A batch by the verified code, and a walk for each of its addresses.
 #[cfg(benchcalls_library)]
 fn time_batch(batched: &Batch, expected: BatchRows) -> [Option<f64>; 2] {
     use host::library;
-    let Batch { graph: Single { nodes, edges, root, leaf, .. }, addresses } = batched;
+    let Batch { graph: Single { nodes, edges, root, leaf, kind, .. }, addresses } = batched;
+    let kind = library::kind_number(*kind);
     let numbers = expected.rows.concat();
     let mut out = vec![0; numbers.len()];
     let mut answer = 0;
     let together =
-        time(|| answer = library::batch(nodes, edges, *root, *leaf, addresses, &mut out));
+        time(|| answer = library::batch(nodes, edges, *root, *leaf, addresses, kind, &mut out));
     assert!(out == numbers, "the rows differ");
     let mut bits = vec![0; expected.records];
-    let mut walk = |&address| library::walk(nodes, edges, *root, *leaf, address, &mut bits);
+    let mut walk = |&address| library::walk(nodes, edges, *root, *leaf, address, kind, &mut bits);
     let mut count = 0;
     let singly = time(|| count = addresses.iter().map(&mut walk).sum());
     assert_eq!(count, expected.rows.len() as i64, "the walks give other bits");
@@ -297,6 +303,24 @@ fn print_texts(maps: &[Map]) {
         rows.push(row);
     }
     print_table(TEXT_CHECK, &[&["Map", "Bytes", "Pairs"], &COLUMNS[..]].concat(), &rows);
+}
+
+/// Maps with no access, with a single one, and with many.
+fn print_accesses(maps: &[Map]) {
+    let mut rows = Vec::new();
+    for map in maps {
+        let text = map.text().expect("the map fits into a text");
+        let by_root = Some(time(|| text_check(&text, usize::MAX)));
+        let by_lists = Some(time(|| propagate::text_check(&text, usize::MAX)));
+        let counts = [map.closed(), text.len()].map(|count| count.to_string());
+        let mut row = vec![map.name.to_string()];
+        row.extend(counts);
+        row.extend(cells(&[time_text(&text), by_root, by_lists]));
+        rows.push(row);
+    }
+    let names = ["Map", "Nodes with an access", "Bytes", "Proved", "Rust by root", "Rust by lists"];
+    let ratios = ["Proved / by root", "Proved / by lists"];
+    print_table(ACCESS, &[&names[..], &ratios].concat(), &rows);
 }
 
 fn print_tables(maps: &[Map]) {
@@ -365,7 +389,8 @@ fn print_hostile(texts: &[Hostile]) {
 /// A sheet read by the reference into buffers of the largest tables, filled with a number that
 /// no table has: what it gave, and the buffers.
 fn rust_sheet(text: &[u8]) -> (Result<[usize; 2], Refusal>, [Vec<i64>; 2]) {
-    let [mut nodes, mut edges] = [4 * MAX_NODES, 3 * MAX_EDGES].map(|room| vec![-1; room]);
+    let rooms = [NODE_WIDTH * MAX_NODES, 3 * MAX_EDGES];
+    let [mut nodes, mut edges] = rooms.map(|room| vec![-1; room]);
     (read_sheet(text, &mut nodes, &mut edges), [nodes, edges])
 }
 
@@ -391,7 +416,7 @@ fn print_sheets(sheets: &[Sheet]) {
     for sheet in sheets {
         let (expected, [mut nodes, mut edges]) = rust_sheet(&sheet.text);
         let made = match expected {
-            Ok([numbers, _]) => (numbers / 4).to_string(),
+            Ok([numbers, _]) => (numbers / NODE_WIDTH).to_string(),
             Err(refusal) => format!("refusal {}", refusal.number),
         };
         let [bytes, lines] = [sheet.text.len(), sheet.lines()].map(|count| count.to_string());
@@ -458,9 +483,10 @@ fn print_stack(maps: &[Map]) {
     for map in maps {
         let stack = stack_of(&map.text().expect("the map fits into a text"));
         let stack = stack.map_or("-".to_string(), |bytes| bytes.to_string());
-        rows.push(vec![map.name.to_string(), map.pairs().to_string(), stack]);
+        let [pairs, closed] = [map.pairs(), map.closed()].map(|count| count.to_string());
+        rows.push(vec![map.name.to_string(), pairs, closed, stack]);
     }
-    print_table(STACK, &["Map", "Pairs", "Bytes of stack"], &rows);
+    print_table(STACK, &["Map", "Pairs", "Nodes with an access", "Bytes of stack"], &rows);
 }
 
 /// Bytes of stack that the verified code takes for a batch.
@@ -536,12 +562,14 @@ fn main() {
     print_singles(&graphs.collect::<Vec<_>>());
     print_batches(&wanted.batches(BATCHES));
     print_texts(&wanted.among(TEXT_CHECK, maps()));
+    print_accesses(&wanted.among(ACCESS, access_maps()));
     print_tables(&wanted.among(COMPARISON, maps()));
     let slow = texts().into_iter().filter(|text| wanted.has(HOSTILE, &text.name));
     print_hostile(&slow.collect::<Vec<_>>());
     let sheets = sheets().into_iter().filter(|sheet| wanted.has(SHEETS, sheet.name));
     print_sheets(&sheets.collect::<Vec<_>>());
     print_programs(&wanted.among(PROGRAM, maps()));
-    print_stack(&wanted.among(STACK, deep_maps()));
+    let deep = deep_maps().into_iter().chain(deep_maps_with_accesses());
+    print_stack(&wanted.among(STACK, deep));
     print_batch_stack(&wanted.batches(BATCH_STACK));
 }

@@ -2,7 +2,7 @@
 
 use host::bitwalk;
 use host::library;
-use host::reference::{self, BatchRows, Refusal};
+use host::reference::{self, BatchRows, Refusal, WalkKind};
 
 /// Numbers far away, as addresses and as anything else that a call is given.
 pub const FAR: [i64; 13] = [
@@ -64,11 +64,12 @@ pub fn check_written(expected: &Result<Full, Refusal>, call: impl Fn(&mut [i64])
 
 /// A batch by the reference, whose rows must be those of its single walks.
 pub fn batch_rows(
-    nodes: &[i64], edges: &[i64], root: i64, leaf: i64, addresses: &[i64],
+    nodes: &[i64], edges: &[i64], root: i64, leaf: i64, addresses: &[i64], kind: WalkKind,
 ) -> Result<BatchRows, Refusal> {
-    let batch = reference::batch(nodes, edges, root, leaf, addresses, usize::MAX)?;
-    let list = reference::list(nodes, edges, root, leaf, usize::MAX)?;
-    let walk = |address| reference::walk(nodes, edges, root, leaf, address, usize::MAX).unwrap();
+    let batch = reference::batch(nodes, edges, root, leaf, addresses, kind, usize::MAX)?;
+    let list = reference::list(nodes, edges, root, leaf, kind, usize::MAX)?;
+    let room = usize::MAX;
+    let walk = |address| reference::walk(nodes, edges, root, leaf, address, kind, room).unwrap();
     assert!(batch.rows == bitwalk::batch(&list, addresses, walk), "the walks give other rows");
     assert_eq!(batch.records, list.len());
     Ok(batch)

@@ -1,14 +1,14 @@
 //! Small texts in every order of lines and columns, and damaged at every place.
 
 use crate::asking::{check, Rooms};
-use host::faults::base;
+use host::faults::{base, open_base};
 use host::generate::{mixed_text, permutations, plain_text, text_with_columns};
 use host::generate::{Random, WRONG_FIELDS};
 use host::large::P1;
 use host::reference::{EDGE_NAMES, NODE_NAMES, PAIR_NAMES};
 
-/// P1, and a map of two roots and three leaves, one of them in two banks, with a negative
-/// offset, its columns in another order and its sides and roles interleaved.
+/// P1, and a map of two roots and three leaves, one of them in two banks, with accesses and a
+/// negative offset, its columns in another order and its sides and roles interleaved.
 fn texts() -> [Vec<u8>; 2] {
     let mut tables = base();
     tables[3][5] = -12;
@@ -22,7 +22,7 @@ fn lines(text: &[u8]) -> Vec<Vec<u8>> {
 
 #[test]
 fn columns_in_every_order() {
-    let mut tables = base();
+    let mut tables = open_base();
     tables[3][5] = -12;
     // The last leaf row alone tells where its bank begins.
     tables[5].truncate(9);
@@ -40,15 +40,27 @@ fn columns_in_every_order() {
 
 #[test]
 fn optional_columns_in_every_order() {
-    let tables = base();
-    let mut without = tables.clone();
+    let (tables, open) = (base(), open_base());
+    let mut without = open.clone();
     without[5].truncate(9);
-    let in_order: Vec<usize> = (0..5).collect();
-    for tables in [tables, without] {
+    let without_access: Vec<usize> = (0..5).collect();
+    for tables in [open, without] {
         let expected = check(&plain_text(&tables), Rooms::Every);
         for edges in permutations(4) {
             for pairs in permutations(4) {
-                let text = text_with_columns(&tables, [&in_order, &edges, &pairs]);
+                let text = text_with_columns(&tables, [&without_access, &edges, &pairs]);
+                assert_eq!(check(&text, Rooms::Few), expected);
+            }
+        }
+    }
+    // The column access anywhere, beside the column at anywhere or absent.
+    let mut without_at = tables.clone();
+    without_at[5].truncate(9);
+    for (tables, pair_columns) in [(tables, 4), (without_at, 3), (open_base(), 4)] {
+        let expected = check(&plain_text(&tables), Rooms::Every);
+        for nodes in permutations(6) {
+            for pairs in permutations(pair_columns) {
+                let text = text_with_columns(&tables, [&nodes, &[0, 1, 2, 3], &pairs]);
                 assert_eq!(check(&text, Rooms::Few), expected);
             }
         }
@@ -122,13 +134,14 @@ fn shortest_texts() {
 }
 
 /// Lines to put in: empty, of spaces, of one field, the names of each table.
-const OTHER_LINES: [&[u8]; 9] = [
+const OTHER_LINES: [&[u8]; 10] = [
     b"\n",
     b" \n",
     b"  \n",
     b"0\n",
     b"a\n",
     b"side kind base range unit\n",
+    b"side kind base range unit access\n",
     b"side from to offset\n",
     b"role spec impl\n",
     b"role spec impl at\n",
@@ -206,7 +219,7 @@ fn every_field_put_otherwise() {
         check_fields(&text, |fields, place| fields.insert(place, fields[place].clone()));
         check_fields(&text, |fields, place| fields.insert(place, Vec::new()));
         check_fields(&text, |fields, _| fields.push(Vec::new()));
-        for other in 0..5 {
+        for other in 0..6 {
             check_fields(&text, |fields, place| {
                 if let Some(field) = fields.get(other).cloned() {
                     fields[place] = field;

@@ -26,15 +26,17 @@ fn limits_from_both_sides() {
 #[test]
 fn lines_up_to_the_last_of_the_longest_text() {
     // As many lines as a text can have, each way to refuse the last of them.
-    for last in ["", " ", "0", "0 1 0 1", "0 1 0 1 8", "0 1 0 1 8 8", "A", "-0"] {
-        let mut text = b"side kind base range unit\n".to_vec();
-        while text.len() + 12 < MAX_TEXT {
-            text.extend(b"0 1 0 1 8\n");
+    for last in ["", " ", "0", "0 1 0 1", "0 1 0 1 8", "0 1 0 1 8 8", "0 1 0 1 8 8 8", "A", "-0"] {
+        for (names, line) in [("", ""), (" access", " 0"), (" access", " 3")] {
+            let mut text = format!("side kind base range unit{names}\n").into_bytes();
+            while text.len() + 16 < MAX_TEXT {
+                text.extend(format!("0 1 0 1 8{line}\n").bytes());
+            }
+            text.extend(last.bytes().chain([b'\n']));
+            _ = check(&text, Rooms::Few);
+            text.pop();
+            _ = check(&text, Rooms::Few);
         }
-        text.extend(last.bytes().chain([b'\n']));
-        _ = check(&text, Rooms::Few);
-        text.pop();
-        _ = check(&text, Rooms::Few);
     }
 }
 
@@ -74,7 +76,8 @@ fn two_faults_at_once() {
 
 #[test]
 fn large_maps() {
-    let maps = large::maps().into_iter().filter(|map| !map.long).chain(large::narrow_maps());
+    let maps = large::maps().into_iter().chain(large::access_maps()).filter(|map| !map.long);
+    let maps = maps.chain(large::narrow_maps()).chain(large::deep_maps_with_accesses());
     for text in maps.filter_map(|map| map.text()) {
         _ = check(&text, Rooms::Few);
     }
@@ -82,9 +85,9 @@ fn large_maps() {
 
 #[test]
 fn reports_longer_than_a_text() {
-    for count in [40, 73, 74, 75, 76, 80, 81, 300, 500] {
+    for count in [40, 63, 64, 65, 66, 74, 75, 80, 81, 300, 500] {
         let map = large::connected(count);
         let report = check(&map.text().expect("the map fits into a text"), Rooms::Few);
-        assert!(report.is_ok_and(|report| (report.len() > MAX_TEXT) == (count > 74)));
+        assert!(report.is_ok_and(|report| (report.len() > MAX_TEXT) == (count > 64)));
     }
 }

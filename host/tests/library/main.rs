@@ -3,6 +3,8 @@
 //! that each of the threads generates; without it the whole takes under two minutes.
 
 #[cfg(healdrip_library)]
+mod access;
+#[cfg(healdrip_library)]
 mod asking;
 #[cfg(healdrip_library)]
 mod file_rules;

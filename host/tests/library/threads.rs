@@ -3,7 +3,7 @@
 use crate::asking::{check_room, Unlimited};
 use host::generate::{damaged, long_map, mixed_text, Random};
 use host::large::{banked_maps, connected, connected_beside_chain, connected_beside_owners};
-use host::large::{connected_beside_shared, narrow_maps};
+use host::large::{connected_beside_shared, deep_maps_with_accesses, narrow_maps};
 use host::reference::text_check;
 use std::panic::catch_unwind;
 use std::sync::atomic::{AtomicBool, Ordering};
@@ -13,13 +13,13 @@ const THREADS: usize = 8;
 const TEXTS: u64 = 24;
 const ROUNDS: usize = 60;
 const DEEP_ROUNDS: usize = 4;
-/// The library says that its call needs less than 1 MB of stack, and is given no more.
-pub const LIBRARY_STACK: usize = 1_000_000;
+/// The library says that its call needs less than so many bytes of stack, and is given no more.
+pub const LIBRARY_STACK: usize = 1_200_000;
 /// For the start of a Rust thread and the test's calls above the library's, which take
 /// 5 to 9 KB. More would hide a library that takes more than it says.
 const TEST_STACK: usize = 1 << 14;
 /// Lines that the library holds at once; pairs of a longer report are worked twice.
-const HELD_LINES: usize = 6_554;
+const HELD_LINES: usize = 4_681;
 /// Roots, and as many leaves, of maps with many more lines, some more, and fewer.
 const COUNTS: [usize; 3] = [120, 81, 20];
 const LONG_ROOM: usize = 1 << 20;
@@ -53,13 +53,14 @@ fn texts() -> Vec<Asked> {
 
 /// Maps with many lines, many paths, many records and long paths, also all in one map;
 /// in some the lists of nodes are kept, and in some they find no room. And maps with many
-/// banks.
+/// banks, and with accesses.
 fn deep_texts() -> Vec<Asked> {
     let random = &mut Random::new(8_000_000);
     let maps = COUNTS.map(connected_beside_chain).into_iter();
     let maps = maps.chain(COUNTS.map(connected_beside_shared));
     let maps = maps.chain(COUNTS.map(connected_beside_owners)).chain(narrow_maps());
     let maps = maps.chain(banked_maps().into_iter().filter(|map| map.text().is_some()));
+    let maps = maps.chain(deep_maps_with_accesses());
     maps.map(|map| asked(mixed_text(random, &map.tables))).collect()
 }
 
@@ -96,6 +97,7 @@ fn unlike_texts_at_the_same_time() {
 #[test]
 fn many_lines_and_long_paths_at_the_same_time() {
     let texts = deep_texts();
+    assert!(texts.iter().all(|(_, unlimited)| unlimited.is_ok()), "a map is refused");
     let lines = |(_, unlimited): &Asked| {
         let report = unlimited.as_ref().expect("the map is not refused");
         report.iter().filter(|&&byte| byte == b'\n').count()

@@ -2,7 +2,7 @@
 //! number of both buffers to what is expected.
 
 use host::library;
-use host::reference::{refusal, Refusal, MAX_EDGES, OUTPUT};
+use host::reference::{refusal, Refusal, MAX_EDGES, NODE_WIDTH, OUTPUT};
 use host::sheet::{read_sheet, NUMBERS};
 
 type Call = fn(&[u8], &mut [i64], &mut [i64]) -> i64;
@@ -21,7 +21,7 @@ pub const ASKED: [(&str, Call); 2] =
 pub type Answer = Result<[Vec<i64>; 2], Refusal>;
 
 /// Numbers of the largest tables.
-const MOST: [usize; 2] = [2 * NUMBERS * 4, MAX_EDGES * 3];
+const MOST: [usize; 2] = [2 * NUMBERS * NODE_WIDTH, MAX_EDGES * 3];
 
 /// Numbers before and after each lent buffer, which no call may touch.
 const GUARD: usize = 16;
@@ -100,7 +100,7 @@ pub fn unlimited(text: &[u8]) -> Answer {
 }
 
 /// The sheet makes these rows of nodes and of edges.
-pub fn taken(text: &str, nodes: &[[i64; 4]], edges: &[[i64; 3]]) {
+pub fn taken(text: &str, nodes: &[[i64; 5]], edges: &[[i64; 3]]) {
     check(text.as_bytes(), &Ok([nodes.concat(), edges.concat()]));
 }
 

@@ -22,18 +22,22 @@ pub const LINES: [Line; 5] = [
     Line { initiator: 7, block: 40, base: 4096, size: 256 },
 ];
 
-pub const NODES: [[i64; 4]; 4] =
-    [[0, 0, 281474976710656, 8], [0, 0, 281474976710656, 8], [2, 0, 16, 8], [2, 0, 256, 8]];
+pub const NODES: [[i64; 5]; 4] = [
+    [0, 0, 281474976710656, 8, 0],
+    [0, 0, 281474976710656, 8, 0],
+    [2, 0, 16, 8, 0],
+    [2, 0, 256, 8, 0],
+];
 
 pub const EDGES: [[i64; 3]; 5] =
     [[1, 3, 4096], [0, 3, 0], [1, 2, 65536], [0, 2, 281474976710640], [1, 3, 4096]];
 
 /// The node row of an initiator.
-pub const INITIATOR: [i64; 4] = [0, 0, 281474976710656, 8];
+pub const INITIATOR: [i64; 5] = [0, 0, 281474976710656, 8, 0];
 
 /// The node row of a block.
-pub fn block(size: i64) -> [i64; 4] {
-    [2, 0, size, 8]
+pub fn block(size: i64) -> [i64; 5] {
+    [2, 0, size, 8, 0]
 }
 
 /// Names and these lines.

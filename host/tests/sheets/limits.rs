@@ -33,7 +33,7 @@ fn as_many_bytes_as_a_text_has() {
         assert_eq!(text.len(), length);
         let answer = unlimited(&text);
         check(&text, &answer);
-        let expected = if too_long { Err(refusal(12, 6, 0)) } else { Ok([8_000, 7_800]) };
+        let expected = if too_long { Err(refusal(12, 6, 0)) } else { Ok([10_000, 7_800]) };
         assert_eq!(lengths(&answer), expected);
         let text = String::from_utf8(filled_text(short_lines(8_188), length)).unwrap();
         refused(&text, if too_long { (12, 6, 0) } else { (1, 1, 0) });
@@ -42,9 +42,9 @@ fn as_many_bytes_as_a_text_has() {
 
 /// Name, bytes, lines and answer.
 const NAMED: [(&str, usize, usize, i64); 7] = [
-    ("5 lines", 101, 5, 4_000_015),
-    ("1,000 initiators, 1,000 blocks", 65_536, 2_600, 800_007_800),
-    ("1,000 initiators, one block", 65_536, 2_600, 400_407_800),
+    ("5 lines", 101, 5, 5_000_015),
+    ("1,000 initiators, 1,000 blocks", 65_536, 2_600, 1_000_007_800),
+    ("1,000 initiators, one block", 65_536, 2_600, 500_507_800),
     ("18 at the last line", 65_536, 2_600, -1_860_002_601),
     ("one block, 18 at the last line", 65_536, 2_600, -1_860_002_601),
     ("as many lines as fit", 65_536, 8_188, -110_000_000),
@@ -59,7 +59,7 @@ fn named_sheets() {
         assert_eq!((sheet.name, sheet.text.len(), sheet.lines()), (name, bytes, lines));
         check(&sheet.text, &unlimited(&sheet.text));
         for (asked, call) in ASKED {
-            let answer = call(&sheet.text, &mut [0; 8_000], &mut [0; 7_800]);
+            let answer = call(&sheet.text, &mut [0; 10_000], &mut [0; 7_800]);
             assert_eq!(answer, code, "{asked}: {name}");
         }
     }

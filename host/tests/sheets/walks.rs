@@ -5,7 +5,7 @@
 use crate::asking::{check, unlimited};
 use host::bitwalk::{self, Reached};
 use host::generate::Random;
-use host::reference::{self, Record};
+use host::reference::{self, Record, KINDS};
 use host::sheet::Line;
 use host::sheet_texts::{mixed_text, sheet, sheets, small_sheet, Span, NEAR_BYTES};
 use std::collections::BTreeSet;
@@ -56,7 +56,7 @@ fn made(random: &mut Random, lines: &[Line]) -> [Vec<i64>; 2] {
     check(&text, &answer);
     let [nodes, edges] = answer.expect("the sheet is taken");
     let [initiators, blocks] = rows(lines);
-    assert_eq!(nodes.len(), 4 * (initiators.len() + blocks.len()));
+    assert_eq!(nodes.len(), 5 * (initiators.len() + blocks.len()));
     assert_eq!(edges.len(), 3 * lines.len());
     check_graph(&nodes, &edges);
     [nodes, edges]
@@ -69,6 +69,11 @@ fn check_graph(nodes: &[i64], edges: &[i64]) {
     assert_eq!(host::library::check(nodes, edges), 0);
 }
 
+/// The bits that each kind of walk reaches.
+fn walked(tables: &[Vec<i64>; 2], root: usize, leaf: usize, bit: i64) -> [BTreeSet<i64>; 2] {
+    KINDS.map(|kind| bitwalk::walk(&tables[0], &tables[1], root, leaf, bit, kind))
+}
+
 /// The calls on one graph take the rows as those of a root and a leaf, and give these bits.
 fn check_walk(
     tables: &[Vec<i64>; 2], root: usize, leaf: usize, bit: i64, expected: &BTreeSet<i64>,
@@ -76,12 +81,16 @@ fn check_walk(
     let [nodes, edges] = tables;
     let (root, leaf) = (root as i64, leaf as i64);
     let expected = Vec::from_iter(expected.iter().copied());
-    assert_eq!(reference::walk(nodes, edges, root, leaf, bit, usize::MAX), Ok(expected.clone()));
-    #[cfg(benchcalls_library)]
-    {
-        let mut bits = vec![-1; expected.len()];
-        let count = host::library::walk(nodes, edges, root, leaf, bit, &mut bits);
-        assert_eq!((count, bits), (expected.len() as i64, expected));
+    for kind in KINDS {
+        let bits = reference::walk(nodes, edges, root, leaf, bit, kind, usize::MAX);
+        assert_eq!(bits.as_deref(), Ok(&expected[..]));
+        #[cfg(benchcalls_library)]
+        {
+            let mut bits = vec![-1; expected.len()];
+            let kind = host::library::kind_number(kind);
+            let count = host::library::walk(nodes, edges, root, leaf, bit, kind, &mut bits);
+            assert_eq!((count, &bits), (expected.len() as i64, &expected));
+        }
     }
 }
 
@@ -89,15 +98,18 @@ fn check_walk(
 fn check_list(tables: &[Vec<i64>; 2], root: usize, leaf: usize, expected: &[Record]) {
     let [nodes, edges] = tables;
     let (root, leaf) = (root as i64, leaf as i64);
-    let listed = reference::list(nodes, edges, root, leaf, usize::MAX);
-    assert_eq!(listed.as_deref(), Ok(expected));
-    #[cfg(benchcalls_library)]
-    {
-        let numbers: Vec<i64> =
-            expected.iter().flat_map(|r| [r.first, r.last, r.displacement]).collect();
-        let mut written = vec![-1; numbers.len()];
-        let count = host::library::list(nodes, edges, root, leaf, &mut written);
-        assert_eq!((count, written), (expected.len() as i64, numbers));
+    for kind in KINDS {
+        let listed = reference::list(nodes, edges, root, leaf, kind, usize::MAX);
+        assert_eq!(listed.as_deref(), Ok(expected));
+        #[cfg(benchcalls_library)]
+        {
+            let numbers: Vec<i64> =
+                expected.iter().flat_map(|r| [r.first, r.last, r.displacement]).collect();
+            let mut written = vec![-1; numbers.len()];
+            let kind = host::library::kind_number(kind);
+            let count = host::library::list(nodes, edges, root, leaf, kind, &mut written);
+            assert_eq!((count, written), (expected.len() as i64, numbers));
+        }
     }
 }
 
@@ -113,8 +125,9 @@ fn every_bit_of_near_sheets() {
             for &(block, leaf) in &blocks {
                 let mut reached = Reached::new();
                 for bit in -8..(NEAR_BYTES + 2) * 8 {
-                    let bits = bitwalk::walk(&tables[0], &tables[1], root, leaf, bit);
+                    let [bits, written] = walked(&tables, root, leaf, bit);
                     assert_eq!(bits, given(&lines, initiator, block, bit));
+                    assert_eq!(bits, written);
                     reached.extend(bits.into_iter().map(|leaf_bit| (bit, leaf_bit)));
                 }
                 assert_eq!(reached, all_given(&lines, initiator, block), "{lines:?}");
@@ -154,8 +167,9 @@ fn ends_of_far_sheets() {
             for &(block, leaf) in &blocks {
                 for &bit in &bits {
                     let expected = given(&lines, initiator, block, bit);
-                    let walked = bitwalk::walk(&tables[0], &tables[1], root, leaf, bit);
-                    assert_eq!(walked, expected, "{lines:?}, bit {bit}");
+                    for bits in walked(&tables, root, leaf, bit) {
+                        assert_eq!(bits, expected, "{lines:?}, bit {bit}");
+                    }
                     check_walk(&tables, root, leaf, bit, &expected);
                     reached += u64::from(!expected.is_empty());
                     several += u64::from(expected.len() > 1);
@@ -180,8 +194,9 @@ fn check_some(random: &mut Random, lines: &[Line], tables: &[Vec<i64>; 2]) {
             let leaf = row_of(&blocks, block);
             for bit in bits_to_walk(random, &[line, other]) {
                 let expected = given(lines, line.initiator, block, bit);
-                let walked = bitwalk::walk(&tables[0], &tables[1], root, leaf, bit);
-                assert_eq!(walked, expected, "bit {bit}");
+                for bits in walked(tables, root, leaf, bit) {
+                    assert_eq!(bits, expected, "bit {bit}");
+                }
             }
         }
     }

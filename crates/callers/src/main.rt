@@ -1,4 +1,5 @@
 // Checks of several callers, one after the other, and what each gave: who asked, the answer, how many bytes of the buffer changed, and all counts.
+#![tactic(auto)]
 ghost use Rattle.std.specs.Prelude.{◌≤◌};
 
 use libc::STDOUT_FILENO;

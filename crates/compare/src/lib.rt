@@ -1,4 +1,5 @@
 // The comparison of two graphs: its tables are checked, then all pairs are surveyed.
+#![tactic(auto)]
 ghost use Rattle.pairing.specs.Pairs.{tables_of};
 ghost use Rattle.compare.specs.Promises.{ComparePromise};
 

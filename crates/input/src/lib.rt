@@ -1,4 +1,5 @@
 // Reads a text from standard input into a lent buffer.
+#![tactic(auto)]
 ghost use Rattle.std.specs.Prelude.{◌≡◌, suc, length};
 ghost use Rattle.model.specs.Limits.{max_text};
 ghost use Rattle.input.specs.Reading.{InputWithin};

@@ -1,1 +1,2 @@
 // Lists: keeping, testing and membership, with their laws. It has no code.
+#![tactic(auto)]

@@ -1,4 +1,5 @@
 // Checks the map file on standard input and prints the report, or the refusal.
+#![tactic(auto)]
 ghost use Rattle.std.specs.Prelude.{◌≡◌, ◌≤◌, length};
 ghost use Rattle.model.specs.Limits.{report_room};
 ghost use Rattle.model.specs.TextCheck.{printed};

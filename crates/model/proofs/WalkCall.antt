@@ -84,12 +84,12 @@ arrivals_here {kind} (suc k) g l a h =
     (cond_true (flat_map (beyond kind k g l a) (leaving g l)) (eq_z l l) (eq_z? l l) (λ n. n refl) (Memᴰ.head refl))
 
 -- every address with which a walk over at most k edges arrives at a node that no edge leaves is computed
-pub arrivals-within : {kind : WalkKind} (k : ℕ) {g : Graph} {v l a b : ℤ} {p : List Edge} → ((e : Edge) → e ∈ g.edges → e.from ≢ l)
+pub arrivals-within : {kind : WalkKind} {g : Graph} (k : ℕ) {v l a b : ℤ} {p : List Edge} → ((e : Edge) → e ∈ g.edges → e.from ≢ l)
     → Way g v p l → Along kind g v p a b → length p ≤ k → b ∈ arrivals kind k g v l a
 unfolding arrivals
-arrivals-within k {g} {l} {a} ends stay (halt h) le = arrivals_here k g l a h
+arrivals-within {g} k {l} {a} ends stay (halt h) le = arrivals_here k g l a h
 arrivals-within zero ends (over e m q w) t le = absurd (omega arith)
-arrivals-within {kind} (suc k) {g} {v} {l} {a} ends (over e m q w) (pass d h t) le =
+arrivals-within {kind} {g} (suc k) {v} {l} {a} ends (over e m q w) (pass d h t) le =
     arriving_in g v l a h
     (cond_false (a ∷ []) (eq_z v l) (eq_z? v l) (λ z. ends e m (q ∙ z))
     (flat_map_in (beyond kind k g l a) (leaving_in g m q) (arrivals-within k ends w t (omega arith))))

@@ -1,4 +1,6 @@
 // The address map graph model: quantities and answers. The definitions that every contract cites are in specs/.
+#![tactic(auto)]
+
 ghost use Rattle.std.specs.Prelude.{◌≡◌, ◌+◌, ◌≤◌, pos, ◌+ℤ◌, ◌-ℤ◌, ◌*ℤ◌};
 ghost use Rattle.integers.specs.Integers.{min_z, max_z};
 ghost use Rattle.model.specs.Answers.{verdict_number};

@@ -1,5 +1,6 @@
 // Normalisation in n log n: records are sorted by displacement, those that touch are merged in one pass, and the rest is sorted by first,
 // or left in the order by displacement.
+#![tactic(auto)]
 ghost use Rattle.std.specs.Prelude.{◌≡◌, ◌++◌, map, ◌+◌, ◌*◌, ◌≤◌, ◌<◌, pos, ◌+ℤ◌, ◌<ℤ◌, length, take, drop};
 ghost use Rattle.std.specs.Int.Signed.{le_z};
 ghost use Rattle.integers.specs.Integers.{min_z, max_z};

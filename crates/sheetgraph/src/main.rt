@@ -1,4 +1,5 @@
 // Reads the global address sheet on standard input and prints its tables as the first two tables of a map file, or the refusal.
+#![tactic(auto)]
 ghost use Rattle.std.specs.Prelude.{◌≡◌, ◌≤◌, length, take};
 ghost use Rattle.model.specs.SheetCall.{graph_lines, sheet_printed};
 ghost use Rattle.report.specs.Put.{Put};

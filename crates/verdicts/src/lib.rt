@@ -1,5 +1,6 @@
 // Whether two lists of records are the same, and the lowest address at which they differ. A list is a flat slice of numbers, three a record: first,
 // last, displacement.
+#![tactic(auto)]
 ghost use Rattle.std.specs.Prelude.{◌≡◌, ◌+◌, ◌*◌, ◌≤◌, length};
 ghost use Rattle.model.specs.Verdicts.{same_record, same_list, lowest};
 ghost use Rattle.sorting.specs.Rows.{row_width};

@@ -1,5 +1,6 @@
 // Maps by a seeded generator, small enough to walk bit by bit: every list, walk and batch for each kind of walk, and every verdict, count, first pair and
 // address of the calls under test is held against a walk that knows only single bit addresses. Prints what was tried, and the differences found.
+#![tactic(auto)]
 mod batched;
 mod checks;
 mod comparisons;

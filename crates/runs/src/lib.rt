@@ -1,5 +1,6 @@
 // Runs of bit addresses, and the two operations of which the step over an edge is made: bits are clipped after they are shifted (000, 2.5.1).
 #![tactic(auto)]
+
 ghost use Rattle.std.specs.Prelude.{◌≡◌};
 ghost use Rattle.model.specs.Runs.{shift, clip};
 ghost use Rattle.runs.specs.Clipping.{run_of, living, living_of, SmallRun, SmallOffset, Clippable, SmallExtent, Shifted, ClippedTo};

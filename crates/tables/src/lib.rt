@@ -1,5 +1,6 @@
 // The rows of flat tables, and the checks of a graph row by row.
 #![tactic(auto)]
+
 ghost use Rattle.std.specs.Prelude.{◌≡◌, ◌+◌, ◌*◌, ◌≤◌, ◌<◌, ◌^◌, pos, neg_ℤ, ◌*ℤ◌, ◌≤ℤ◌, length};
 ghost use Rattle.model.specs.Limits.{node_width, edge_width, max_units};
 ghost use Rattle.model.specs.Rows.{node_rows, edge_rows};

@@ -48,7 +48,7 @@ const SHARE: usize = 4;
 pub const STATE_ROOM: usize = ROW_WIDTH * (ARENA_END + MAX_PATHS);
 
 // Where a list stands in a state: its first row, and how many records it has.
-#[derive(Drop)]
+#[derive(Clone, Copy)]
 pub struct ListRows {
     pub row: usize,
     pub count: usize,

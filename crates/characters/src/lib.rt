@@ -12,7 +12,7 @@ use model::{Checked, Reason};
 const MAX_TEXT: usize = 65536;
 
 // What a pass over the bytes finds: the line behind the last line feed, or the line of the first byte that is not allowed.
-#[derive(Drop)]
+#[derive(Clone, Copy)]
 enum Pass {
     Line(usize),
     Bad(usize),

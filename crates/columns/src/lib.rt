@@ -13,7 +13,7 @@ pub const MAX_NAMES: usize = 6;
 
 // The columns of a table's names, in their order, in a names line with so many fields: whether all names that the line must have are found, and how
 // many names are found in all.
-#[derive(Drop)]
+#[derive(Clone, Copy)]
 pub struct Columns {
     pub found: bool,
     pub fields: usize,
@@ -23,7 +23,7 @@ pub struct Columns {
 }
 
 // A names line: how many fields it has, and the cursor behind it.
-#[derive(Drop)]
+#[derive(Clone, Copy)]
 pub struct Heading {
     pub fields: usize,
     pub next: Cursor,

@@ -9,14 +9,14 @@ use values::Signed;
 // ---- fields
 
 // A place in the text, and its line, counted from 1.
-#[derive(Drop)]
+#[derive(Clone, Copy)]
 pub struct Cursor {
     pub at: usize,
     pub line: usize,
 }
 
 // A number that was read, with the cursor before what follows it.
-#[derive(Drop)]
+#[derive(Clone, Copy)]
 pub enum Num {
     Value(i64, Cursor),
     Bad,
@@ -52,7 +52,7 @@ pub fn is_blank(text: &[u8], at: usize) -> bool
 }
 
 // A field: where it ends, whether another follows it on its line, and the number that it writes.
-#[derive(Drop)]
+#[derive(Clone, Copy)]
 struct Field {
     end: usize,
     more: bool,
@@ -139,7 +139,7 @@ pub fn past(text: &[u8], end: usize) -> usize
 // ---- value lines
 
 // The values of a line, with the cursor before the next line.
-#[derive(Drop)]
+#[derive(Clone, Copy)]
 pub enum Line {
     Values(Cursor),
     Bad,

@@ -11,7 +11,7 @@ ghost use Rattle.depth.specs.Passes.{up_to, EndsWithin, stamped, enters_stamped,
 use model::{Checked, EDGE_WIDTH, MAX_CHAIN, MAX_EDGES, MAX_NODES, Reason};
 
 // What the edges of a graph are: ordered from the leaves up, or with a chain of more than 64 edges, or with a cycle.
-#[derive(Drop)]
+#[derive(Clone, Copy)]
 pub enum Chained {
     Ordered,
     LongChain,

@@ -1,5 +1,6 @@
 // The bits of nodes and edges: first and last bit, those on which a kind of walk may stand, bit offset; and one bit address over an edge, in the order of the step: it is `moved`, and then `stands` or ends.
 #![tactic(auto)]
+
 ghost use Rattle.std.specs.Prelude.{◌≡◌, true, List, ◌↔◌, ◌+◌, ◌*◌, ◌≤◌, ℤ, pos, ◌-ℤ◌, length};
 ghost use Rattle.model.specs.Limits.{edge_width};
 ghost use Rattle.model.specs.Graph.{graph_of, node, first_bit, bit_offset};
@@ -14,7 +15,7 @@ use model::{Bits, NODE_WIDTH, READ_ONLY, READ_WRITE, WRITE_ONLY, WalkKind};
 use runs::Run;
 
 // The first and the last bit of a node.
-#[derive(Drop)]
+#[derive(Clone, Copy)]
 pub struct Extent {
     pub first: Bits,
     pub last: Bits,

@@ -53,7 +53,7 @@ const ROOT_PAIRS: usize = 4;
 const LEAF_PAIRS: usize = 5;
 
 // A refusal, with number 0 where nothing is refused.
-#[derive(Drop)]
+#[derive(Clone, Copy)]
 pub struct Refusal {
     pub number: usize,
     pub table: usize,

@@ -5,7 +5,7 @@ use crate::rows;
 use crate::rows::{Map, Node};
 
 // The sizes of a plain map. `inner` counts roots and nodes between, `pairs` leaf rows.
-#[derive(Drop)]
+#[derive(Clone, Copy)]
 pub struct Shape {
     pub roots: usize,
     pub inner: usize,
@@ -107,7 +107,7 @@ pub fn draw_shape(style: usize, seed: &mut usize) -> Shape {
 }
 
 // Bits of a node: the first at most, how many at least, and those that may come to them.
-#[derive(Drop)]
+#[derive(Clone, Copy)]
 struct Bounds {
     low: usize,
     least: usize,
@@ -265,7 +265,7 @@ fn put_beside(map: &mut Map, e: usize, seed: &mut usize) {
 }
 
 // The ends of an edge.
-#[derive(Drop)]
+#[derive(Clone, Copy)]
 struct Ends {
     from: usize,
     to: usize,

@@ -59,7 +59,7 @@ pub const WRITE_ONLY: usize = 2;
 const NOWHERE: usize = 1000000;
 
 // A node row.
-#[derive(Drop)]
+#[derive(Clone, Copy)]
 pub struct Node {
     pub kind: usize,
     pub base: usize,
@@ -69,7 +69,7 @@ pub struct Node {
 }
 
 // An edge row.
-#[derive(Drop)]
+#[derive(Clone, Copy)]
 pub struct Edge {
     pub from: usize,
     pub to: usize,

@@ -10,7 +10,7 @@ use libc::STDIN_FILENO;
 pub const TEXT_ROOM: usize = 65537;
 
 // What was read of standard input: so many bytes up to its end, as many as the buffer has, or a read failed.
-#[derive(Drop)]
+#[derive(Clone, Copy)]
 pub enum Input {
     Bytes(usize),
     Full(usize),

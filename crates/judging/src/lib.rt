@@ -10,7 +10,7 @@ ghost use Rattle.judging.specs.Judging.{OfLists, SmallRows, IsJudged};
 use model::Verdict;
 
 // What is judged of two lists: the verdict, and the lowest address at which they differ, -1 where that is not looked for.
-#[derive(Drop)]
+#[derive(Clone, Copy)]
 pub struct Judged {
     pub verdict: Verdict,
     pub address: i64,

@@ -24,7 +24,7 @@ pub const PAIR_ROOM: usize = PAIR_WIDTH * (MAX_PAIRS + 1);
 // ---- names lines
 
 // The tables of a map file, in their order.
-#[derive(Drop)]
+#[derive(Clone, Copy)]
 enum FileTable {
     Nodes,
     Edges,
@@ -129,7 +129,7 @@ fn read_table(
 // ---- the map file
 
 // How many numbers each of the six tables has.
-#[derive(Drop)]
+#[derive(Clone, Copy)]
 pub struct Sizes {
     pub spec_nodes: usize,
     pub spec_edges: usize,
@@ -140,7 +140,7 @@ pub struct Sizes {
 }
 
 // The answer of the reader.
-#[derive(Drop)]
+#[derive(Clone, Copy)]
 pub enum Read {
     Tables(Sizes),
     Refused(Reason),

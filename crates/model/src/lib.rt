@@ -94,18 +94,18 @@ pub const READ_ONLY: i64 = 1;
 pub const WRITE_ONLY: i64 = 2;
 
 // The kinds of walks: those that read, and those that write.
-#[derive(Drop)]
+#[derive(Clone, Copy)]
 pub enum WalkKind {
     Reading,
     Writing,
 }
 
 // A count of address units.
-#[derive(Drop)]
+#[derive(Clone, Copy)]
 pub struct Units(pub i64);
 
 // A bit address, or a difference of two.
-#[derive(Drop)]
+#[derive(Clone, Copy)]
 pub struct Bits(pub i64);
 
 impl Units {
@@ -189,7 +189,7 @@ impl Bits {
 }
 
 // Why a call refuses its input, in the order of the table of refusals. Tables and rows are those of that table.
-#[derive(Drop)]
+#[derive(Clone, Copy)]
 pub enum Reason {
     Shape { table: usize },
     Node { table: usize, row: usize },
@@ -213,7 +213,7 @@ pub enum Reason {
 }
 
 // The verdict on a pair, or on two graphs.
-#[derive(Drop)]
+#[derive(Clone, Copy)]
 pub enum Verdict {
     Equal,
     Partial,
@@ -232,21 +232,21 @@ pub fn verdict_number(v: Verdict) -> usize
 }
 
 // The answer of the check of one graph.
-#[derive(Drop)]
+#[derive(Clone, Copy)]
 pub enum Checked {
     Taken,
     Refused(Reason),
 }
 
 // The answer of a call that writes into a lent buffer: how many leaf bits, records or bytes it wrote.
-#[derive(Drop)]
+#[derive(Clone, Copy)]
 pub enum Written {
     Count(usize),
     Refused(Reason),
 }
 
 // The full result of a comparison. Where the verdict is equal, root, leaf and address are -1.
-#[derive(Drop)]
+#[derive(Clone, Copy)]
 pub struct Comparison {
     pub equal: usize,
     pub partial: usize,
@@ -258,35 +258,35 @@ pub struct Comparison {
 }
 
 // The answer of the comparison of two graphs.
-#[derive(Drop)]
+#[derive(Clone, Copy)]
 pub enum Compared {
     Result(Comparison),
     Refused(Reason),
 }
 
 // How many numbers the two tables of a sheet have.
-#[derive(Drop)]
+#[derive(Clone, Copy)]
 pub struct SheetSizes {
     pub nodes: usize,
     pub edges: usize,
 }
 
 // The answer of the call that reads a sheet.
-#[derive(Drop)]
+#[derive(Clone, Copy)]
 pub enum SheetRead {
     Tables(SheetSizes),
     Refused(Reason),
 }
 
 // How many rows a batch of addresses gives, and how many records of the list were read for them.
-#[derive(Drop)]
+#[derive(Clone, Copy)]
 pub struct BatchCounts {
     pub rows: usize,
     pub records: usize,
 }
 
 // The answer of the call that walks many addresses together.
-#[derive(Drop)]
+#[derive(Clone, Copy)]
 pub enum Batched {
     Counts(BatchCounts),
     Refused(Reason),

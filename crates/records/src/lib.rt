@@ -15,7 +15,7 @@ const LAST: usize = 1;
 const DISPLACEMENT: usize = 2;
 
 // Root bits first to last reach leaf bits that stand `displacement` below them.
-#[derive(Drop)]
+#[derive(Clone, Copy)]
 pub struct Record {
     pub first: i64,
     pub last: i64,

@@ -18,21 +18,21 @@ use runs::{Clipped, Run, clip, shift};
 use sorting::{Row, row_at};
 
 // A run from the owner in place of the root: what it has as root bits are bit addresses of the owner.
-#[derive(Drop)]
+#[derive(Clone, Copy)]
 pub struct Reference {
     pub owner: usize,
     pub run: Run,
 }
 
 // What comes over an edge.
-#[derive(Drop)]
+#[derive(Clone, Copy)]
 pub enum Brought {
     Left(Reference),
     Nothing,
 }
 
 // The least of some displacements, and the least past all of them.
-#[derive(Drop)]
+#[derive(Clone, Copy)]
 struct Displacements {
     least: Bits,
     past: Bits,

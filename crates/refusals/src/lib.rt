@@ -17,7 +17,7 @@ const NUMBER_WEIGHT: usize = 100000000;
 const TABLE_WEIGHT: usize = 10000000;
 
 // Number, table and row of a refusal.
-#[derive(Drop)]
+#[derive(Clone, Copy)]
 pub struct Refusal {
     pub number: usize,
     pub table: usize,

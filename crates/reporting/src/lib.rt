@@ -19,7 +19,7 @@ const HEADING_LENGTH: usize = 42;
 const MIDDLE_LENGTH: usize = 51;
 
 // The lengths of the two lists of a pair for one kind of walk.
-#[derive(Drop)]
+#[derive(Clone, Copy)]
 pub struct Lengths {
     pub spec: usize,
     pub implementation: usize,

@@ -8,7 +8,7 @@ ghost use Rattle.runs.specs.Clipping.{run_of, living, living_of, SmallRun, Small
 use model::Bits;
 
 // The bit addresses low to high at some node, and the root bit that has walked to low.
-#[derive(Drop)]
+#[derive(Clone, Copy)]
 pub struct Run {
     pub root: Bits,
     pub low: Bits,
@@ -16,7 +16,7 @@ pub struct Run {
 }
 
 // What is left of a run once it is clipped.
-#[derive(Drop)]
+#[derive(Clone, Copy)]
 pub enum Clipped {
     Left(Run),
     Nothing,

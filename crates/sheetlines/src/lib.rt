@@ -23,7 +23,7 @@ pub const LINE_ROOM: usize = EDGE_WIDTH * (MAX_EDGES + 1);
 const ROW_ROOM: usize = MAX_NAMES + 1;
 
 // A line of a sheet.
-#[derive(Drop)]
+#[derive(Clone, Copy)]
 struct SheetRow {
     initiator: i64,
     block: i64,
@@ -107,7 +107,7 @@ fn line_of(row: &[i64], cs: Columns) -> SheetRow
 }
 
 // A line of the sheet, with the cursor before the next line, or why it is refused.
-#[derive(Drop)]
+#[derive(Clone, Copy)]
 enum Value {
     Line(SheetRow, Cursor),
     Bad(Reason),
@@ -155,7 +155,7 @@ fn keep_line(kept: &mut [i64], n: usize, s: SheetRow) -> usize
 // ---- the sheet
 
 // How many numbers are kept of the lines that were read, or the refusal.
-#[derive(Drop)]
+#[derive(Clone, Copy)]
 pub enum Lines {
     Ended(usize),
     Refused(Reason),

@@ -17,7 +17,7 @@ use model::Reason;
 const ROW_ROOM: usize = MAX_NAMES + 1;
 
 // A row that was read, of side or role 0 or 1, with the cursor before the next line.
-#[derive(Drop)]
+#[derive(Clone, Copy)]
 enum Row {
     First(Cursor),
     Second(Cursor),
@@ -76,14 +76,14 @@ fn is_table_end(text: &[u8], at: usize, last: bool) -> bool
 }
 
 // How many numbers stand in the table of side or role 0, and in that of 1.
-#[derive(Drop)]
+#[derive(Clone, Copy)]
 pub struct Counts {
     pub first: usize,
     pub second: usize,
 }
 
 // The rows of a table that were read, with the cursor behind them, or the refusal.
-#[derive(Drop)]
+#[derive(Clone, Copy)]
 pub enum Rows {
     Ended(Cursor, Counts),
     Refused(Reason),

@@ -1,5 +1,6 @@
 // The step over an edge in the order of 000, 2.5.1: bits are clipped after they are shifted.
 #![tactic(auto)]
+
 ghost use Rattle.std.specs.Prelude.{◌≡◌, ◌+◌, ◌*◌, ◌≤◌, length};
 ghost use Rattle.model.specs.Limits.{edge_width};
 ghost use Rattle.model.specs.Graph.{graph_of};

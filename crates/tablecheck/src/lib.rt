@@ -24,7 +24,7 @@ use survey::{put_all, survey};
 use totals::Kept;
 
 // The outcome of the check of tables: the length of the report with the whole verdict that it states, or the refusal.
-#[derive(Drop)]
+#[derive(Clone, Copy)]
 pub enum Outcome {
     Reported { length: usize, verdict: Verdict },
     Refused(Reason),

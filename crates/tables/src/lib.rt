@@ -17,7 +17,7 @@ use model::{
 };
 
 // A node row.
-#[derive(Drop)]
+#[derive(Clone, Copy)]
 pub struct NodeRow {
     pub kind: i64,
     pub base: Units,
@@ -27,7 +27,7 @@ pub struct NodeRow {
 }
 
 // An edge row.
-#[derive(Drop)]
+#[derive(Clone, Copy)]
 pub struct EdgeRow {
     pub from: i64,
     pub to: i64,

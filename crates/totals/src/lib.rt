@@ -13,7 +13,7 @@ use reporting::{Lengths, line_length, line_number};
 
 // What is found of a pair for one kind of walk: its verdict, the lengths of its lists, and, where it was asked for, the lowest bit address at which they differ, -1
 // where they differ nowhere.
-#[derive(Drop)]
+#[derive(Clone, Copy)]
 pub struct Found {
     pub verdict: Verdict,
     pub lengths: Lengths,
@@ -21,7 +21,7 @@ pub struct Found {
 }
 
 // What is kept of the pairs so far: their full result, how many have a line, and how many bytes these lines have.
-#[derive(Drop)]
+#[derive(Clone, Copy)]
 pub struct Kept {
     pub result: Comparison,
     pub count: usize,
@@ -29,7 +29,7 @@ pub struct Kept {
 }
 
 // Root row and leaf row of a pair, and a bit address.
-#[derive(Drop)]
+#[derive(Clone, Copy)]
 struct Place {
     root: i64,
     leaf: i64,

@@ -9,14 +9,14 @@ ghost use Rattle.values.specs.Given.{scanned, digits_value, signed_value};
 use model::MAX_DIGITS;
 
 // The number that digits write.
-#[derive(Drop)]
+#[derive(Clone, Copy)]
 enum Digits {
     Value(u64),
     Bad,
 }
 
 // The number that a field writes.
-#[derive(Drop)]
+#[derive(Clone, Copy)]
 pub enum Signed {
     Value(i64),
     Bad,

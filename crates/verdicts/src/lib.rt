@@ -9,7 +9,7 @@ ghost use Rattle.verdicts.specs.Records.{as_record, SmallRootBits, SmallList};
 ghost use Rattle.verdicts.specs.OnePass as pass;
 
 // Root bits first .. last reach leaf bits that stand displacement below them.
-#[derive(Drop)]
+#[derive(Clone, Copy)]
 pub struct Record {
     pub first: i64,
     pub last: i64,
@@ -17,7 +17,7 @@ pub struct Record {
 }
 
 // The lowest address found so far, -1 where there is none.
-#[derive(Drop)]
+#[derive(Clone, Copy)]
 pub struct Least(pub i64);
 
 // Record i of the list t.

@@ -30,14 +30,14 @@ const NONE: i64 = -1;
 type Numbers = [i64; RESULT_NUMBERS];
 
 // A group by its leaf rows: how many there are, and the last of them.
-#[derive(Drop)]
+#[derive(Clone, Copy)]
 struct Group {
     banks: usize,
     last: usize,
 }
 
 // The verdict on a pair, or on one kind of walk over it, and the lowest address that differs. Where none does, the address lies behind every root.
-#[derive(Drop)]
+#[derive(Clone, Copy)]
 struct Judged {
     verdict: usize,
     address: usize,

@@ -7,7 +7,7 @@ use generator::rows::{Map, READ_ONLY, READ_WRITE, WRITE_ONLY};
 use model::WalkKind;
 
 // What is asked for: walks of a kind from a root to a leaf.
-#[derive(Drop)]
+#[derive(Clone, Copy)]
 pub(crate) struct Asked {
     pub(crate) root: usize,
     pub(crate) leaf: usize,

@@ -10,7 +10,9 @@ use Rattle.steps.proofs.step.Goals.{After-offset_of-offset}
 use Rattle.steps.proofs.step.Goals as goal
 
 pub returns : goal.returns
-returns c = step_returns _ _ _ _ c.clip.result _ _ _ c.clip.ensures.0 (search rules) (search rules) (search (rules, shift-read))
+returns c =
+    let r = step_returns _ _ _ _ c.clip.result _ _ _ c.clip.ensures.result_value (search rules) (search rules) (search (rules, shift-read)) in
+    record { result_value = r.0; stepped = r.1 }
 
 pub offset_of-offset-requires : goal.offset_of-offset-requires
 offset_of-offset-requires c = (c.requires.0, c.requires.1)
@@ -26,6 +28,6 @@ entered_extent-entered-requires c = (c.requires.0, c.requires.1)
 
 pub clip-requires : goal.clip-requires
 clip-requires c = (
-  subst Clippable (sym c.shift-shifted.ensures.0) (shift_clippable c.requires.2 (small (goal.at.clip-requires c).After-offset_of-offset)),
+  subst Clippable (sym c.shift-shifted.ensures.result_value) (shift_clippable c.requires.2 (small (goal.at.clip-requires c).After-offset_of-offset)),
   to-small c.requires.0 c.args.e c.requires.1 c.entered_extent-entered.ensures,
 )

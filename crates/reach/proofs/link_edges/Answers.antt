@@ -35,7 +35,7 @@ turn-state : (k : After-edge_to-to)
     (suc (k.loop-e.e - 1))
 turn-state k =
     let l = k.loop-e in
-    linking_at k.args.nodes.now k.args.edges.now k.args.counts.now (suc (k.e - 1)) (omega arith) k.invariant
+    linking_at k.args.nodes.now k.args.edges.now k.args.counts.now (suc (l.e - 1)) (omega arith) l.invariant
 
 pub fill-requires : goal.fill-requires
 fill-requires c = omega (arith, c.requires.node_room, nodes_length c.args.nodes.now)

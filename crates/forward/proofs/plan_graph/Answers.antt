@@ -25,7 +25,7 @@ mark_leading-requires c =
 
 pub store_leading-requires : goal.store_leading-requires
 store_leading-requires c =
-    (marks-passable (goal.at.store_leading-requires c).After-mark_leading, c.link_entering.auto.plan ∙ c.requires.room)
+    record { backward_rows = marks-passable (goal.at.store_leading-requires c).After-mark_leading; plan_len = c.link_entering.auto.plan ∙ c.requires.room }
 
 pub returns : goal.returns
 returns c =
@@ -33,7 +33,4 @@ returns c =
     let marks =
     leading_marks c.requires.rows c.mark_leaves.ensures (c.mark_leading.ensures ns) in
     let linked = c.link_entering.new.plan in
-    let room = c.link_entering.auto.plan ∙ c.requires.room in (
-      plan-planned linked c.requires.tables (marks-passable (goal.at.returns c).After-mark_leading) marks room c.store_leading.ensures c.link_entering.ensures,
-      plan_leading linked c.requires.tables (marks-passable (goal.at.returns c).After-mark_leading) marks room c.store_leading.ensures,
-    )
+    let room = c.link_entering.auto.plan ∙ c.requires.room in record { planned = plan-planned linked c.requires.tables (marks-passable (goal.at.returns c).After-mark_leading) marks room c.store_leading.ensures c.link_entering.ensures; leading_to = plan_leading linked c.requires.tables (marks-passable (goal.at.returns c).After-mark_leading) marks room c.store_leading.ensures }

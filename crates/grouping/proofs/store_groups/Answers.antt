@@ -58,8 +58,8 @@ loop-row-preserved c =
     let v = c.pair_node-v.result in
     let h = c.loop-row-test.true in
     elim c.if-head-v.branch-raw [
-      | inl w ↦ rw (w.1, w.2) (store_lowest pairs c.loop-row.invariant h c.requires.heads v c.pair_node-v.ensures w.0.true)
-      | inr w ↦ rw (w.1, w.2) (store_over pairs c.loop-row.invariant h c.requires.heads v c.pair_node-v.ensures w.0.false)
+      | inl w ↦ rw (w.links-is, w.groups-is) (store_lowest pairs c.loop-row.invariant h c.requires.heads v c.pair_node-v.ensures w.if-head-v.true)
+      | inr w ↦ rw (w.links-is, w.groups-is) (store_over pairs c.loop-row.invariant h c.requires.heads v c.pair_node-v.ensures w.if-head-v.false)
     ]
 
 pub bounds-links-2000 : goal.bounds-links-2000

@@ -23,11 +23,9 @@ tables s =
 
 -- the counts keep their sizes in a turn
 sizes : (k : After-check_row-c)
-    → let after = k.check_row-c.new.1.1.1.1.1.1.1.1.1.1 in
-    (length after.0 ≡ length k.args.spec_counts.now) × (length after.1.0 ≡ length k.args.impl_counts.now)
+    → (length k.check_row-c.new.spec_counts ≡ length k.args.spec_counts.now) × (length k.check_row-c.new.impl_counts ≡ length k.args.impl_counts.now)
 sizes k =
-    let kept = k.check_row-c.auto.1.1.1.1.1.1.1.1.1.1 in
-    (kept.0 ∙ k.loop-root_row.invariant.0, kept.1.0 ∙ k.loop-root_row.invariant.1)
+    (k.check_row-c.auto.spec_counts ∙ k.loop-root_row.invariant.0, k.check_row-c.auto.impl_counts ∙ k.loop-root_row.invariant.1)
 
 pub returns-then-planned_count-eq0 : goal.returns-then-planned_count-eq0
 unfolding answer

@@ -56,9 +56,9 @@ inputs k =
     (graph-taken k.check_graph_with-c-2.ensures k.in_default-c.is)
     (taken_none (check_pairing_rows t) k.in_default-c-2.is k.check_pairing-c.ensures)
 
--- both graphs are for.before.before.before.before them, and the groups linked
+-- both graphs are planned for them, and the groups linked
 plans : (n : After-link_banks)
-    → Plans (tables (goal.at.After-link_banks n).Start) n.plan_graph.last.1.1.1.1.1.0 n.plan_graph-2.last.1.1.1.1.1.0 n.link_banks.new.links
+    → Plans (tables (goal.at.After-link_banks n).Start) n.plan_graph.new.plan n.plan_graph-2.new.plan n.link_banks.new.links
 plans n =
     record {
       inputs = inputs (goal.at.After-link_banks n).In_default-c-2;
@@ -107,24 +107,24 @@ link_banks-requires c =
 
 pub slice_bounds-check_paths-end : goal.slice_bounds-check_paths-end
 slice_bounds-check_paths-end c =
-    let room = c.check_graph_with-c.auto.1.1.1.1.0 ∙ length-replicate {A = ℕ} max_edges 0 in
+    let room = c.check_graph_with-c.auto.order ∙ length-replicate {A = ℕ} max_edges 0 in
     search (rules, room)
 
 pub check_paths-requires : goal.check_paths-requires
 check_paths-requires c =
     let room = length-replicate {A = ℕ} max_edges 0 in (
       plans (goal.at.check_paths-requires c).After-link_banks,
-      omega (arith, c.check_graph_with-c.auto.1.1.1.1.0, room),
-      omega (arith, c.check_graph_with-c-2.auto.1.1.1.1.0, room),
+      omega (arith, c.check_graph_with-c.auto.order, room),
+      omega (arith, c.check_graph_with-c-2.auto.order, room),
     )
 
 pub shape_of-spec_plan : goal.shape_of-spec_plan
 shape_of-spec_plan c =
-    c.plan_graph.auto.1.1.1.1.1.0 ∙ c.check_graph_with-c.auto.1.1.1.0
+    c.plan_graph.auto.plan ∙ c.check_graph_with-c.auto.rest
 
 pub shape_of-impl_plan : goal.shape_of-impl_plan
 shape_of-impl_plan c =
-    c.plan_graph-2.auto.1.1.1.1.1.0 ∙ c.check_graph_with-c-2.auto.1.1.1.0
+    c.plan_graph-2.auto.plan ∙ c.check_graph_with-c-2.auto.rest
 
 pub returns : goal.returns
 returns c =

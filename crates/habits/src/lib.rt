@@ -1,6 +1,7 @@
 // The habits by which an implementation map comes from a specification map. Nodes that a habit adds stand at the end of the plain map, so that
 // roots and leaves keep their rows.
 #![tactic(auto)]
+
 pub mod arrangements;
 
 use generator::maps::Shape;

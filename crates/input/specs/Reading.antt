@@ -7,4 +7,4 @@ use Rattle.input.specs.declared.Input.TheVariants as input
 abbrev pub InputWithin : ℕ → Input → Type 0
 InputWithin room (input.Bytes n) = n ≤ room
 InputWithin room (input.Full n) = n ≡ room
-InputWithin room input.Failed = Unit {0}
+InputWithin room (input.Failed error) = Unit {0}

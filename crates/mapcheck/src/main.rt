@@ -1,12 +1,12 @@
 // Checks the map file on standard input and prints the report, or the refusal.
 #![tactic(auto)]
+
 ghost use Rattle.std.specs.Prelude.{◌≡◌, ◌≤◌, length};
 ghost use Rattle.model.specs.Limits.{report_room};
 ghost use Rattle.model.specs.TextCheck.{printed};
 ghost use Rattle.report.specs.Put.{Put};
 
 use input::{Input, TEXT_ROOM};
-use libc::STDOUT_FILENO;
 use model::Written;
 
 // Bytes of the report buffer.
@@ -26,36 +26,35 @@ fn put_printed(text: &[u8], out: &mut [u8]) -> usize
 
 // Writes what it is lent, which is what is printed for a text, to standard output. The contract alone names the text. Where that cannot be written, it
 // says so on standard error.
-fn write_printed(text: &[u8], out: &[u8])
+fn write_printed(rt: &(impl Print + Eprint), text: &[u8], out: &[u8])
     requires { out.now ≡ printed text.now }
 {
-    let is_written = io::write_all(STDOUT_FILENO, out);
-    if !is_written {
-        os::fail(b"standard output");
+    if let Err(error) = rt.write_all(out) {
+        input::say_failed(rt, "standard output", error);
     }
 }
 
 // Prints what is printed for the text of the first n bytes.
-fn print_text(text: &[u8], n: usize)
+fn print_text(rt: &(impl Print + Eprint), text: &[u8], n: usize)
     requires { n ≤ length text.now }
 {
     let mut out = [0u8; REPORT_ROOM];
     let length = put_printed(&text[..n], &mut out);
-    write_printed(&text[..n], &out[..length]);
+    write_printed(rt, &text[..n], &out[..length]);
 }
 
-fn main() {
+fn main(rt: HostRuntime) {
     let mut text = [0u8; TEXT_ROOM];
-    let input = input::read_input(&mut text);
+    let input = input::read_input(&mut rt.stdin(), &mut text);
     match input {
         Input::Bytes(n) => {
-            print_text(&text, n);
+            print_text(&rt, &text, n);
         }
         Input::Full(n) => {
-            print_text(&text, n);
+            print_text(&rt, &text, n);
         }
-        Input::Failed => {
-            os::fail(b"standard input");
+        Input::Failed(error) => {
+            input::say_failed(&rt, "standard input", error);
         }
     }
 }

@@ -1,5 +1,6 @@
 // Reads the global address sheet on standard input and prints its tables as the first two tables of a map file, or the refusal.
 #![tactic(auto)]
+
 ghost use Rattle.std.specs.Prelude.{◌≡◌, ◌≤◌, length, take};
 ghost use Rattle.model.specs.SheetCall.{graph_lines, sheet_printed};
 ghost use Rattle.report.specs.Put.{Put};
@@ -7,7 +8,6 @@ ghost use Rattle.graphlines.specs.Rows.{print_room};
 
 use graphlines::PRINT_ROOM;
 use input::{Input, TEXT_ROOM};
-use libc::STDOUT_FILENO;
 use model::{EDGE_WIDTH, MAX_EDGES, MAX_NODES, NODE_WIDTH, SheetRead, SheetSizes};
 
 // Numbers of the largest tables.
@@ -42,36 +42,35 @@ fn put_printed(text: &[u8], out: &mut [u8]) -> usize
 
 // Writes what it is lent, which is what is printed for a sheet, to standard output. The contract alone names the sheet. Where that cannot be written, it
 // says so on standard error.
-fn write_printed(text: &[u8], out: &[u8])
+fn write_printed(rt: &(impl Print + Eprint), text: &[u8], out: &[u8])
     requires { out.now ≡ sheet_printed text.now }
 {
-    let is_written = io::write_all(STDOUT_FILENO, out);
-    if !is_written {
-        os::fail(b"standard output");
+    if let Err(error) = rt.write_all(out) {
+        input::say_failed(rt, "standard output", error);
     }
 }
 
 // Prints what is printed for the sheet of the first n bytes.
-fn print_sheet(text: &[u8], n: usize)
+fn print_sheet(rt: &(impl Print + Eprint), text: &[u8], n: usize)
     requires { n ≤ length text.now }
 {
     let mut out = [0u8; PRINT_ROOM];
     let length = put_printed(&text[..n], &mut out);
-    write_printed(&text[..n], &out[..length]);
+    write_printed(rt, &text[..n], &out[..length]);
 }
 
-fn main() {
+fn main(rt: HostRuntime) {
     let mut text = [0u8; TEXT_ROOM];
-    let input = input::read_input(&mut text);
+    let input = input::read_input(&mut rt.stdin(), &mut text);
     match input {
         Input::Bytes(n) => {
-            print_sheet(&text, n);
+            print_sheet(&rt, &text, n);
         }
         Input::Full(n) => {
-            print_sheet(&text, n);
+            print_sheet(&rt, &text, n);
         }
-        Input::Failed => {
-            os::fail(b"standard input");
+        Input::Failed(error) => {
+            input::say_failed(&rt, "standard input", error);
         }
     }
 }

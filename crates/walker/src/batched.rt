@@ -701,7 +701,7 @@ fn try_drawn(
     count: usize,
     counts: &mut Counts,
 ) {
-    let mut seed = cell(counts, tally::LISTS);
+    let mut seed = tally::count_of(counts, tally::LISTS);
     let mut addresses = [0i64; PLACES];
     let n = sum(LEAST, draw(&mut seed, MORE));
     let turn = draw(&mut seed, KINDS);
@@ -733,7 +733,7 @@ pub(crate) fn try_batches(
     let none = part(map, 0, 0);
     try_batch(map, shape, asked, reached, found, count, none, counts);
     try_drawn(map, shape, asked, reached, found, count, counts);
-    if rest(cell(counts, tally::LISTS), LONG) == 0 {
+    if rest(tally::count_of(counts, tally::LISTS), LONG) == 0 {
         try_long(map, shape, asked, reached, found, count, counts);
     }
 }

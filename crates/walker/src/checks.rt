@@ -175,7 +175,7 @@ fn try_walks(
     counts: &mut Counts,
 ) {
     for k in 0..ADDRESSES {
-        let walk = cell(counts, tally::WALKS);
+        let walk = tally::count_of(counts, tally::WALKS);
         let address = address_of(map, asked.root, found, count, k, walk);
         try_walk(map, shape, asked, address, reached, counts);
     }

@@ -1,6 +1,7 @@
 // Maps by a seeded generator, small enough to walk bit by bit: every list, walk and batch for each kind of walk, and every verdict, count, first pair and
 // address of the calls under test is held against a walk that knows only single bit addresses. Prints what was tried, and the differences found.
 #![tactic(auto)]
+
 mod batched;
 mod checks;
 mod comparisons;
@@ -284,8 +285,8 @@ fn try_all(counts: &mut Counts) {
     }
 }
 
-fn main() {
-    let mut counts = [0usize; tally::COUNTS];
+fn main(rt: HostRuntime) {
+    let mut counts = tally::fresh(rt.stdout());
     try_all(&mut counts);
     tally::print(&counts);
 }

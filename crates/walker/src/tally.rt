@@ -1,5 +1,6 @@
 // What was tried, counted by kind, and printed line by line.
 use generator::numbers::{cell, store, sum};
+use std::io::Stdout;
 
 // What is counted, in the order in which it is printed.
 pub(crate) const MAPS: usize = 0;
@@ -144,7 +145,12 @@ pub(crate) const DIFFERENCES: usize = 106;
 
 pub(crate) const COUNTS: usize = 107;
 
-pub(crate) type Counts = [usize; COUNTS];
+// The counts, and where they are printed.
+#[derive(Drop)]
+pub(crate) struct Counts {
+    kinds: [usize; COUNTS],
+    out: Stdout,
+}
 
 // No count here comes to this.
 const MOST: usize = 1000000000;
@@ -152,15 +158,26 @@ const MOST: usize = 1000000000;
 // Differences printed at most.
 const SHOWN: usize = 20;
 
-const STANDARD_OUTPUT: i32 = 1;
-
 const LINE_FEED: u8 = b'\n';
 
+// Counts of nothing, which are printed on standard output.
+pub(crate) fn fresh(out: Stdout) -> Counts {
+    Counts {
+        kinds: [0; COUNTS],
+        out,
+    }
+}
+
+// The count of a kind.
+pub(crate) fn count_of(counts: &Counts, kind: usize) -> usize {
+    cell(&counts.kinds, kind)
+}
+
 pub(crate) fn add(counts: &mut Counts, kind: usize, more: usize) {
-    let before = cell(counts, kind);
+    let before = count_of(counts, kind);
     if before < MOST {
         if more < MOST {
-            store(counts, kind, before + more);
+            store(&mut counts.kinds, kind, before + more);
         }
     }
 }
@@ -176,23 +193,24 @@ pub(crate) fn count_if(counts: &mut Counts, kind: usize, holds: bool) {
     }
 }
 
-pub(crate) fn say(text: &[u8]) {
-    io::write_all(STANDARD_OUTPUT, text);
+// What cannot be written is lost, and the counting goes on.
+fn say(counts: &Counts, text: &[u8]) {
+    let _ = counts.out.write_all(text);
 }
 
-fn say_number(n: usize) {
-    io::print_decimal(STANDARD_OUTPUT, n as u64);
+fn say_number(counts: &Counts, n: usize) {
+    let _ = counts.out.print(n);
 }
 
 // A call that does not answer as the walk by single addresses says: counted, and printed with the map's number, from 1.
 pub(crate) fn differs(counts: &mut Counts, what: &[u8]) {
     count(counts, DIFFERENCES);
-    if cell(counts, DIFFERENCES) > SHOWN {
+    if count_of(counts, DIFFERENCES) > SHOWN {
         return;
     }
-    say(b"map ");
-    say_number(cell(counts, MAPS));
-    say(what);
+    say(counts, b"map ");
+    say_number(counts, count_of(counts, MAPS));
+    say(counts, what);
 }
 
 // Whether a line begins at a place of a text.
@@ -209,17 +227,17 @@ fn begins_line(names: &[u8], i: usize) -> bool {
 // Prints a count before the line that names it.
 fn print_count(counts: &Counts, kind: usize, names: &[u8], i: usize) {
     if begins_line(names, i) {
-        say_number(cell(counts, kind));
-        say(b" ");
+        say_number(counts, count_of(counts, kind));
+        say(counts, b" ");
     }
 }
 
 // Prints one byte of a text. Gives the kind that the byte after it belongs to.
-fn print_byte(kind: usize, names: &[u8], i: usize) -> usize {
+fn print_byte(counts: &Counts, kind: usize, names: &[u8], i: usize) -> usize {
     if i >= names.len() {
         return kind;
     }
-    say(&names[i..i + 1]);
+    say(counts, &names[i..i + 1]);
     if names[i] == LINE_FEED {
         sum(kind, 1)
     } else {
@@ -232,7 +250,7 @@ fn print_lines(counts: &Counts, first: usize, names: &[u8]) {
     let mut kind = first;
     for i in 0..names.len() {
         print_count(counts, kind, names, i);
-        kind = print_byte(kind, names, i);
+        kind = print_byte(counts, kind, names, i);
     }
 }
 

@@ -1,0 +1,9 @@
+-- at bytes are read, no more than there is room for; each turn reads one at least.
+use Rattle.std.proofs.Common.{◌≡◌, ◌-◌, ◌≤◌, length}
+use Rattle.input.proofs.read_input.Given as goal
+
+abbrev pub invariant-loop-at : goal.invariant-loop-at
+invariant-loop-at g l = (l.at ≤ length l.text) × (length l.text ≡ length l.initial.text)
+
+abbrev pub decreases-loop-at : goal.decreases-loop-at
+decreases-loop-at g l = length l.initial.text - l.at

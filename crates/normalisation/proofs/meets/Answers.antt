@@ -6,18 +6,15 @@ use mir.Val.{SFits}
 use mir.Facts.{to_z-of_z}
 use Rattle.integers.proofs.Linear.{ints, sum}
 use Rattle.integers.proofs.Range.{fits64, range64}
-use Rattle.normalisation.proofs.meets.Statement.{statement}
-use Rattle.normalisation.proofs.meets.Tie as tie
+use Rattle.normalisation.proofs.meets.Goals.{Start}
+use Rattle.normalisation.proofs.meets.Goals as goal
 
 -- one more than the last bit
-above : (s : tie.Start) → SFits w64 (s.args.last +ℤ pos 1)
+above : (s : Start) → SFits w64 (s.args.last +ℤ pos 1)
 above s = fits64 (omega (arith, ints, s.requires, range64 s.ranges.last, sum s.args.last (pos 1)))
 
-add-result : tie.Need-overflow-add-result
-add-result c = rw (to_z-of_z c.ranges.last) (above c)
+pub overflow_add-result : goal.overflow_add-result
+overflow_add-result c = rw (to_z-of_z c.ranges.last) (above c)
 
-returns : tie.Need-returns
+pub returns : goal.returns
 returns c = simp (to_z-of_z, c.ranges.first, c.ranges.last, above c)
-
-pub meets-spec : {M : Type 1} → statement M
-meets-spec = tie.close (tie.spec add-result returns)

@@ -1,5 +1,6 @@
 // Refusal 12, over the whole text: its length, its bytes and its last line.
 #![tactic(auto)]
+
 ghost use Rattle.std.specs.Prelude.{◌≡◌};
 ghost use Rattle.model.specs.Calls.{answer};
 ghost use Rattle.model.specs.Answers.{checked_answer};

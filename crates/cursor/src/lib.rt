@@ -1,5 +1,6 @@
 // The text cursor, by value: it reads the fields of a line one after the other, and a line of values whole.
 #![tactic(auto)]
+
 ghost use Rattle.std.specs.Prelude.{◌≡◌, suc, ◌+◌, ◌≤◌, length, drop};
 ghost use Rattle.cursor.specs.Parts.{later_lines, first_field, blank_first, inner_value, last_value, rest_of};
 ghost use Rattle.cursor.specs.Given.{FieldGiven, InText, NumGiven, LineGiven};

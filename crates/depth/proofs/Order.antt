@@ -118,7 +118,7 @@ module _ (graph : List Edge) where
   peeled-backward zero es h = tt
   peeled-backward {before} (suc k) es h =
       backward_append (lasts es) (peeled k (followed es)) (λ e m f n q. ⊎_elim (λ p. p) (λ p. absurd ((lasts_out es m).1 f p q)) (h f n))
-      (peeled-backward k (followed es) rest)
+      (peeled-backward {before = lasts es ++ before} k (followed es) rest)
     where
       rest : (f : Edge) → f ∈ graph → f ∈ (lasts es ++ before) ⊎ f ∈ followed es
       rest f n =

@@ -1,5 +1,6 @@
 // The plan of a graph for a comparison, made once: the edges that lead to a paired leaf, from the roots down, and for each node the edges that enter it.
 #![tactic(auto)]
+
 ghost use Rattle.std.specs.Prelude.{◌≡◌, ◌+◌, ◌≤◌, ◌<◌, length, get_or, set};
 ghost use Rattle.lists.specs.Lists.{◌∈◌};
 ghost use Rattle.forward.specs.Forward.{head_at, next_at, planned_count, plan_room, Planned, LeadingTo, nodes_in, Plannable};

@@ -1,5 +1,6 @@
 // The groups of leaf pairs, linked once a comparison: the lowest row of each group, and for each leaf row the next row of its group.
 #![tactic(auto)]
+
 ghost use Rattle.std.specs.Prelude.{◌≡◌, [], ◌+◌, ◌/◌, ◌<◌, length};
 ghost use Rattle.model.specs.Limits.{pair_width};
 ghost use Rattle.model.specs.Rows.{pair_rows};

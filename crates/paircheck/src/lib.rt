@@ -1,5 +1,6 @@
 // The check of a pairing: shapes, empty tables, and the rows of both pair tables, but for the paths between paired nodes.
 #![tactic(auto)]
+
 ghost use Rattle.std.specs.Prelude.{◌≡◌, ◌≤◌, length};
 ghost use Rattle.model.specs.Limits.{max_nodes};
 ghost use Rattle.model.specs.Rows.{node_rows, edge_rows};

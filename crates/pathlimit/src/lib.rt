@@ -1,5 +1,6 @@
 // Refusal 10: the first pair in visiting order with more than MAX_PATHS paths. One count of the paths from a root in each graph serves all groups.
 #![tactic(auto)]
+
 ghost use Rattle.std.specs.Prelude.{◌≡◌, ◌/◌, ◌≤◌, ◌<◌, length};
 ghost use Rattle.model.specs.Limits.{pair_width, max_nodes};
 ghost use Rattle.model.specs.Rows.{pair_rows};

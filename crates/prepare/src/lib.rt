@@ -1,5 +1,6 @@
 // What comes before a comparison: all checks of its tables, the plans of both graphs, and the links of groups.
 #![tactic(auto)]
+
 ghost use Rattle.std.specs.Prelude.{◌≡◌, length};
 ghost use Rattle.forward.specs.Forward.{plan_room};
 ghost use Rattle.grouping.specs.Links.{link_room};

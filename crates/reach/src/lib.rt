@@ -1,5 +1,6 @@
 // Counts of the paths to a leaf, and the edges that can still reach it, linked by the node that they leave.
 #![tactic(auto)]
+
 ghost use Rattle.std.specs.Prelude.{◌≡◌, ◌++◌, ◌+◌, ◌≤◌, ◌<◌, pos, length, get_or, set, replicate, drop};
 ghost use Rattle.model.specs.Limits.{max_paths};
 ghost use Rattle.model.specs.Graph.{graph_of};

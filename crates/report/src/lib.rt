@@ -1,5 +1,6 @@
 // Report lines, byte for byte. A writer puts its line at the front of the buffer that it is lent and returns the line's length.
 #![tactic(auto)]
+
 ghost use Rattle.std.specs.Prelude.{◌≡◌, ◌≤◌, ◌<◌, ◌^◌, nat_abs, length};
 ghost use Rattle.model.specs.Answers.{numbered};
 ghost use Rattle.model.specs.Bytes.{bytes, digits, shown};

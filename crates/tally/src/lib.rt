@@ -1,5 +1,6 @@
 // The tally record: sixteen rows of four counts, a row for each caller.
 #![tactic(auto)]
+
 ghost use Rattle.std.specs.Prelude.{◌≡◌, ◌<◌};
 ghost use Rattle.model.specs.Limits.{callers, count_kinds};
 ghost use Rattle.model.specs.Tally.{caller_of, count_place, one_more, one_more_for, fresh_tally};

@@ -1,5 +1,6 @@
 // Values: the number that a field writes.
 #![tactic(auto)]
+
 ghost use Rattle.std.specs.Prelude.{◌≡◌, ◌≤◌, pos, length};
 ghost use Rattle.std.proofs.Math.Option.{map};
 ghost use Rattle.model.specs.Limits.{max_digits};

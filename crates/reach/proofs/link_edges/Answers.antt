@@ -1,0 +1,105 @@
+use mathlib.Core.Path.{◌∙◌}
+use Prim.Native.Nat.{suc, ◌-◌, ◌/◌, ◌≤◌, ◌<◌}
+use native.Mathlib.Omega.{arith}
+use lib.ListN.{length}
+use Rattle.model.specs.Limits.{node_width}
+use Rattle.tables.proofs.Rows.{nodes_length}
+use Rattle.reach.proofs.Ends.{Ends, edge_ends, from-below, to_below}
+use Rattle.reach.proofs.Links.{Linking, linking_at, link_start, link_dead, link_live, link_end}
+use Rattle.reach.proofs.link_edges.Goals.{After-edge_to-to, In-loop-e}
+use Rattle.reach.proofs.link_edges.Goals as goal
+
+-- the edge of a turn has its ends among the nodes
+turn_ends : (k : In-loop-e)
+    → Ends k.args.nodes.now k.args.edges.now (k.loop-e.e - 1)
+turn_ends k =
+    let l = k.loop-e in
+    edge_ends k.args.nodes.now k.args.edges.now l.invariant.tables (l.e - 1) (omega (arith, l.invariant.within))
+
+-- both ends are indices of nodes, and the heads have a place for each node
+turn_within : (k : After-edge_to-to)
+    → let n = length k.args.nodes.now / node_width in
+    (k.edge_from-from.result < n) × (k.edge_to-to.result < n) × (n ≤ length k.loop-e.head) × (n ≤ length k.args.counts.now)
+turn_within k =
+    let e = turn_ends (goal.at.offset_bounds-head-from k).In-loop-e in (
+      from-below e k.edge_from-from.result k.edge_from-from.ensures,
+      to_below e k.edge_to-to.result k.edge_to-to.ensures,
+      k.loop-e.invariant.node_room,
+      omega (arith, k.requires.counted, nodes_length k.args.nodes.now),
+    )
+
+-- the invariant, with the edge of the turn as the one before
+turn-state : (k : After-edge_to-to)
+    → Linking k.args.nodes.now k.args.edges.now k.args.counts.now k.fill.new.out k.args.next.now
+    k.loop-e.head k.loop-e.next
+    (suc (k.loop-e.e - 1))
+turn-state k =
+    let l = k.loop-e in
+    linking_at k.args.nodes.now k.args.edges.now k.args.counts.now (suc (l.e - 1)) (omega arith) l.invariant
+
+pub fill-requires : goal.fill-requires
+fill-requires c = omega (arith, c.requires.node_room, nodes_length c.args.nodes.now)
+
+pub loop-e-init : goal.loop-e-init
+loop-e-init c =
+    rw c.fill.ensures (link_start c.args.nodes.now c.args.edges.now c.args.counts.now c.requires)
+
+pub overflow_sub-e : goal.overflow_sub-e
+overflow_sub-e c = omega arith
+
+pub edge_from-from-requires : goal.edge_from-from-requires
+edge_from-from-requires c = let e = turn_ends c in (e.room, e.from_low)
+
+pub edge_to-to-requires : goal.edge_to-to-requires
+edge_to-to-requires c = let e = turn_ends (goal.at.edge_to-to-requires c).In-loop-e in (e.room, e.to_low)
+
+pub offset_bounds-head-from : goal.offset_bounds-head-from
+offset_bounds-head-from c = omega (arith, turn_within c)
+
+pub bounds-head-from : goal.bounds-head-from
+bounds-head-from c = omega (arith, turn_within (goal.at.bounds-head-from c).After-edge_to-to)
+
+pub offset_bounds-next-e : goal.offset_bounds-next-e
+offset_bounds-next-e c = omega (arith, c.loop-e.invariant.within)
+
+pub bounds-next-e : goal.bounds-next-e
+bounds-next-e c = omega (arith, c.loop-e.invariant.within, c.loop-e.invariant.edge_room)
+
+pub offset_bounds-counts-to : goal.offset_bounds-counts-to
+offset_bounds-counts-to c = omega (arith, turn_within (goal.at.offset_bounds-counts-to c).After-edge_to-to)
+
+pub bounds-counts-to : goal.bounds-counts-to
+bounds-counts-to c = omega (arith, turn_within (goal.at.bounds-counts-to c).After-edge_to-to)
+
+pub offset_bounds-head-from-then-counts-to-ne0 : goal.offset_bounds-head-from-then-counts-to-ne0
+offset_bounds-head-from-then-counts-to-ne0 c = omega (arith, turn_within (goal.at.offset_bounds-head-from-then-counts-to-ne0 c).After-edge_to-to)
+
+pub bounds-head-from-then-counts-to-ne0 : goal.bounds-head-from-then-counts-to-ne0
+bounds-head-from-then-counts-to-ne0 c = omega (arith, turn_within (goal.at.bounds-head-from-then-counts-to-ne0 c).After-edge_to-to)
+
+pub loop-e-smaller-then-counts-to-ne0 : goal.loop-e-smaller-then-counts-to-ne0
+loop-e-smaller-then-counts-to-ne0 c = omega arith
+
+pub loop-e-preserved-then-counts-to-ne0 : goal.loop-e-preserved-then-counts-to-ne0
+loop-e-preserved-then-counts-to-ne0 c =
+    link_live c.args.nodes.now c.args.edges.now c.args.counts.now (turn-state (goal.at.loop-e-preserved-then-counts-to-ne0 c).After-edge_to-to) c.edge_from-from.result c.edge_to-to.result
+    c.edge_from-from.ensures c.edge_to-to.ensures c.if-counts-to-ne0.true
+
+pub loop-e-smaller : goal.loop-e-smaller
+loop-e-smaller c = omega arith
+
+pub loop-e-preserved : goal.loop-e-preserved
+loop-e-preserved c =
+    link_dead c.args.nodes.now c.args.edges.now c.args.counts.now (turn-state (goal.at.loop-e-preserved c).After-edge_to-to) c.edge_from-from.result c.edge_to-to.result
+    c.edge_from-from.ensures c.edge_to-to.ensures c.if-counts-to-ne0.false
+
+pub shape_of-head : goal.shape_of-head
+shape_of-head c = c.loop-e.invariant.head_size ∙ c.fill.auto.out
+
+pub shape_of-next : goal.shape_of-next
+shape_of-next c = c.loop-e.invariant.next_size
+
+pub returns : goal.returns
+returns c =
+    link_end c.args.nodes.now c.args.edges.now c.args.counts.now c.args.head.now
+    (linking_at c.args.nodes.now c.args.edges.now c.args.counts.now 0 (omega arith) c.loop-e.invariant) c.fill.ensures

@@ -52,7 +52,7 @@ fn say_gap(rt: &impl Print, place: usize) {
 }
 
 // Prints all counts, four callers in a line.
-fn say_counts(rt: &impl Print, tally: Tally) {
+fn say_counts(rt: &impl Print, tally: &Tally) {
     let mut i: usize = 0;
     while i < COUNTS {
         say_number(rt, tally.counts[i]);
@@ -120,7 +120,7 @@ fn try_check(rt: &impl Print, text: &[u8], room: usize, tally: Tally, caller: i6
     say_number(rt, changed(&buffer) as u64);
     say(rt, b" bytes of the buffer changed\n");
     let next = tallied.tally;
-    say_counts(rt, next);
+    say_counts(rt, &next);
     next
 }
 

@@ -13,4 +13,4 @@ abbrev pub decreases-loop-e : goal.decreases-loop-e
 decreases-loop-e l = length l.edges / edge_width - l.e
 
 abbrev pub decreases-gather : goal.decreases-gather
-decreases-gather l = ?
+decreases-gather l = l.left

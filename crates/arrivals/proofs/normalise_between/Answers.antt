@@ -8,4 +8,4 @@ normalise_rows-requires c = part_mergeable c.requires
 pub returns : goal.returns
 returns c =
     let e = c.normalise_rows.ensures in
-    part_normalised c.requires c.normalise_rows.new.list c.normalise_rows.result e.1.1.0 e.0 e.1.0
+    part_normalised c.requires c.normalise_rows.new.list c.normalise_rows.result e.list_len_unchanged.0 e.value e.result_after

@@ -3,7 +3,6 @@ use mathlib.Core.Path.{◌≡◌, refl, sym, ap, subst, ◌∙◌}
 use mathlib.Core.Bool.{true}
 use mathlib.Core.Option.{some}
 use native.Mathlib.Omega.{arith}
-use borrow.Author.Tests.{not-true, not-false}
 use lib.IntN.{pos}
 use Rattle.model.specs.declared.WalkKind.{WalkKind}
 use Rattle.model.specs.Graph.{graph_of, node}
@@ -27,7 +26,7 @@ leaves k = from-read k.requires.sweeping k.requires.there k.planned_row-e.ensure
 
 -- something has arrived there
 met : (k : Else-not-is_met) → is_met k.args.state.now k.edge_from-from.result ≡ true
-met k = sym k.is_met.ensures ∙ not-false k.is_met.result k.if-not-is_met.false
+met k = sym k.is_met.ensures ∙ k.if-not-is_met.false
 
 -- the other node that was read is the one that the edge enters
 enters : (t : After-edge_to-to)
@@ -67,7 +66,7 @@ access l =
     let e = next_edge l.args.edges.now l.args.plan.now l.args.i in
     subst (λ (k : WalkKind). Open k (node (graph_of l.args.nodes.now l.args.edges.now) e.to).access) (sym l.store_list.ensures.kind)
     (may_enter l.requires.sweeping l.requires.there (enters (goal.at.After-store_list l).After-edge_to-to) l.kind_in.ensures (l.is_open-may_enter.ensures l.args.edges.now)
-    (not-false l.is_open-may_enter.result l.if-not-may_enter.false))
+    l.if-not-may_enter.false)
 
 pub edge_from-from-requires : goal.edge_from-from-requires
 edge_from-from-requires c =
@@ -82,7 +81,7 @@ is_met-requires c =
 pub returns-then-not-is_met : goal.returns-then-not-is_met
 returns-then-not-is_met c = (
   sweeping-unmet c.requires.sweeping c.requires.there c.edge_from-from.result (leaves (goal.at.returns-then-not-is_met c).After-edge_from-from)
-      (sym c.is_met.ensures ∙ not-true c.is_met.result c.if-not-is_met.true),
+      (sym c.is_met.ensures ∙ c.if-not-is_met.true),
   refl,
   refl,
 )
@@ -110,7 +109,7 @@ is_open-may_enter-requires c =
 pub returns-then-not-may_enter : goal.returns-then-not-may_enter
 returns-then-not-may_enter c = (
   sweeping_barred c.requires.sweeping c.requires.there (enters (goal.at.returns-then-not-may_enter c).After-edge_to-to) c.kind_in.ensures (c.is_open-may_enter.ensures c.args.edges.now)
-      (not-true c.is_open-may_enter.result c.if-not-may_enter.true),
+      c.if-not-may_enter.true,
   refl,
   refl,
 )

@@ -38,4 +38,4 @@ returns c = λ es.
     c.append_row-used.ensures
     (to_z_pos w64 (omega arith) ∙ ap pos c.append_row-used.ensures.count)
     (to_z_pos w64 (omega arith))
-    (to_z-of_z (sfits_of {c.before.before.before.before.before.before.before.before = w64} c.kind_number.type_inv) ∙ c.kind_number.ensures)
+    (to_z-of_z (sfits_of {w = w64} c.kind_number.type_inv) ∙ c.kind_number.ensures)

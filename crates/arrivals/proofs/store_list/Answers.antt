@@ -40,7 +40,7 @@ returns-then-list_row c = unstored_same c.requires
 unlisted : (c : Else-list_row) → is_listed c.args.state.now c.args.v ≡ false
 unlisted c =
     let p = c.list_row in
-    let none : p.result ≡ not_listed = sym (to_z-of_z (sfits_of {w = w64} p.type-inv)) ∙ ap (to_z w64) c.if-list_row.false ∙ to_z-neg w64 0 (lit< tt) in
+    let none : p.result ≡ not_listed = sym (to_z-of_z (sfits_of {w = w64} p.type_inv)) ∙ ap (to_z w64) c.if-list_row.false ∙ to_z-neg w64 0 (lit< tt) in
     ap (le_z (pos 0)) (sym p.ensures ∙ none)
 
 pub crowded-requires : goal.crowded-requires

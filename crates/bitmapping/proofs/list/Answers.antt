@@ -10,7 +10,7 @@ use Rattle.asked.specs.Asking.{ListedAsked}
 use Rattle.asked.proofs.Listed.{refused-listed, given_asked, given_count, given_numbers, given_room}
 use Rattle.bitmapping.proofs.Copying.{spaced-front}
 use Rattle.bitmapping.proofs.Promises.{list-refused, list-taken}
-use Rattle.bitmapping.proofs.list.Goals.{After-list_asked-listed, In-Count-2}
+use Rattle.bitmapping.proofs.list.Goals.{After-list_asked-listed, In-Count}
 use Rattle.bitmapping.proofs.list.Goals as goal
 
 -- what listing gives
@@ -20,16 +20,16 @@ Listed a given = let s = a.args in ListedAsked s.kind s.nodes.now s.edges.now s.
 told : (a : After-list_asked-listed) → Listed a a.list_asked-listed.result
 told a = simp (to_z-of_z, a.ranges.root, a.ranges.leaf) at a.list_asked-listed.ensures
 
-listed : (v : In-Count-2) → Listed (goal.at.In-Count-2 v).After-list_asked-listed (Count v.in-Count.records)
-listed v = subst (Listed (goal.at.In-Count-2 v).After-list_asked-listed) v.in-Count.is (told (goal.at.In-Count-2 v).After-list_asked-listed)
+listed : (v : In-Count) → Listed (goal.at.In-Count v).After-list_asked-listed (Count v.in-Count.records)
+listed v = subst (Listed (goal.at.In-Count v).After-list_asked-listed) v.in-Count.is (told (goal.at.In-Count v).After-list_asked-listed)
 
 -- ---- the outcomes
 
 pub overflow_mul-records : goal.overflow_mul-records
-overflow_mul-records c = omega (arith, given_room _ _ _ _ _ (listed (goal.at.overflow_mul-records c).In-Count-2), c.list_asked-listed.auto.work)
+overflow_mul-records c = omega (arith, given_room _ _ _ _ _ (listed (goal.at.overflow_mul-records c).In-Count), c.list_asked-listed.auto.work)
 
 pub put_numbers-requires : goal.put_numbers-requires
-put_numbers-requires c k h = omega (arith, h, given_room _ _ _ _ _ (listed (goal.at.put_numbers-requires c).In-Count-2))
+put_numbers-requires c k h = omega (arith, h, given_room _ _ _ _ _ (listed (goal.at.put_numbers-requires c).In-Count))
 
 pub returns-in-Refused : goal.returns-in-Refused
 returns-in-Refused c =
@@ -37,6 +37,6 @@ returns-in-Refused c =
 
 pub returns-in-Count : goal.returns-in-Count
 returns-in-Count c =
-    let p = listed (goal.at.returns-in-Count c).In-Count-2 in
+    let p = listed (goal.at.returns-in-Count c).In-Count in
     list-taken _ _ _ _ _ _ (given_asked _ _ _ _ _ p) (given_count _ _ _ _ _ p)
     (rw (spaced-front _ (record_width * c.in-Count.records) (given_room _ _ _ _ _ p), given_numbers _ _ _ _ _ p) at c.put_numbers.ensures)

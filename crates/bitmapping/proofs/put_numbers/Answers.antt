@@ -12,8 +12,8 @@ returns c =
     let f : ℕ → ℤ = λ i. get_or c.args.from.now (c.args.first + c.args.step * i) (pos 0) in
     let copied = c.copy_numbers.ensures in
     elim c.if-room-n.branch-raw [
-      | inl w ↦ copied_none f c.args.n c.args.out.now copied w.0.true w.1 w.2
-      | inr w ↦ copied_all f c.args.n c.args.out.now copied (omega arith) w.1 w.2
+      | inl w ↦ copied_none f c.args.n c.args.out.now copied w.if-room-n.true w.size-is w.given-is
+      | inr w ↦ copied_all f c.args.n c.args.out.now copied (omega arith) w.size-is w.given-is
     ]
 
 pub copy_numbers-requires : goal.copy_numbers-requires

@@ -69,6 +69,7 @@ use Rattle.records.specs.contracts.put_records as f
 use Rattle.records.proofs.put_records.Statement as stated
 use Rattle.records.proofs.put_records.Code as code
 use Rattle.records.proofs.put_records.Code.Mir as Mir
+use Rattle.records.proofs.put_records.Goals as goal
 
 -- ---- types
 

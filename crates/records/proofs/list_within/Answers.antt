@@ -15,8 +15,8 @@ use Rattle.records.proofs.list_within.Goals as goal
 lent : (c : Joined-room-lt-MAX_PATHS) → record_width * c.if-room-lt-MAX_PATHS.records ≡ lent_numbers c.args.room
 lent c =
     elim c.if-room-lt-MAX_PATHS.branch-raw [
-      | inl w ↦ let few = lent-few w.0.true in omega (arith, w.1)
-      | inr w ↦ let left = w.0.false in let many = lent-many {room = c.args.room} (omega arith) in omega (arith, w.1)
+      | inl w ↦ let few = lent-few w.if-room-lt-MAX_PATHS.true in omega (arith, w.records-is)
+      | inr w ↦ let left = w.if-room-lt-MAX_PATHS.false in let many = lent-many {room = c.args.room} (omega arith) in omega (arith, w.records-is)
     ]
 
 pub overflow_mul-records : goal.overflow_mul-records

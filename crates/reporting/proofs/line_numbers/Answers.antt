@@ -8,10 +8,9 @@ use mir.Val.{Fits}
 use mir.Facts.{to_z_pos}
 use Rattle.model.specs.Limits.{root_stride}
 use Rattle.reporting.specs.Lines.{length_stride, verdict_stride, line_numbers}
-use Rattle.reporting.proofs.line_numbers.Statement.{statement}
-use Rattle.reporting.proofs.line_numbers.Tie as tie
+use Rattle.reporting.proofs.line_numbers.Goals as goal
 
-returns : tie.Need-returns
+pub returns : goal.returns
 unfolding line_numbers
 returns c =
     let n = c.args.number in
@@ -28,6 +27,3 @@ returns c =
       to_z_pos w64 {n = n % length_stride} (omega arith),
     )
     refl
-
-pub line-numbers-spec : {M : Type 1} → statement M
-line-numbers-spec = tie.close (tie.spec (λ c. search rules) (λ c. search rules) (λ c. search rules) (λ c. search rules) (λ c. search rules) (λ c. search rules) (λ c. search rules) returns)

@@ -1,5 +1,6 @@
 // Names lines: how many fields a line has, and the columns of names among them.
 #![tactic(auto)]
+
 ghost use Rattle.std.specs.Prelude.{◌≡◌, true, false, suc, ◌≤◌, length, drop};
 ghost use Rattle.model.specs.Reader.{column_of};
 ghost use Rattle.cursor.specs.Parts.{later_lines};

@@ -1,6 +1,7 @@
 // Whether each record of one list is contained in one record of another: both lists are sorted by displacement, and one pass goes over both. A list
 // is a flat slice of rows by displacement, three numbers each: displacement, first, last.
 #![tactic(auto)]
+
 ghost use Rattle.std.specs.Prelude.{◌≡◌, ◌&&◌, ◌+◌, ◌*◌, ◌≤◌, length};
 ghost use Rattle.std.specs.Int.Signed.{le_z};
 ghost use Rattle.integers.specs.Integers.{eq_z};

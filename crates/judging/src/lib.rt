@@ -1,6 +1,7 @@
 // What two normal lists, kept as rows by displacement, say of a pair: the verdict, and the lowest address at which they differ. A row is three
 // numbers of a flat slice: displacement, first, last.
 #![tactic(auto)]
+
 ghost use Rattle.std.specs.Prelude.{◌≡◌, true, ◌≢◌, ◌*◌, ◌≤◌, length};
 ghost use Rattle.model.specs.Verdicts.{verdict, lowest};
 ghost use Rattle.model.specs.Answers.{verdict_number};

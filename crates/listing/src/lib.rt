@@ -1,6 +1,7 @@
 // The walk of one bit address and the listing of the runs of all paths, from a root to a leaf, for a kind of walk. Both recurse over the edges that can
 // still reach the leaf, with the remaining chain length falling at each call.
 #![tactic(auto)]
+
 ghost use Rattle.std.specs.Prelude.{◌≡◌, List, [], ◌∷◌, map, ◌+◌, ◌*◌, ◌≤◌, ◌<◌, ℤ, pos, ◌-ℤ◌, length, get_or, take};
 ghost use Rattle.model.specs.Graph.{graph_of, NodeRow, node};
 ghost use Rattle.model.specs.Runs.{list_of};

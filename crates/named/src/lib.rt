@@ -1,6 +1,7 @@
 // The refusals of a root and a leaf that a call names: they are a root and a leaf of the graph, and no more paths lead from one to the other than
 // may be.
 #![tactic(auto)]
+
 ghost use Rattle.std.specs.Prelude.{◌≡◌, List, ℤ};
 ghost use Rattle.integers.specs.Integers.{eq_z};
 ghost use Rattle.lists.specs.Lists.{any};

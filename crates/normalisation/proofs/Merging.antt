@@ -219,6 +219,7 @@ clear_apart c t = omega (arith, ints, c.gap t.same, t.reaches)
 
 -- where each record is clear of those behind it, records that touch are equal
 clear_touch : {l : List Record} → Pairwise Clear l → {r s : Record} → r ∈ l → s ∈ l → Touch r s → r ≡ s
+clear_touch none {r = r} {s = s} m _ t = elim m [ ]
 clear_touch (more h p) (Memᴰ.head e) (Memᴰ.head d) t = e ∙ sym d
 clear_touch (more h p) {r} {s} (Memᴰ.head e) (Memᴰ.tail m) t = absurd (clear_apart (h s m) (rw e at t))
 clear_touch (more h p) {r} {s} (Memᴰ.tail m) (Memᴰ.head e) t = absurd (clear_apart (h r m) (rw e at (touch_sym t)))

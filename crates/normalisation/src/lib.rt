@@ -1,6 +1,7 @@
 // Normalisation in n log n: records are sorted by displacement, those that touch are merged in one pass, and the rest is sorted by first,
 // or left in the order by displacement.
 #![tactic(auto)]
+
 ghost use Rattle.std.specs.Prelude.{◌≡◌, ◌++◌, map, ◌+◌, ◌*◌, ◌≤◌, ◌<◌, pos, ◌+ℤ◌, ◌<ℤ◌, length, take, drop};
 ghost use Rattle.std.specs.Int.Signed.{le_z};
 ghost use Rattle.integers.specs.Integers.{min_z, max_z};
@@ -87,7 +88,7 @@ fn listed(r: Row) -> Row
 fn merge_touching(t: &[i64], n: usize, out: &mut [i64]) -> usize
     requires { (row_width * n ≤ length t.now) × (row_width * n ≤ length out.old) × AllSmallLast (displaced_of t.now n) }
     ensures value { result ≡ length (merged (displaced_of t.now n)) }
-    ensures out_after { out.new ≡ rows.numbersOf (map by_first (merged (displaced_of t.now n))) ++ drop (row_width * result) out.old }
+    ensures out_after { out.new ≡ rows.numbers_of (map by_first (merged (displaced_of t.now n))) ++ drop (row_width * result) out.old }
 {
     if n == 0 {
         return 0;
@@ -160,7 +161,7 @@ fn rows_apart(t: &[i64], n: usize) -> usize
 fn join_touching(t: &mut [i64], n: usize, from: usize) -> usize
     requires { (row_width * n ≤ length t.old) × Apart t.old n from × AllSmallLast (displaced_of t.old n) }
     ensures value { result ≡ length (merged (displaced_of t.old n)) }
-    ensures t_after { t.new ≡ rows.numbersOf (map by_displacement (merged (displaced_of t.old n))) ++ drop (row_width * result) t.old }
+    ensures t_after { t.new ≡ rows.numbers_of (map by_displacement (merged (displaced_of t.old n))) ++ drop (row_width * result) t.old }
 {
     let mut current = sorting::row_at(t, from);
     let mut i = from + 1;

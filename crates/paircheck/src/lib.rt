@@ -20,17 +20,17 @@ use pairing::check_pairs;
 use tables::{check_shape, edge_to};
 
 // Classes of nodes.
-const OTHER: u8 = 0;
+const OTHER: usize = 0;
 
-const ROOT: u8 = 1;
+const ROOT: usize = 1;
 
-const LEAF: u8 = 2;
+const LEAF: usize = 2;
 
 // The only `at` of a root row.
 const ROOT_AT: i64 = 0;
 
 // The class of a node of this kind that no edge enters.
-fn kind_class(kind: i64) -> u8
+fn kind_class(kind: i64) -> usize
     ensures { result ≡ kind_class kind }
 {
     if kind == BLOCK {
@@ -40,7 +40,7 @@ fn kind_class(kind: i64) -> u8
 }
 
 // The class of a node that an edge enters, which had this class.
-fn entered_class(class: u8) -> u8
+fn entered_class(class: usize) -> usize
     ensures { result ≡ entered_class class }
 {
     if class == ROOT {
@@ -50,7 +50,7 @@ fn entered_class(class: u8) -> u8
 }
 
 // Sets class[v], for each node v, to the class of a node of its kind that no edge enters.
-fn classify_kinds(nodes: &[i64], class: &mut [u8])
+fn classify_kinds(nodes: &[i64], class: &mut [usize])
     requires { length (node_rows nodes.now) ≤ length class.old }
     ensures { class.new ≡ kinds_over nodes.now class.old }
 {
@@ -62,7 +62,7 @@ fn classify_kinds(nodes: &[i64], class: &mut [u8])
 }
 
 // Sets class[v] to OTHER for each root v that an edge enters.
-fn enter_edges(edges: &[i64], class: &mut [u8])
+fn enter_edges(edges: &[i64], class: &mut [usize])
     requires { EntersWithin edges.now class.old }
     ensures { class.new ≡ entered_by (edge_rows edges.now) class.old }
 {
@@ -75,7 +75,7 @@ fn enter_edges(edges: &[i64], class: &mut [u8])
 }
 
 // Sets class[v], for each node v, to ROOT, LEAF or OTHER. One pass over the nodes and one over the edges.
-pub fn classify(nodes: &[i64], edges: &[i64], class: &mut [u8])
+pub fn classify(nodes: &[i64], edges: &[i64], class: &mut [usize])
     requires { Classifiable nodes.now edges.now class.old }
     ensures { class.new ≡ classes_over (graph_of nodes.now edges.now) class.old }
 {
@@ -116,8 +116,8 @@ fn check_sizes(root_pairs: &[i64], leaf_pairs: &[i64]) -> Checked
 fn check_classified(
     root_pairs: &[i64],
     leaf_pairs: &[i64],
-    spec_class: &[u8],
-    impl_class: &[u8],
+    spec_class: &[usize],
+    impl_class: &[usize],
 ) -> Checked
     requires { (length spec_class.now ≤ max_nodes) × (length impl_class.now ≤ max_nodes) }
     ensures { checked_answer result

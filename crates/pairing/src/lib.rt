@@ -22,12 +22,12 @@ pub const IMPL_COLUMN: usize = 1;
 pub const AT_COLUMN: usize = 2;
 
 // Marks of nodes.
-const UNSEEN: u8 = 0;
+const UNSEEN: usize = 0;
 
-const SEEN: u8 = 1;
+const SEEN: usize = 1;
 
 // Whether v is a node with this class.
-fn has_class(v: i64, class: &[u8], wanted: u8) -> bool
+fn has_class(v: i64, class: &[usize], wanted: usize) -> bool
     ensures { result ≡ has_class class.now wanted v }
 {
     if v < 0 {
@@ -76,9 +76,9 @@ pub fn pair_at(pairs: &[i64], row: usize) -> i64
 fn both_have_class(
     pairs: &[i64],
     k: usize,
-    spec_class: &[u8],
-    impl_class: &[u8],
-    wanted: u8,
+    spec_class: &[usize],
+    impl_class: &[usize],
+    wanted: usize,
 ) -> bool
     requires { pair_width * k + pair_width ≤ length pairs.now }
     ensures { result
@@ -92,7 +92,7 @@ fn both_have_class(
 }
 
 // Whether one of two marks is set.
-fn one_marked(spec_mark: u8, impl_mark: u8) -> bool
+fn one_marked(spec_mark: usize, impl_mark: usize) -> bool
     ensures { result ≡ is_marked spec_mark || is_marked impl_mark }
 {
     if spec_mark != UNSEEN {
@@ -123,7 +123,7 @@ fn check_at(pairs: &[i64], k: usize, table: usize, most: i64) -> Checked
 }
 
 // Refusal 8 of row k: the mark of one of its nodes is set.
-fn check_marks(k: usize, table: usize, spec_mark: u8, impl_mark: u8) -> Checked
+fn check_marks(k: usize, table: usize, spec_mark: usize, impl_mark: usize) -> Checked
     ensures { checked_answer result ≡ answer (check_marks table k spec_mark impl_mark) tt }
 {
     if one_marked(spec_mark, impl_mark) {
@@ -151,8 +151,8 @@ fn check_row(
     k: usize,
     table: usize,
     most: i64,
-    spec_mark: u8,
-    impl_mark: u8,
+    spec_mark: usize,
+    impl_mark: usize,
 ) -> Checked
     requires { pair_width * k + pair_width ≤ length pairs.now }
     ensures { checked_answer result ≡ answer (check_row table most spec_mark impl_mark (pair_at pairs.now k)) tt }
@@ -163,7 +163,7 @@ fn check_row(
 }
 
 // The mark of a node that a row has: set where the node may stand in one row only.
-fn mark_of(once: bool) -> u8
+fn mark_of(once: bool) -> usize
     ensures { result ≡ mark_of once }
 {
     if once { SEEN } else { UNSEEN }
@@ -173,13 +173,13 @@ fn mark_of(once: bool) -> u8
 fn check_unmarked(
     pairs: &[i64],
     table: usize,
-    spec_class: &[u8],
-    impl_class: &[u8],
-    wanted: u8,
+    spec_class: &[usize],
+    impl_class: &[usize],
+    wanted: usize,
     most: i64,
     spec_once: bool,
-    spec_marks: &mut [u8],
-    impl_marks: &mut [u8],
+    spec_marks: &mut [usize],
+    impl_marks: &mut [usize],
 ) -> Checked
     requires { Unmarked (length spec_class.now) spec_marks.old × Unmarked (length impl_class.now) impl_marks.old }
     ensures { checked_answer result
@@ -213,9 +213,9 @@ fn check_unmarked(
 pub fn check_pairs(
     pairs: &[i64],
     table: usize,
-    spec_class: &[u8],
-    impl_class: &[u8],
-    wanted: u8,
+    spec_class: &[usize],
+    impl_class: &[usize],
+    wanted: usize,
     most: i64,
     spec_once: bool,
 ) -> Checked

@@ -1,5 +1,6 @@
 // References to what arrives at a node: moved and cut as the step over an edge does, by shift and then by clip, and the rows that they have of a list.
 #![tactic(auto)]
+
 ghost use Rattle.std.specs.Prelude.{◌≡◌, List, map, ◌+◌, ◌*◌, ◌≤◌, ◌<◌, ℤ, pos, length};
 ghost use Rattle.model.specs.Limits.{edge_width};
 ghost use Rattle.model.specs.Graph.{graph_of, bit_offset};

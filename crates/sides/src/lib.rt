@@ -1,5 +1,6 @@
 // The value lines of a table, read as rows: those of side or role 0 go to one slice, those of 1 to another.
 #![tactic(auto)]
+
 ghost use Rattle.std.specs.Prelude.{◌≡◌, not, ◌&&◌, [], ◌≤◌, ◌<◌, length, drop};
 ghost use Rattle.lists.specs.Lists.{is_nil};
 ghost use Rattle.model.specs.MapFile.{lines};

@@ -1,6 +1,7 @@
 // Whether two lists of records are the same, and the lowest address at which they differ. A list is a flat slice of numbers, three a record: first,
 // last, displacement.
 #![tactic(auto)]
+
 ghost use Rattle.std.specs.Prelude.{◌≡◌, ◌+◌, ◌*◌, ◌≤◌, length};
 ghost use Rattle.model.specs.Verdicts.{same_record, same_list, lowest};
 ghost use Rattle.sorting.specs.Rows.{row_width};
@@ -88,7 +89,7 @@ fn lower(least: Least, next: i64) -> Least
 // The same, where the next is past the end of the shorter of two records, if one is shorter.
 fn lower_end(least: Least, r: Record, s: Record) -> Least
     requires { SmallRootBits (as_record r) × SmallRootBits (as_record s) }
-    ensures { result.0 ≡ pass.lowestFrom least.0 (pass.ends (as_record r) (as_record s)) }
+    ensures { result.0 ≡ pass.lowest_from least.0 (pass.ends (as_record r) (as_record s)) }
 {
     if r.last < s.last {
         return lower(least, r.last + 1);
@@ -102,7 +103,7 @@ fn lower_end(least: Least, r: Record, s: Record) -> Least
 // The same, where the next is the first bit of record i of t, if there is one.
 fn lower_start(least: Least, t: &[i64], n: usize, i: usize) -> Least
     requires { row_width * n ≤ length t.now }
-    ensures { result.0 ≡ pass.lowestFrom least.0 (pass.starts (records_from t.now i n)) }
+    ensures { result.0 ≡ pass.lowest_from least.0 (pass.starts (records_from t.now i n)) }
 {
     if i < n {
         let r = record_at(t, i);
@@ -114,7 +115,7 @@ fn lower_start(least: Least, t: &[i64], n: usize, i: usize) -> Least
 // Whether both lists have a record i, and these two begin alike.
 fn alike_at(spec: &[i64], ns: usize, imp: &[i64], ni: usize, i: usize) -> bool
     requires { (row_width * ns ≤ length spec.now) × (row_width * ni ≤ length imp.now) }
-    ensures { result ≡ pass.headsAligned (records_from spec.now i ns) (records_from imp.now i ni) }
+    ensures { result ≡ pass.heads_aligned (records_from spec.now i ns) (records_from imp.now i ni) }
 {
     if ns <= i {
         return false;

@@ -56,8 +56,14 @@ row-marked c =
     nodes-marked c.loop-k.invariant c.loop-k-test.true (row-good (goal.at.After-impl_node-implementation c).Else-not-both_have_class) c.spec_node-spec.result c.impl_node-implementation.result c.spec_node-spec.ensures
     c.impl_node-implementation.ensures
 
+pub offset_bounds-spec_marks-spec : goal.offset_bounds-spec_marks-spec
+offset_bounds-spec_marks-spec c = omega (arith, row-marked (goal.at.offset_bounds-spec_marks-spec c).After-impl_node-implementation)
+
 pub bounds-spec_marks-spec : goal.bounds-spec_marks-spec
 bounds-spec_marks-spec c = (row-marked (goal.at.bounds-spec_marks-spec c).After-impl_node-implementation).0
+
+pub offset_bounds-impl_marks-implementation : goal.offset_bounds-impl_marks-implementation
+offset_bounds-impl_marks-implementation c = omega (arith, row-marked (goal.at.offset_bounds-impl_marks-implementation c).After-impl_node-implementation)
 
 pub bounds-impl_marks-implementation : goal.bounds-impl_marks-implementation
 bounds-impl_marks-implementation c = (row-marked (goal.at.bounds-impl_marks-implementation c).After-impl_node-implementation).1
@@ -80,8 +86,14 @@ returns-in-Refused c =
 pub mark_of-requires : goal.mark_of-requires
 mark_of-requires c = tt
 
+pub offset_bounds-spec_marks-spec-in-loop-k : goal.offset_bounds-spec_marks-spec-in-loop-k
+offset_bounds-spec_marks-spec-in-loop-k c = omega (arith, row-marked (goal.at.offset_bounds-spec_marks-spec-in-loop-k c).After-impl_node-implementation)
+
 pub bounds-spec_marks-spec-in-loop-k : goal.bounds-spec_marks-spec-in-loop-k
 bounds-spec_marks-spec-in-loop-k c = (row-marked (goal.at.bounds-spec_marks-spec-in-loop-k c).After-impl_node-implementation).0
+
+pub offset_bounds-impl_marks-implementation-in-loop-k : goal.offset_bounds-impl_marks-implementation-in-loop-k
+offset_bounds-impl_marks-implementation-in-loop-k c = omega (arith, row-marked (goal.at.offset_bounds-impl_marks-implementation-in-loop-k c).After-impl_node-implementation)
 
 pub bounds-impl_marks-implementation-in-loop-k : goal.bounds-impl_marks-implementation-in-loop-k
 bounds-impl_marks-implementation-in-loop-k c = (row-marked (goal.at.bounds-impl_marks-implementation-in-loop-k c).After-impl_node-implementation).1

@@ -2,6 +2,7 @@
 // it; a node where unlike references meet is its own owner, and its list is made once and stored in an arena of fixed size. Where the arena has no room, the rows
 // of such a node are gathered through the edges that enter it. Which lists are stored is a free choice: nothing is promised of it.
 #![tactic(auto)]
+
 ghost use Rattle.std.specs.Prelude.{◌≡◌, List, true, ℕ, ◌+◌, ◌*◌, ◌≤◌, ◌<◌, ℤ, pos, ◌≤ℤ◌, length, get_or};
 ghost use Rattle.model.specs.declared.WalkKind.{WalkKind};
 ghost use Rattle.model.specs.Limits.{max_nodes, max_paths};

@@ -10,7 +10,9 @@ use Rattle.references.proofs.narrowed.Goals.{After-less-offset}
 use Rattle.references.proofs.narrowed.Goals as goal
 
 pub returns : goal.returns
-returns c = narrowed_returns _ _ c.clip.result _ _ _ c.clip.ensures.result_value (search rules) (search rules) (search (rules, shift-read))
+returns c =
+    let n = narrowed_returns _ _ c.clip.result _ _ _ c.clip.ensures.result_value (search rules) (search rules) (search (rules, shift-read)) in
+    record { result_value = n.0; narrowed_by = n.1 }
 
 pub less-offset-requires : goal.less-offset-requires
 less-offset-requires c = root_movable c.requires.0

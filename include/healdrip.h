@@ -1,6 +1,6 @@
 /* The text check of Healdrip: a map file in, a report out.
  *
- * Link libhealdrip.a (x86-64 Linux), which `rt staticlib healdrip` writes to target/staticlib/ and `./install DIR` copies to DIR/lib/. */
+ * Link libhealdrip.a (x86-64 Linux), which `rt lib` in crates/healdrip/ writes to out/ there and `./install DIR` copies to DIR/lib/. */
 #ifndef HEALDRIP_H
 #define HEALDRIP_H
 

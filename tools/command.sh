@@ -46,7 +46,7 @@ mend_streams() {
 find_program() {
   local state
   if [ -e "$root/crates.txt" ]; then
-    program=$root/target/bin/$command
+    program=$root/crates/$command/out/$command
     # shellcheck source=tools/prove.sh
     . "$root/tools/prove.sh" 2>/dev/null || stop "$root/tools/prove.sh cannot be read"
   else

@@ -14,6 +14,7 @@ proof_time() {
 # Crate $1 and the crates that it uses, the uppermost first. In crates.txt a crate stands behind those that it uses.
 crates_of() {
   tac "$root/crates.txt" | awk -F: -v top="$1" '
+    !/^#/ { sub(/ .*/, "", $1) }
     !/^#/ && ($1 == top || $1 in used) { print $1; n = split($2, names, " "); for (k = 1; k <= n; k++) used[names[k]] }'
 }
 
@@ -26,24 +27,25 @@ changed_since() {
   [ -n "$(find "${files[@]}" -newer "$2" -print -quit 2>/dev/null)" ]
 }
 
-# Reads what rt says and shows which of $1 crates it has proved last: on a terminal in one line, elsewhere in a line for every tenth.
+# Reads what rt says and shows which of $1 crates it has proved last: on a terminal in one line, elsewhere in a line for every tenth. Of a crate that
+# was proved in another copy of the repository on this machine rt says nothing.
 show_progress() {
-  local line crate at=0
+  local line crate='' at=0
   while IFS= read -r line; do
-    [[ $line == 'rt: '*' proved ('* ]] || continue
-    crate=${line#rt: }
+    [[ $line != 'crate '*': modules '* ]] || { crate=${line#crate } && crate=${crate%%:*}; }
+    [[ $line == logic=proved* ]] || continue
     at=$((at + 1))
     if [ -t 2 ]; then
-      printf '\r\033[Kcrate %d of %d proved: %s' "$at" "$1" "${crate%% *}" >&2
+      printf '\r\033[Kcrate %d of %d proved: %s' "$at" "$1" "$crate" >&2
     elif [ $((at % 10)) -eq 0 ]; then
-      say "crate $at of $1 proved: ${crate%% *}"
+      say "crate $at of $1 proved: $crate"
     fi
   done
   [ ! -t 2 ] || printf '\r\033[K' >&2
 }
 
-# Says $4, then proves crate $2 with those that it uses and builds the file $3, by `rt $1 $2`. What rt says is kept in a log.
-# Two that are started at the same time prove one after the other.
+# Says $4, then proves crate $2 with those that it uses and builds the file $3, by `rt $1` in the crate's folder: `rt lib` for a library, and for a program
+# `rt run`, which also runs it, on an empty input. What rt says is kept in a log. Two that are started at the same time prove one after the other.
 prove() {
   local log=$root/target/prove.log lock=$root/target/prove.lock said
   command -v rt >/dev/null || stop 'rt, the Rattle toolchain, is not on the PATH'
@@ -51,12 +53,12 @@ prove() {
   say "$4"
   (
     flock 9 2>/dev/null
-    cd "$root" && rt "$1" "$2" 2>&1 </dev/null 9>&- | tee "$log" 2>/dev/null | show_progress "$(crates_of "$2" | wc -l)"
+    cd "$root/crates/$2" && rt "$1" 2>&1 </dev/null 9>&- | tee "$log" 2>/dev/null | show_progress "$(crates_of "$2" | wc -l)"
   ) 9>"$lock" || {
-    said=$(sed -n 's/^rt: \([^ ]*\) NOT PROVED.*/crate \1 is not proved/p' "$log" | head -n 1)
+    said=$(sed -n -e 's/^rt: the library \([^ ]*\) did not build.*/crate \1 is not proved/p' -e "s/^logic=not-proved.*/crate $2 is not proved/p" "$log" | tail -n 1)
     stop "${said:-rt failed}; what rt said is in $log"
   }
-  [ -e "$3" ] || stop "rt built no $3; remove $root/target and try again"
+  [ -e "$3" ] || stop "rt built no $3; remove ${3%/*} and try again"
 }
 
 # Proves crate $1 and builds its program $2 on first use, and again where a crate has changed since. Its time is then that at which the proof began.
@@ -70,7 +72,7 @@ build_where_due() {
     return
   fi
   began=$(date +%s.%N)
-  prove check "$1" "$2" "$due"
+  prove run "$1" "$2" "$due"
   touch -d "@$began" "$2"
   say 'the program is proved and built'
 }

@@ -40,3 +40,49 @@ pub fn read_input<R: Read>(reader: &mut R, text: &mut [u8]) -> Input
     }
     Input::Full(at)
 }
+
+#[cfg(test)]
+mod tests {
+    use super::*;
+    use std::test::Fail;
+
+    // Gives one byte a read, so many times, and then fails.
+    #[derive(Drop)]
+    struct Breaking(usize);
+
+    impl Read for Breaking {
+        fn read(&mut self, buf: &mut [u8]) -> io::Result<usize> {
+            if self.0 == 0 {
+                return Err(io::Error::other("broken"));
+            }
+            if buf.is_empty() {
+                return Ok(0);
+            }
+            self.0 -= 1;
+            buf[0] = b'x';
+            Ok(1)
+        }
+    }
+
+    #[test]
+    fn reads_to_the_end_of_the_input(rt: HostRuntime) -> Result<(), Fail> {
+        let mut text = [0u8; TEXT_ROOM];
+        let mut reader: &[u8] = b"a text";
+        assert!(rt; matches!(read_input(&mut reader, &mut text), Input::Bytes(6)));
+        assert_eq!(rt; &text[..7], b"a text\0".as_slice());
+        Ok(())
+    }
+
+    #[test]
+    fn tells_a_read_that_fails_after_others(rt: HostRuntime) -> Result<(), Fail> {
+        let mut text = [0u8; TEXT_ROOM];
+        assert!(rt; matches!(read_input(&mut Breaking(3), &mut text), Input::Failed(_)));
+        assert!(rt;
+            matches!(
+                read_input(&mut Breaking(TEXT_ROOM), &mut text),
+                Input::Full(65537)
+            )
+        );
+        Ok(())
+    }
+}

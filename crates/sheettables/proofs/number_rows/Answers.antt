@@ -1,6 +1,6 @@
 use mathlib.Core.Path.{sym, ◌∙◌}
 use native.Mathlib.Omega.{arith}
-use borrow.Author.Rules.{sfits_of}
+use borrow.Author.Rules.{rules}
 use lib.IntN.{pos}
 use lib.ListN.{get_or}
 use mir.Syntax.{w64}
@@ -8,12 +8,8 @@ use mir.Val.{SFits}
 use mir.Facts.{to_z-of_z}
 use Rattle.sheettables.proofs.Present.{present_length}
 use Rattle.sheettables.proofs.Passes.{rowing_start, rowing_more, rowing_same, rowing_end}
-use Rattle.sheettables.proofs.number_rows.Goals.{After-t10-1, then-ranges-v-gt0, else-ranges-v-gt0}
+use Rattle.sheettables.proofs.number_rows.Goals.{then-ranges-v-gt0, else-ranges-v-gt0}
 use Rattle.sheettables.proofs.number_rows.Goals as goal
-
--- the range is a number of 64 bits
-fits : (k : After-t10-1) → SFits w64 (get_or k.args.ranges.now k.loop-v.v (pos 0))
-fits k = sfits_of {w = w64} k.t10-1.given
 
 pub loop-v-init : goal.loop-v-init
 loop-v-init c = rowing_start c.args.ranges.now c.args.first c.args.rows.now c.requires.1
@@ -41,12 +37,12 @@ loop-v-smaller c = omega arith
 
 pub loop-v-preserved : goal.loop-v-preserved
 loop-v-preserved c =
-    let k = (goal.at.loop-v-preserved c).After-t10-1 in
     let s = c.args in
+    let fits : SFits w64 (get_or s.ranges.now c.loop-v.v (pos 0)) = search rules in
     let h = c.loop-v-test.true in
     elim c.if-ranges-v-gt0.branch [
-      | then-ranges-v-gt0 w ↦ rw w.row-is (rowing_more s.ranges.now s.first c.loop-v.invariant h (rw (to_z-of_z (fits k)) at w.if-ranges-v-gt0.true))
-      | else-ranges-v-gt0 w ↦ rw w.row-is (rowing_same s.ranges.now s.first c.loop-v.invariant h (rw (to_z-of_z (fits k)) at w.if-ranges-v-gt0.false))
+      | then-ranges-v-gt0 w ↦ rw w.row-is (rowing_more s.ranges.now s.first c.loop-v.invariant h (rw (to_z-of_z fits) at w.if-ranges-v-gt0.true))
+      | else-ranges-v-gt0 w ↦ rw w.row-is (rowing_same s.ranges.now s.first c.loop-v.invariant h (rw (to_z-of_z fits) at w.if-ranges-v-gt0.false))
     ]
 
 pub shape_of-rows : goal.shape_of-rows

@@ -175,10 +175,10 @@ with_equal n k =
       bytes = k.bytes;
     }
 
-pub kept-equal : {fs : List Finding} {lines : List ℕ} {k : Kept} (gs : List Finding) → ((g : Finding) → g ∈ gs → Bare g) → KeptOf fs lines k
+pub kept-equal : (gs : List Finding) {fs : List Finding} {lines : List ℕ} {k : Kept} → ((g : Finding) → g ∈ gs → Bare g) → KeptOf fs lines k
     → KeptOf (fs ++ gs) lines (with_equal (length gs) k)
-kept-equal {fs} {k} [] b p = rw (append-nil fs, add-zero k.result.equal) p
-kept-equal {fs} {lines} {k} (g ∷ gs) b p =
+kept-equal [] {fs} {k} b p = rw (append-nil fs, add-zero k.result.equal) p
+kept-equal (g ∷ gs) {fs} {lines} {k} b p =
     let bare = b g (Memᴰ.head refl) in
     let result = ap one_equal p.result ∙ sym (result_bare fs bare) in
     let one = kept-none p g {result = (with_equal 1 k).result} result (line-none bare) in

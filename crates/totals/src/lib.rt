@@ -1,6 +1,7 @@
 // What is kept of the pairs of a comparison, taken in visiting order, and how what is found of one pair is added to it: its verdict is counted, the
 // place of the first unequal pair is kept, and the number of its line is stored behind the others.
 #![tactic(auto)]
+
 ghost use Rattle.std.specs.Prelude.{◌≡◌, ◌≤◌, ◌<◌, pos, set};
 ghost use Rattle.model.specs.Limits.{max_pairs};
 ghost use Rattle.model.specs.Answers.{verdict_number, comparison_result};

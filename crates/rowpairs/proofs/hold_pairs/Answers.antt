@@ -59,7 +59,7 @@ pair_found-found-requires c =
       ready = ready (goal.at.pair_found-found-requires c).At-loop-group;
       group = c.loop-group.group;
       there = there (goal.at.pair_found-found-requires c).In-loop-group;
-      =.before.before.before c.group_row-lowest.ensures;
+      lowest = c.group_row-lowest.ensures;
     }
 
 pub hold-requires : goal.hold-requires

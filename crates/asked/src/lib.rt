@@ -1,5 +1,6 @@
 // What list, walk and batch are asked for: a root and a leaf of a graph, checked, and their bitmapping list for a kind of walk in a work buffer.
 #![tactic(auto)]
+
 ghost use Rattle.std.specs.Prelude.{◌*◌, ◌≤◌, length};
 ghost use Rattle.model.specs.Limits.{record_width, max_nodes, max_paths};
 ghost use Rattle.named.specs.Naming.{Counted};

@@ -1,5 +1,6 @@
 // The bitmapping list of a root and a leaf of one graph, and the walk of one bit address, for a kind of walk.
 #![tactic(auto)]
+
 ghost use Rattle.std.specs.Prelude.{◌≡◌, ◌++◌, ℕ, ◌+◌, ◌*◌, ◌≤◌, ◌<◌, length, drop};
 ghost use Rattle.bitmapping.specs.Promises.{ListPromise, WalkPromise};
 ghost use Rattle.bitmapping.specs.Copying.{spaced, Copied};

@@ -1,5 +1,6 @@
 // What is found of a pair for the two kinds of walk, put together: the worse verdict, the lower address, and how many records there are.
 #![tactic(auto)]
+
 ghost use Rattle.std.specs.Prelude.{◌≡◌, ◌+◌, max};
 ghost use Rattle.model.specs.Answers.{verdict_number};
 ghost use Rattle.model.specs.Compare.{lower_of};

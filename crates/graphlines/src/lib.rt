@@ -1,5 +1,6 @@
 // A node table and an edge table as the first two tables of a map file, all rows on side 0, into a lent buffer. The node table has no column for access.
 #![tactic(auto)]
+
 ghost use Rattle.std.specs.Prelude.{◌∷◌, ◌++◌, ◌*◌, ◌≤◌, ◌<◌, pos, length};
 ghost use Rattle.model.specs.Report.{line_of};
 ghost use Rattle.model.specs.SheetCall.{graph_lines};

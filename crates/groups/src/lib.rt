@@ -1,6 +1,7 @@
 // Groups of banks. The rows of what arrives in each bank of a group are appended to a swept state, raised to where the bank begins, and become one list: what the
 // banks' reached sets have together. A leaf is a group of one bank that begins at 0.
 #![tactic(auto)]
+
 ghost use Rattle.std.specs.Prelude.{◌≡◌, List, [], ◌∷◌, ◌++◌, map, ℕ, ℤ};
 ghost use Rattle.model.specs.declared.WalkKind.{WalkKind};
 ghost use Rattle.model.specs.Quantities.{Subtractable};

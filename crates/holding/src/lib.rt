@@ -1,5 +1,6 @@
 // What is found of the groups of a root row for a kind of walk, held until both kinds are kept: four numbers a group.
 #![tactic(auto)]
+
 ghost use Rattle.std.specs.Prelude.{◌≡◌, ◌+◌, ◌*◌, ◌≤◌, pos, length};
 ghost use Rattle.model.specs.Answers.{verdict_number};
 ghost use Rattle.model.specs.declared.Verdict as declared;

@@ -1,5 +1,6 @@
 // The reader of map files: a text gives the two graphs and the pairing as six tables, or refusal 12, 13 or 14 with its line.
 #![tactic(auto)]
+
 ghost use Rattle.std.specs.Prelude.{◌≡◌, ◌≤◌, length, drop};
 ghost use Rattle.model.specs.MapFile.{lines, node_table, edge_table, pair_table};
 ghost use Rattle.model.specs.Reader.{check_side_or_role, read_table};

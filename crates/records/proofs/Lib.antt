@@ -1,4 +1,2 @@
 pub mod Putting
 pub mod Promises
-pub mod Buffers
-pub mod Sharing

@@ -1,5 +1,6 @@
 // The bitmapping list of a root and a leaf for a kind of walk, as a slice of records.
 #![tactic(auto)]
+
 ghost use Rattle.std.specs.Prelude.{◌≡◌, ◌++◌, ◌≤◌, ◌<◌, length, take, drop};
 ghost use Rattle.model.specs.Limits.{max_paths};
 ghost use Rattle.model.specs.Calls.{list_gives, list_after};

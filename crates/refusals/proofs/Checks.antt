@@ -1,5 +1,5 @@
 -- The refusals of tables are small: a row is looked at only once the shape of its table is good.
-use mathlib.Core.Path.{◌≡◌, refl, ap}
+use mathlib.Core.Path.{◌≡◌, refl}
 use mathlib.Core.Bool.{Bool, true, false, not, ◌||◌}
 use mathlib.Core.Logic.{◌≢◌}
 use mathlib.Core.List.Memᴰ

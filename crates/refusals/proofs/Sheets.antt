@@ -13,7 +13,7 @@ use Rattle.model.specs.Limits.{max_text, max_edges}
 use Rattle.model.specs.Bytes.{Bytes}
 use Rattle.model.specs.MapFile.{lines}
 use Rattle.model.specs.Refusals.{Refusal}
-use Rattle.model.specs.Checks.{when, ◌then◌, check_output}
+use Rattle.model.specs.Checks.{when, check_output}
 use Rattle.model.specs.Calls.{Answer, refused, full, answer}
 use Rattle.model.specs.Reader.{check_text, Reading, stopped, rows, read_table}
 use Rattle.model.specs.Sheet.{SheetLine, sheet_nodes, sheet_edges}

@@ -1,5 +1,6 @@
 // Refusals by their numbers, as documents 01 and 02 have them.
 #![tactic(auto)]
+
 ghost use Rattle.std.specs.Prelude.{◌≡◌, ◌≤◌, ◌<◌, ◌^◌, pos, neg_ℤ, length};
 ghost use Rattle.model.specs.Answers as model;
 ghost use Rattle.model.specs.Answers.{refusal_of};

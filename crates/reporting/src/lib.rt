@@ -1,5 +1,6 @@
 // The report, from the lines of the pairs, each of them one number, and the full result of a comparison, into a lent buffer.
 #![tactic(auto)]
+
 ghost use Rattle.std.specs.Prelude.{◌≡◌, [], ◌∷◌, ◌*◌, ◌≤◌, ◌<◌, pos, length, take};
 ghost use Rattle.model.specs.Answers.{verdict_number, comparison_result};
 ghost use Rattle.model.specs.Report.{line_of};

@@ -1,5 +1,5 @@
 -- What the call that reads a sheet promises follows from what reading its lines comes to, and from the tables that are made of them.
-use mathlib.Core.Path.{◌≡◌, refl, sym, ap, ◌∙◌}
+use mathlib.Core.Path.{◌≡◌, refl, ap, ◌∙◌}
 use mathlib.Core.Bool.{true}
 use mathlib.Core.List.{List, []}
 use mathlib.Core.Option.{Option, none, some}
@@ -10,9 +10,9 @@ use lib.ListN.{length, drop, replicate, length-append, length-replicate, get_or-
 use Rattle.model.specs.Limits.{sheet_numbers}
 use Rattle.model.specs.Bytes.{Bytes}
 use Rattle.model.specs.MapFile.{lines}
-use Rattle.model.specs.Refusals.{Refusal, NoneHolds}
+use Rattle.model.specs.Refusals.{Refusal}
 use Rattle.model.specs.Calls.{Answer, refused, full, buffer_after}
-use Rattle.model.specs.Reader.{check_text, Reading, stopped, rows, read_table}
+use Rattle.model.specs.Reader.{check_text, Reading, read_table}
 use Rattle.model.specs.Sheet.{SheetLine, size_of, sheet_nodes, sheet_edges}
 use Rattle.model.specs.SheetFile.{sheet_table, check_sheet_row, lines_read, read_sheet}
 use Rattle.model.specs.SheetCall.{made_conditions, made, made_of, lengths_of, table_in, sheet_answer, sheet_gives, sheet_nodes_after, sheet_edges_after}

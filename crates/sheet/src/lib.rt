@@ -1,5 +1,6 @@
 // The reader of global address sheets: a text gives the two tables of the specification graph, or a refusal.
 #![tactic(auto)]
+
 ghost use Rattle.sheet.specs.Promises.{SheetPromise};
 
 use model::{Checked, SHEET_NUMBERS, SheetRead};

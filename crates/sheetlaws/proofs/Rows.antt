@@ -41,7 +41,7 @@ module _ {A R : Type 0} (row : ℕ → A → R) where
       go (Memᴰ.tail n) rec = let w = rec n in (w.0, w.1, Memᴰ.tail w.2, w.3)
 
   -- each element has its row
-  pub counted_in : (i : ℕ) {x : A} {xs : List A} → x ∈ xs → (k : ℕ) × (row k x ∈ counted i xs)
+  pub counted_in : {x : A} {xs : List A} (i : ℕ) → x ∈ xs → (k : ℕ) × (row k x ∈ counted i xs)
   unfolding counted
   counted_in i (Memᴰ.head e) = (i, Memᴰ.head (ap (row i) e))
   counted_in i (Memᴰ.tail m) = let w = counted_in (suc i) m in (w.0, Memᴰ.tail w.1)

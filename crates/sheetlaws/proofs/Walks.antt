@@ -34,8 +34,12 @@ record Crossing (kind : WalkKind) (g : Graph) (v a w b : ℤ) : Type 0 where
 -- a walk from one row to another goes over one edge
 walk-crossing : {kind : WalkKind} (ls : List SheetLine) {v a w b : ℤ} → v ≢ w → Walk kind (sheet_graph ls) v a w b → Crossing kind (sheet_graph ls) v a w b
 walk-crossing ls apart (stand h) = absurd (apart refl)
-walk-crossing ls apart (step e m q h (stand k)) = record { edge = e; on_table = m; from = q; to = refl; moved = refl; end = k }
-walk-crossing ls apart (step e m q h (step f n r k x)) = absurd (edges-apart ls m n (sym r))
+walk-crossing {kind} ls {v} {a} apart (step e m q h rest) = last e m q rest
+  where
+    last : (e : Edge) → e ∈ (sheet_graph ls).edges → e.from ≡ v → {w b : ℤ}
+        → Walk kind (sheet_graph ls) e.to (a -ℤ bit_offset (sheet_graph ls) e) w b → Crossing kind (sheet_graph ls) v a w b
+    last e m q (stand k) = record { edge = e; on_table = m; from = q; to = refl; moved = refl; end = k }
+    last e m q (step f n r k x) = absurd (edges-apart ls m n (sym r))
 
 -- ---- over the edge of a line
 

@@ -16,14 +16,14 @@ use mir.Val.{SFits}
 use Rattle.integers.specs.Integers.{eq_z}
 use Rattle.integers.proofs.Linear.{ints, sum}
 use Rattle.integers.proofs.Range.{fits64}
-use Rattle.integers.proofs.Tests.{Test, passed, failed, le?, lt?, is_true, of_test}
+use Rattle.integers.proofs.Tests.{passed, failed, le?, is_true, of_test}
 use Rattle.lists.specs.Lists.{any}
 use Rattle.lists.proofs.Decisions.{Decides, test_map, test_stable}
 use Rattle.lists.proofs.Places.{map_at}
 use Rattle.model.specs.Limits.{sheet_numbers, sheet_bytes}
 use Rattle.model.specs.Sheet.{SheetLine, SheetNumber, BadLine, no_block, OtherSize}
 use Rattle.model.specs.SheetFile.{line_of_row, is_sheet_number, good_bytes, good_line, clashes_with, check_sheet_line, check_sheet_row}
-use Rattle.model.specs.Reader.{RowCheck, ValueLine, bad, good, judged}
+use Rattle.model.specs.Reader.{RowCheck, bad, good, judged}
 use Rattle.columns.specs.declared.Columns.{Columns}
 use Rattle.columns.specs.Given.{max_names, column_list, GoodColumns}
 use Rattle.sides.specs.Given.{numbers_at}

@@ -1,23 +1,23 @@
 -- The lines of a sheet, line by line: what is kept of those that were read, and those that are left.
-use mathlib.Core.Path.{◌≡◌, refl, sym, ap, subst, ◌∙◌}
-use mathlib.Core.Bool.{true, false, not, cond}
+use mathlib.Core.Path.{◌≡◌, refl, sym, ap, ◌∙◌}
+use mathlib.Core.Bool.{true}
 use mathlib.Core.Logic.{◌⊎◌, inl, inr, ⊎_elim, ◌↔◌}
 use mathlib.Core.List.Memᴰ
 use mathlib.Core.List.{List, [], ◌∷◌, ◌++◌, map, map-append, flat_map, append-nil, append_assoc}
 use mathlib.Core.Option.{Option, none, some}
-use Prim.Native.Nat.{ℕ, suc, ◌+◌, ◌≤◌, ◌<◌}
+use Prim.Native.Nat.{ℕ, suc, ◌≤◌, ◌<◌}
 use native.Mathlib.Omega.{arith}
-use lib.IntN.{ℤ, pos, nat_abs}
-use lib.ListN.{length, take, drop, set, get_or, length-set}
+use lib.IntN.{ℤ, nat_abs}
+use lib.ListN.{length, take, drop, set}
 use lib.Seq.{take_at}
 use Rattle.lists.specs.Lists.{◌∈◌}
-use Rattle.model.specs.Limits.{sheet_numbers, max_edges}
+use Rattle.model.specs.Limits.{max_edges}
 use Rattle.model.specs.Bytes.{Bytes}
 use Rattle.model.specs.MapFile.{lines}
 use Rattle.model.specs.Answers.{numbered}
-use Rattle.model.specs.Reader.{Layout, row_of, RowCheck, ValueLine, bad, good, judged, Reading, stopped, rows, with_row, stop, with_line, read_values}
-use Rattle.model.specs.Sheet.{SheetLine, BadLine, OtherSize, GoodSheet, size_of}
-use Rattle.model.specs.SheetFile.{line_of_row, good_line, check_sheet_row}
+use Rattle.model.specs.Reader.{row_of, ValueLine, bad, good, judged, Reading, stopped, rows, with_row, stop, with_line, read_values}
+use Rattle.model.specs.Sheet.{SheetLine, GoodSheet}
+use Rattle.model.specs.SheetFile.{line_of_row, check_sheet_row}
 use Rattle.filerules.proofs.RowChecks.{last_step}
 use Rattle.cursor.specs.declared.Cursor.{Cursor}
 use Rattle.cursor.specs.Parts.{first_line, later_lines}
@@ -25,11 +25,11 @@ use Rattle.cursor.specs.Given.{InText, Stands}
 use Rattle.cursor.proofs.Lines.{lines_none, lines_more, later_behind}
 use Rattle.columns.specs.declared.Columns.{Columns}
 use Rattle.columns.specs.Given.{layout_in}
-use Rattle.sides.specs.Given.{Appended, Stored}
-use Rattle.sides.proofs.TableRows.{Held, held_none, held_more, held_stored, held-within, held_length}
-use Rattle.sheettables.specs.Kept.{line_room, line_numbers, Sized, Kept}
+use Rattle.sides.specs.Given.{Appended}
+use Rattle.sides.proofs.TableRows.{Held, held_none, held_more, held_stored}
+use Rattle.sheettables.specs.Kept.{line_room, line_numbers, Sized}
 use Rattle.sheetlines.specs.Given.{line_at, check_line_by, LinesKept}
-use Rattle.sheetlines.proofs.Judging.{block_index, judged_out, good_checked}
+use Rattle.sheetlines.proofs.Judging.{judged_out, good_checked}
 use Rattle.sheetlines.proofs.Keeping.{good_more, sized_more, check-same}
 
 -- ---- rows that were read

@@ -1,7 +1,7 @@
 -- What reading the lines of a sheet gives: what is kept of them, or a refusal. Assumes nothing.
-use Rattle.std.specs.Prelude.{◌≡◌, Bool, not, cond, ◌&&◌, ℕ, suc, ℤ, pos, nat_abs, length, take, drop, get_or}
-use mathlib.Core.List.{List, [], ◌∷◌, map, flat_map}
-use Rattle.std.proofs.Math.Option.{Option, none, some}
+use Rattle.std.specs.Prelude.{◌≡◌, Bool, not, cond, ◌&&◌, ℕ, suc, ℤ, pos, nat_abs, take, drop, get_or}
+use mathlib.Core.List.{List, [], map, flat_map}
+use Rattle.std.proofs.Math.Option.{none, some}
 use Rattle.integers.specs.Integers.{eq_z}
 use Rattle.model.specs.Bytes.{Bytes}
 use Rattle.model.specs.Answers.{refusal_of, numbered}
@@ -14,7 +14,7 @@ use Rattle.cursor.specs.Given.{Stands}
 use Rattle.columns.specs.declared.Columns.{Columns}
 use Rattle.columns.specs.Given.{layout_in}
 use Rattle.sides.specs.Given.{Stored}
-use Rattle.sheettables.specs.Kept.{line_numbers, line_room, Sized, Kept}
+use Rattle.sheettables.specs.Kept.{line_numbers, line_room, Kept}
 use Rattle.sheetlines.specs.declared.SheetRow.{SheetRow}
 use Rattle.sheetlines.specs.declared.Value.{Value}
 use Rattle.sheetlines.specs.declared.Value.TheVariants as value

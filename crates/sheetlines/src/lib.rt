@@ -1,5 +1,6 @@
 // The lines of a sheet, read and judged: what is kept of them for the two tables, or refusal 13, 14, 17 or 18 with its line.
 #![tactic(auto)]
+
 ghost use Rattle.std.specs.Prelude.{◌≡◌, true, [], ◌≤◌, ◌<◌, nat_abs, length, drop, get_or};
 ghost use Rattle.model.specs.Limits.{sheet_numbers};
 ghost use Rattle.model.specs.MapFile.{lines};

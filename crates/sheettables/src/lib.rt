@@ -1,6 +1,7 @@
 // The two tables of the specification graph, made from what is kept of the lines of a global address sheet. Ranges are held by number, 0 for a number
 // that is not on the sheet: the spaces of the initiators and the sizes of the blocks. Rows are held by number too: roots those of the initiators, leaves those of the blocks.
 #![tactic(auto)]
+
 ghost use Rattle.std.specs.Prelude.{◌≡◌, ◌||◌, List, [], ◌∷◌, ◌+◌, ◌≤◌, ◌<◌, ◌^◌, ltb, pos, ◌≤ℤ◌, length, get_or};
 ghost use Rattle.std.proofs.lemmas.List.Edits.{sets};
 ghost use Rattle.model.specs.Limits.{node_width, edge_width, sheet_numbers};

@@ -45,7 +45,7 @@ some? [] (y ∷ b) c d n = refl
 some? (y ∷ a) b c d n = refl
 
 -- a finding without a record has no line
-line-none : {f : Finding} → Bare f → finding_line f ≡ []
+pub line-none : {f : Finding} → Bare f → finding_line f ≡ []
 unfolding finding_line no_record is_nil
 line-none bare = rw (bare.spec Reading, bare.impl Reading, bare.spec Writing, bare.impl Writing) refl
 
@@ -126,7 +126,7 @@ found-result {fs} {k} f i j v e h q low is at p =
 module _ {fs : List Finding} {lines : List ℕ} {k : Kept} (p : KeptOf fs lines k) (f : Finding) {result : Comparison}
     (e : comparison_result result ≡ result_of (fs ++ (f ∷ []))) where
   -- without a line
-  kept-none : finding_line f ≡ [] → KeptOf (fs ++ (f ∷ [])) lines (record { result = result; count = k.count; bytes = k.bytes })
+  pub kept-none : finding_line f ≡ [] → KeptOf (fs ++ (f ∷ [])) lines (record { result = result; count = k.count; bytes = k.bytes })
   kept-none none =
       let same : flat_map finding_line (fs ++ (f ∷ [])) ≡ flat_map finding_line fs = flat_map_snoc finding_line fs f ∙ rw (none, append-nil) refl in
       record {
@@ -153,11 +153,6 @@ module _ {fs : List Finding} {lines : List ℕ} {k : Kept} (p : KeptOf fs lines 
 
 -- ---- findings without a record
 
--- one of them, as a list
-pub one_bare : {f : Finding} → Bare f → (g : Finding) → g ∈ (f ∷ []) → Bare g
-one_bare bare g (Memᴰ.head e) = subst Bare (sym e) bare
-one_bare bare g (Memᴰ.tail m) = absurd (Memᴰ.not-nil m)
-
 -- what is kept with n more of them
 abbrev pub with_equal : ℕ → Kept → Kept
 with_equal n k =
@@ -175,10 +170,10 @@ with_equal n k =
       bytes = k.bytes;
     }
 
-pub kept-equal : {fs : List Finding} {lines : List ℕ} {k : Kept} (gs : List Finding) → ((g : Finding) → g ∈ gs → Bare g) → KeptOf fs lines k
+pub kept-equal : (gs : List Finding) {fs : List Finding} {lines : List ℕ} {k : Kept} → ((g : Finding) → g ∈ gs → Bare g) → KeptOf fs lines k
     → KeptOf (fs ++ gs) lines (with_equal (length gs) k)
-kept-equal {fs} {k} [] b p = rw (append-nil fs, add-zero k.result.equal) p
-kept-equal {fs} {lines} {k} (g ∷ gs) b p =
+kept-equal [] {fs} {k} b p = rw (append-nil fs, add-zero k.result.equal) p
+kept-equal (g ∷ gs) {fs} {lines} {k} b p =
     let bare = b g (Memᴰ.head refl) in
     let result = ap one_equal p.result ∙ sym (result_bare fs bare) in
     let one = kept-none p g {result = (with_equal 1 k).result} result (line-none bare) in

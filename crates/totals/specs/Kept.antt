@@ -6,7 +6,7 @@ use Rattle.lists.specs.Lists.{◌∈◌}
 use Rattle.model.specs.declared.WalkKind.{WalkKind}
 use Rattle.model.specs.declared.WalkKind.TheVariants.{Reading, Writing}
 use Rattle.model.specs.Answers.{verdict_number, comparison_result}
-use Rattle.model.specs.Compare.{Finding, kind_verdict, verdict_of, Place, Result, result_of}
+use Rattle.model.specs.Compare.{Finding, kind_verdict, Place, Result, result_of}
 use Rattle.model.specs.Report.{finding_line}
 use Rattle.model.specs.Verdicts.{lowest}
 use Rattle.reporting.specs.Lines.{lines_of, max_visits, SmallPlace, SmallLengths}
@@ -92,8 +92,7 @@ pub record Added (k : Kept) (lines : List ℕ) (i j : ℕ) (reading writing : Fo
       → IsFinding Reading f (is_asked k) reading → IsFinding Writing f (is_asked k) writing
       → KeptOf fs lines k → KeptOf (fs ++ (f ∷ [])) lines' k'
   -- where an address is still asked for, one was asked for before, and the pair is equal
-  pub asked : is_asked k' ≡ true → (is_asked k ≡ true)
-      × ((f : Finding) → IsFinding Reading f (is_asked k) reading → IsFinding Writing f (is_asked k) writing → verdict_of f ≡ 0)
+  pub asked : is_asked k' ≡ true → (is_asked k ≡ true) × (max (verdict_number reading.verdict) (verdict_number writing.verdict) ≡ 0)
 
 -- n findings without a record are added
 pub record EqualAdded (k : Kept) (n : ℕ) (k' : Kept) : Type 0 where

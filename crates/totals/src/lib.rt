@@ -1,6 +1,7 @@
 // What is kept of the pairs of a comparison, taken in visiting order, and how what is found of one pair is added to it: its verdict is counted, the
 // place of the first unequal pair is kept, and the number of its line is stored behind the others.
 #![tactic(auto)]
+
 ghost use Rattle.std.specs.Prelude.{◌≡◌, ◌≤◌, ◌<◌, pos, set};
 ghost use Rattle.model.specs.Limits.{max_pairs};
 ghost use Rattle.model.specs.Answers.{verdict_number, comparison_result};
@@ -134,22 +135,8 @@ fn hold_line(lines: &mut [usize], count: usize, number: usize)
     }
 }
 
-// What is kept with so many more pairs that have no record.
-pub fn with_equal(kept: Kept, pairs: usize) -> Kept
-    requires { RoomFor pairs kept }
-    ensures { EqualAdded kept pairs result }
-{
-    let mut result = kept.result;
-    result.equal += pairs;
-    Kept {
-        result: result,
-        count: kept.count,
-        bytes: kept.bytes,
-    }
-}
-
 // What is kept with one more pair, of which this is found for reading and for writing: its verdict is the worse of the two kinds', its address the lower of those
-// that are there, and it has a line where any of its four lists has a record. Where none has, it is one more equal pair.
+// that are there, and it has a line where any of its four lists has a record.
 pub fn with_pair(
     lines: &mut [usize],
     kept: Kept,
@@ -163,20 +150,38 @@ pub fn with_pair(
 {
     let read = reading.lengths;
     let written = writing.lengths;
-    if record_count(read, written) == 0 {
-        return with_equal(kept, 1);
-    }
     let one = reading.verdict;
     let other = writing.verdict;
     let verdict = higher(one, other);
     let address = lower_of(reading.address, writing.address);
     let result = kept.result;
     let result = with_found(result, root_row, leaf_row, verdict, address);
+    if record_count(read, written) == 0 {
+        return Kept {
+            result: result,
+            count: kept.count,
+            bytes: kept.bytes,
+        };
+    }
     let number = line_number(root_row, leaf_row, verdict, read, written);
     hold_line(lines, kept.count, number);
     Kept {
         result: result,
         count: kept.count + 1,
         bytes: kept.bytes + line_length(number),
+    }
+}
+
+// What is kept with so many more pairs that have no record.
+pub fn with_equal(kept: Kept, pairs: usize) -> Kept
+    requires { RoomFor pairs kept }
+    ensures { EqualAdded kept pairs result }
+{
+    let mut result = kept.result;
+    result.equal += pairs;
+    Kept {
+        result: result,
+        count: kept.count,
+        bytes: kept.bytes,
     }
 }

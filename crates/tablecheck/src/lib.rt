@@ -1,6 +1,7 @@
 // The report of two graphs: their tables are checked, all pairs are surveyed, and where the report fits it is written from the lines that are held. A report
 // with more lines than are held is worked a second time, and written as it goes.
 #![tactic(auto)]
+
 ghost use mathlib.Core.List.{flat_map};
 ghost use Rattle.std.specs.Prelude.{◌≤◌, length};
 ghost use Rattle.model.specs.Compare.{findings};

@@ -1,5 +1,6 @@
 // The text check of a caller, beside a tally of how the checks of each caller ended.
 #![tactic(auto)]
+
 ghost use Rattle.std.specs.Prelude.{◌≡◌, ◌<◌, length};
 ghost use Rattle.model.specs.Answers.{written_answer};
 ghost use Rattle.model.specs.Limits.{count_kinds};

@@ -1,5 +1,6 @@
 // The text check: map file in, report out.
 #![tactic(auto)]
+
 ghost use Rattle.std.specs.Prelude.{◌≡◌, length};
 ghost use Rattle.model.specs.Answers.{written_answer};
 ghost use Rattle.model.specs.Calls.{full};

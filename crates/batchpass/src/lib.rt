@@ -1,6 +1,7 @@
 // The pass of a batch over a list of records: each record is read once, for all addresses. Nothing is written before the last record has been read, and
 // nothing at all where the rows do not fit: the pass counts on its way to the end of the list, and writes on its way back.
 #![tactic(auto)]
+
 ghost use Rattle.std.specs.Prelude.{◌≡◌, ◌*◌, ◌≤◌, leb};
 ghost use Rattle.model.specs.Limits.{max_batch, batch_width, max_paths};
 ghost use Rattle.batches.specs.Batch.{counts_result};

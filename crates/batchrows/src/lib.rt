@@ -1,5 +1,6 @@
 // The rows that one record of a list gives for a batch of addresses: how many they are, and their numbers in the front of a lent buffer.
 #![tactic(auto)]
+
 ghost use Rattle.std.specs.Prelude.{◌≡◌, ◌+◌, ◌*◌, ◌≤◌, ◌<◌, pos, ◌-ℤ◌, length, set};
 ghost use Rattle.model.specs.Limits.{max_batch, batch_width};
 ghost use Rattle.model.specs.Quantities.{Movable};

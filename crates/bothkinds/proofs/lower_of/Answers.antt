@@ -12,7 +12,7 @@ unfolding lower_of
 returns-then-one-lt0 c =
     let one : SFits w64 c.args.one = search rules in
     let other : SFits w64 c.args.other = search rules in
-    simp (to_z-of_z other, simp (to_z-of_z, one, other) at c.if-one-lt0.true)
+    simp (to_z-of_z other, simp (to_z-of_z, one) at c.if-one-lt0.true)
 
 pub returns-then-other-lt0 : goal.returns-then-other-lt0
 unfolding lower_of

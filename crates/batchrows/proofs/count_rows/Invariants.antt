@@ -1,0 +1,13 @@
+-- The invariant: the rows of the addresses before `place` are counted. The measure is the addresses left.
+use mathlib.Core.Path.{◌≡◌}
+use Prim.Native.Nat.{◌-◌, ◌≤◌}
+use lib.ListN.{length}
+use Rattle.verdicts.specs.Records.{as_record}
+use Rattle.batches.proofs.Turns.{rows_to}
+use Rattle.batchrows.proofs.count_rows.Given as goal
+
+abbrev pub invariant-loop-place : goal.invariant-loop-place
+invariant-loop-place l = (l.place ≤ length l.addresses) × (l.rows ≡ length (rows_to (as_record l.s) l.addresses l.place))
+
+abbrev pub decreases-loop-place : goal.decreases-loop-place
+decreases-loop-place l = length l.addresses - l.place

@@ -1,5 +1,6 @@
 // The comparison of two graphs: its tables are checked, then all pairs are surveyed.
 #![tactic(auto)]
+
 ghost use Rattle.pairing.specs.Pairs.{tables_of};
 ghost use Rattle.compare.specs.Promises.{ComparePromise};
 

@@ -1,6 +1,7 @@
 // One pair of a comparison for a kind of walk: the list of its specification leaf and that of its group are asked of two graphs that are swept for the kind from its
 // roots, and are judged.
 #![tactic(auto)]
+
 ghost use Rattle.pairing.specs.Pairs.{tables_of};
 ghost use Rattle.pairs.specs.Found.{Findable, FoundAnyRoot};
 

@@ -1,6 +1,7 @@
 // The pairs of one root row of a comparison for both kinds of walk: what is held for each is kept together. Where every node may be read and written, one kind is looked at, and what is
 // found for it stands for both.
 #![tactic(auto)]
+
 ghost use Rattle.pairing.specs.Pairs.{tables_of};
 ghost use Rattle.rowpairs.specs.RowPairs.{HeldRoom, RowReady};
 ghost use Rattle.rootrows.specs.RootRow.{RowRoom, RowKept, Plain, RowKeepable, HeldKept};

@@ -1,5 +1,6 @@
 // The pairs of one root row of a comparison for a kind of walk: one sweep of each graph from its roots serves all groups of leaves, and what is found of each is held.
 #![tactic(auto)]
+
 ghost use Rattle.std.specs.Prelude.{◌≡◌, ◌&&◌, eqb};
 ghost use Rattle.model.specs.Answers.{verdict_number};
 ghost use Rattle.pairing.specs.Pairs.{tables_of};

@@ -1,5 +1,6 @@
 // What is kept of all pairs of a comparison, root row by root row; and their lines, written row by row.
 #![tactic(auto)]
+
 ghost use Rattle.std.specs.Prelude.{◌≡◌, true, ◌↔◌, ◌≤◌, ℤ, length};
 ghost use mathlib.Core.List.{List, flat_map};
 ghost use Rattle.model.specs.Limits.{max_pairs};

@@ -1,5 +1,6 @@
 // The walks of many bit addresses from one root to one leaf, for a kind of walk, in a single pass over their bitmapping list.
 #![tactic(auto)]
+
 ghost use Rattle.batch.specs.Promises.{BatchPromise};
 
 use model::{Batched, MAX_BATCH, MAX_NUMBERS, Reason, WalkKind, Written};

@@ -1,5 +1,6 @@
 // The text check for programs in other languages.
 #![tactic(auto)]
+
 ghost use Rattle.model.specs.TextCheck.{coded};
 ghost use Rattle.textcheck.specs.Promises.{TextPromise};
 

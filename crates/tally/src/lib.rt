@@ -21,7 +21,7 @@ pub struct Tally {
 }
 
 // Who asks for a check: the caller that has the number, or none, since it lies outside 0..15.
-#[derive(Drop)]
+#[derive(Clone, Copy)]
 pub enum Who {
     Caller(usize),
     Outside,

@@ -14,7 +14,7 @@ use Rattle.model.specs.Rows.{Node, Edge}
 use Rattle.model.specs.Graph.{Graph, node, first_bit, last_bit, bit_offset}
 use Rattle.model.specs.Refusals.{BadNode}
 use Rattle.model.specs.Quantities.{Movable}
-use Rattle.model.specs.Runs.{Run, InRun, Joins, Between, empty, is_open, last_open, whole, across}
+use Rattle.model.specs.Runs.{Run, InRun, Joins, empty, is_open, last_open, whole, across}
 use Rattle.model.specs.Walk.{StandsOn}
 use Rattle.model.specs.Calls.{stands_on}
 use Rattle.model.specs.declared.WalkKind.{WalkKind}

@@ -1,7 +1,7 @@
 -- The conditions of a row beyond its values: the reader checks them by the numbers of the rows, and so settles the conditions of a value line.
 use mathlib.Core.Path.{◌≡◌, refl, sym, ap, subst, ◌∙◌}
 use mathlib.Core.Bool.{Bool, true, false, not, cond, ◌||◌}
-use mathlib.Core.Logic.{◌≢◌, ◌⊎◌, inl, inr, ⊎_elim, ◌↔◌}
+use mathlib.Core.Logic.{◌⊎◌, inl, inr, ⊎_elim, ◌↔◌}
 use mathlib.Core.List.{List, [], ◌∷◌, map}
 use mathlib.Core.Option.{Option, none, some}
 use Prim.Native.Nat.{ℕ, suc}
@@ -10,16 +10,16 @@ use lib.Dec.{T}
 use lib.IntN.{ℤ, pos}
 use lib.ListN.{get_or}
 use Rattle.integers.specs.Integers.{eq_z}
-use Rattle.integers.proofs.Tests.{Test, passed, failed, eq_z?}
+use Rattle.integers.proofs.Tests.{passed, failed, eq_z?}
 use Rattle.lists.specs.Lists.{is_nil}
 use Rattle.lists.proofs.Decisions.{Decides, test_map, decides_iff, decides_or, decides_not}
 use Rattle.model.specs.Bytes.{Bytes, bytes}
 use Rattle.model.specs.MapFile.{Values, RowCondition, Table, all_names, node_table, edge_table, pair_table, not_zero_or_one, NamesLine, RowWritten, RowsWritten, LineMeets, further_conditions}
 use Rattle.model.specs.FileRules.{MeetsNone}
-use Rattle.model.specs.Refusals.{Refusal, Condition, refuse, ◌next◌}
+use Rattle.model.specs.Refusals.{Refusal, refuse, ◌next◌}
 use Rattle.model.specs.Checks.{when, ◌then◌}
 use Rattle.model.specs.Answers.{numbered}
-use Rattle.model.specs.Reader.{ValueLine, Layout, row_of, RowCheck, check_side_or_role, bad, good, judged, with_line, read_values}
+use Rattle.model.specs.Reader.{Layout, row_of, RowCheck, check_side_or_role, bad, good, judged, with_line, read_values}
 use Rattle.model.proofs.Settled.{Settled, settled_next, settled_when}
 use Rattle.filerules.proofs.Options.{some_same}
 use Rattle.filerules.proofs.Words.{Regular}

@@ -11,7 +11,7 @@ use Rattle.model.specs.Limits.{max_edges}
 use Rattle.model.specs.Bytes.{Bytes}
 use Rattle.model.specs.Refusals.{Refusal, Condition, NoneHolds, refuse, ◌next◌, output_conditions}
 use Rattle.model.specs.Checks.{when, ◌then◌, check_output}
-use Rattle.model.specs.Calls.{Answer, refused, full, answer}
+use Rattle.model.specs.Calls.{Answer, refused, full}
 use Rattle.model.specs.Sheet.{SheetLine, sheet_nodes, sheet_edges}
 use Rattle.model.specs.SheetFile.{KeepsSheet, LinesOf, sheet_file_conditions, read_sheet}
 use Rattle.model.specs.SheetCall.{made_conditions, check_made, made, made_of, sheet_answer, sheet_conditions}

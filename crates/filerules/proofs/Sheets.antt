@@ -1,7 +1,7 @@
 -- The text of a sheet: it is read as lines exactly where it keeps the file rules with these, and so it keeps them with one list of lines at most;
 -- the reader's refusals are exactly its conditions, 12, 13, 14, 17 and 18.
 use mathlib.Core.Path.{◌≡◌, refl, sym, ap, subst, ◌∙◌}
-use mathlib.Core.Bool.{Bool, true, false, not, cond, ◌&&◌}
+use mathlib.Core.Bool.{Bool, true, false, not, cond}
 use mathlib.Core.Logic.{◌≢◌, ◌⊎◌, inl, inr, ⊎_elim, ◌↔◌}
 use mathlib.Core.List.Memᴰ
 use mathlib.Core.List.{List, [], ◌∷◌, ◌++◌, map, append-nil}
@@ -10,31 +10,28 @@ use Prim.Native.Nat.{ℕ}
 use native.Mathlib.Omega.{arith}
 use lib.IntN.{ℤ, pos, ◌+ℤ◌}
 use lib.Signed.{◌≤ℤ◌, ◌<ℤ◌}
-use Rattle.integers.specs.Integers.{eq_z}
-use Rattle.integers.proofs.Tests.{Test, passed, failed, le?, lt?, eq_z?}
+use Rattle.integers.proofs.Tests.{Test, passed, le?, lt?, eq_z?}
 use Rattle.lists.specs.Lists.{◌∈◌, any}
-use Rattle.lists.proofs.Membership.{map_in, map_out}
 use Rattle.integers.proofs.Linear.{ints}
 use Rattle.lists.proofs.Decisions.{Decides, test_map, not?, and?, decides_and, decides_not, decides_le, any?, test_stable}
-use Rattle.model.specs.Limits.{sheet_numbers, sheet_bytes, max_text}
-use Rattle.model.specs.Bytes.{Bytes, bytes}
-use Rattle.model.specs.MapFile.{Values, Table, all_names, lines, Allowed, BrokenOff, whole_text_conditions, names, line_conditions}
-use Rattle.model.specs.FileRules.{table_lines, AllMeetNone, MeetsNone, TableOf}
-use Rattle.model.specs.Refusals.{Refusal, Condition, NoneHolds, ◌next◌, output_conditions}
+use Rattle.model.specs.Limits.{sheet_numbers, sheet_bytes}
+use Rattle.model.specs.Bytes.{Bytes}
+use Rattle.model.specs.MapFile.{Values, all_names, lines, whole_text_conditions, names, line_conditions}
+use Rattle.model.specs.FileRules.{AllMeetNone, MeetsNone}
+use Rattle.model.specs.Refusals.{Refusal, Condition, NoneHolds, ◌next◌}
 use Rattle.model.specs.Checks.{◌then◌}
 use Rattle.model.specs.Calls.{Answer, refused, full}
-use Rattle.model.specs.Reader.{check_text, RowCheck, Reading, stopped, rows, read_table}
+use Rattle.model.specs.Reader.{check_text, Reading, stopped, rows, read_table}
 use Rattle.model.specs.Sheet.{SheetLine, SheetNumber, BadLine, no_initiator, no_block, low_base, low_size, high_end, OtherSize, GoodSheet}
-use Rattle.model.specs.SheetFile.{sheet_line, bad_line, other_size, sheet_table, KeepsSheet, LinesOf, sheet_file_conditions, line_of_row, is_sheet_number, good_bytes, good_line, clashes_with, check_sheet_line, check_sheet_row, lines_read, read_sheet}
+use Rattle.model.specs.SheetFile.{sheet_line, bad_line, other_size, sheet_table, KeepsSheet, sheet_file_conditions, line_of_row, is_sheet_number, good_bytes, good_line, clashes_with, check_sheet_line, check_sheet_row, lines_read, read_sheet}
 use Rattle.model.proofs.Settled.{Settled, settled_next}
-use Rattle.filerules.proofs.Splits.{Lacks}
 use Rattle.filerules.proofs.Lines.{ended, ended-lines}
 use Rattle.filerules.proofs.Words.{sheet_regular}
 use Rattle.filerules.proofs.Values.{numbers_in}
 use Rattle.filerules.proofs.RowChecks.{Decided, CheckOf}
 use Rattle.filerules.proofs.Text.{text_settled, text-passed}
-use Rattle.filerules.proofs.Refusals.{Reads, refusal_in, table_settles, Answers, settled_answers}
-use Rattle.filerules.proofs.TableLines.{lines_of, table-ended, Clean, clean_lines, clean_passes, table_clean, final, ends_final, table-read, TableRead, read_table_lem}
+use Rattle.filerules.proofs.Refusals.{Reads, refusal_in, table_settles, settled_answers}
+use Rattle.filerules.proofs.TableLines.{lines_of, table-ended, Clean, clean_lines, clean_passes, table_clean, final, ends_final, table-read, read_table_lem}
 
 -- ---- 17 and 18, decided
 

@@ -2,7 +2,7 @@
 -- tables at most.
 use mathlib.Core.Path.{◌≡◌, refl, sym, ap, subst, ◌∙◌}
 use mathlib.Core.Bool.{Bool, true, false, cond}
-use mathlib.Core.Logic.{inr, ⊎_elim, ◌↔◌}
+use mathlib.Core.Logic.{⊎_elim, ◌↔◌}
 use mathlib.Core.List.Memᴰ
 use mathlib.Core.List.{List, [], ◌∷◌, ◌++◌, map, flat_map, append-nil}
 use mathlib.Core.Option.{Option, none, some}
@@ -14,17 +14,17 @@ use Rattle.integers.specs.Integers.{eq_z}
 use Rattle.lists.specs.Lists.{◌∈◌, keep}
 use Rattle.model.specs.Limits.{max_text}
 use Rattle.model.specs.Bytes.{Bytes, bytes, line_feed}
-use Rattle.model.specs.MapFile.{Values, Table, all_names, node_table, edge_table, pair_table, lines, Allowed, BrokenOff, file_conditions}
+use Rattle.model.specs.MapFile.{Values, Table, all_names, node_table, edge_table, pair_table, lines, BrokenOff, file_conditions}
 use Rattle.model.specs.FileRules.{table_lines, TableOf, numbers_under, node_numbers, edge_numbers, pair_numbers, KeepsRules}
 use Rattle.model.specs.Refusals.{Refusal, NoneHolds}
 use Rattle.model.specs.Compare.{Tables}
 use Rattle.model.specs.Calls.{Answer, refused, full}
 use Rattle.model.specs.Reader.{check_side_or_role, Reading, stopped, rows, read_table, rows_with, tables_of, read_third, read_second, read_first, read_map, check_text}
-use Rattle.filerules.proofs.Lines.{ended, ended_cons, ended_append, lines-ended, ended-lines, ended-whole, ended_out}
+use Rattle.filerules.proofs.Lines.{ended, ended_cons, ended_append, ended-lines}
 use Rattle.filerules.proofs.Words.{node_regular, edge_regular, pair_regular}
 use Rattle.filerules.proofs.Values.{numbers_in}
 use Rattle.filerules.proofs.RowChecks.{node-check, edge_check, pair_check}
-use Rattle.filerules.proofs.Text.{text_passes, text-passed}
+use Rattle.filerules.proofs.Text.{text-passed}
 use Rattle.filerules.proofs.Refusals.{read_settled}
 use Rattle.filerules.proofs.TableLines.{lines_of, table-ended, Clean, clean_lines, clean_passes, table_clean, final, between, ends_final, ends_between, table-read, TableRead, read_table_lem}
 

@@ -12,7 +12,7 @@ use Rattle.model.specs.FileRules.{KeepsRules, TablesOf}
 use Rattle.model.specs.Compare.{Tables, findings, result_of}
 use Rattle.model.specs.Refusals.{Refusal, Condition, NoneHolds, ◌next◌, compare_conditions, output_conditions}
 use Rattle.model.specs.Checks.{◌then◌, check_tables, check_output}
-use Rattle.model.specs.Calls.{Answer, refused, full, answer}
+use Rattle.model.specs.Calls.{Answer, refused, full}
 use Rattle.model.specs.Report.{report}
 use Rattle.model.specs.Reader.{read_map}
 use Rattle.model.specs.TextCheck.{Reported, reported_of, check_read, text_answer, report_conditions, text_conditions}

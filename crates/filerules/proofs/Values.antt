@@ -4,21 +4,21 @@ use mathlib.Core.Path.{◌≡◌, refl, sym, ap, subst, ◌∙◌}
 use mathlib.Core.Bool.{Bool, true, false}
 use mathlib.Core.Logic.{◌≢◌, ◌⊎◌, inl, inr, ⊎_elim, ◌↔◌}
 use mathlib.Core.List.Memᴰ
-use mathlib.Core.List.{List, [], ◌∷◌, ◌++◌, map, map-map, nil≢cons}
+use mathlib.Core.List.{List, [], ◌∷◌, map, map-map, nil≢cons}
 use mathlib.Core.Option.{Option, none, some}
-use Prim.Native.Nat.{ℕ, suc, ◌<◌, ◌^◌}
+use Prim.Native.Nat.{◌<◌, ◌^◌}
 use native.Mathlib.Omega.{arith}
 use lib.IntN.{ℤ, pos, nat_abs}
 use lib.ListN.{length, get_or, length-map, get_or-eq_default}
 use Rattle.integers.proofs.Tests.{passed, failed, eq?}
-use Rattle.lists.specs.Lists.{◌∈◌, is_nil, Distinct, none as no_more, more}
+use Rattle.lists.specs.Lists.{◌∈◌, Distinct, none as no_more, more}
 use Rattle.lists.proofs.Membership.{map_in, map_out}
 use Rattle.lists.proofs.Decisions.{Decides}
 use Rattle.lists.proofs.Places.{map_same}
 use Rattle.model.specs.Limits.{max_digits}
 use Rattle.model.specs.Bytes.{Bytes, shown, spaced, same}
 use Rattle.model.specs.MapFile.{Values, Table, all_names, GoodFields, RowWritten, RowsWritten, no_line, and_line}
-use Rattle.model.specs.Reader.{Layout, fields_of, value_of, values_of, column_of, is_field, layout_of, arranged, row_of}
+use Rattle.model.specs.Reader.{fields_of, value_of, values_of, column_of, is_field, layout_of, arranged, row_of}
 use Rattle.filerules.proofs.Options.{none-some, some_same, choice_in, choice_out, Both, cons_in, cons_out}
 use Rattle.filerules.proofs.Numerals.{value-shown, shown-value}
 use Rattle.filerules.proofs.Fields.{fields-spaced, spaced-fields}

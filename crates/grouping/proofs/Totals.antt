@@ -1,11 +1,10 @@
 -- Counts summed over the banks of a group, one bank after the other.
-use mathlib.Core.Path.{◌≡◌, refl, sym, ap, ◌∙◌}
+use mathlib.Core.Path.{◌≡◌, refl, ap, ◌∙◌}
 use mathlib.Core.List.{List, [], ◌∷◌, ◌++◌}
 use Prim.Native.Nat.{ℕ, ◌+◌, ◌*◌, ◌/◌, ◌≤◌, ◌<◌}
 use native.Mathlib.Omega.{arith}
 use lib.IntN.{ℤ, pos}
 use lib.ListN.{length, get_or}
-use Rattle.integers.proofs.Linear.{ints}
 use Rattle.model.specs.Limits.{pair_width, max_paths}
 use Rattle.model.specs.Rows.{Pair, pair_rows}
 use Rattle.model.specs.Compare.{group}

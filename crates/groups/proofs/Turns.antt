@@ -1,15 +1,14 @@
 -- The banks of a group, one after the other: the rows of those passed are gathered, and behind the last they are those of the whole group.
 use mathlib.Core.Path.{◌≡◌, sym, ap, ap₂, ◌∙◌, subst}
-use mathlib.Core.List.{List, [], ◌∷◌, ◌++◌, map, map-append, append_assoc, flat_map}
-use Prim.Native.Nat.{ℕ, ◌+◌, ◌*◌, ◌/◌, ◌≤◌, ◌<◌}
+use mathlib.Core.List.{List, [], ◌∷◌, ◌++◌, map, map-append, flat_map}
+use Prim.Native.Nat.{ℕ, ◌+◌, ◌/◌, ◌≤◌, ◌<◌}
 use native.Mathlib.Omega.{arith}
 use lib.IntN.{ℤ, pos}
 use lib.ListN.{length, length-append, take, drop, take-append-drop}
-use Rattle.integers.proofs.Linear.{ints}
 use Rattle.lists.specs.Lists.{◌∈◌, keep}
 use Rattle.lists.proofs.Kept.{keep_append}
 use Rattle.model.specs.declared.WalkKind.{WalkKind}
-use Rattle.model.specs.Limits.{pair_width, max_paths}
+use Rattle.model.specs.Limits.{pair_width}
 use Rattle.model.specs.Rows.{Pair, Edge, pair_rows}
 use Rattle.model.specs.Graph.{Graph, graph_of}
 use Rattle.model.specs.Paths.{Leaf}
@@ -21,9 +20,7 @@ use Rattle.tables.specs.Tables.{pair_at}
 use Rattle.tables.proofs.Rows.{pair_member}
 use Rattle.extents.specs.Extents.{SmallAddress}
 use Rattle.reach.specs.Counting.{path_count}
-use Rattle.entering.specs.Entering.{Covered}
-use Rattle.forward.specs.Forward.{planned_of}
-use Rattle.grouping.specs.Links.{next_row, Linked, Passing}
+use Rattle.grouping.specs.Links.{next_row, Passing}
 use Rattle.grouping.proofs.Passing.{pass_next, pass_end}
 use Rattle.arrivals.specs.declared.ListRows.{ListRows}
 use Rattle.arrivals.specs.State.{free_row}

@@ -1,14 +1,14 @@
 -- Two kinds of walk: what holds of each, the worse of two verdicts, and the lower of two addresses that are there.
-use mathlib.Core.Path.{◌≡◌, refl, subst}
+use mathlib.Core.Path.{◌≡◌, refl}
 use mathlib.Core.Bool.{Bool, cond}
-use mathlib.Core.Logic.{◌↔◌, inl, inr, ⊎_elim}
+use mathlib.Core.Logic.{◌↔◌}
 use Prim.Native.Nat.{ℕ, max}
 use native.Mathlib.Omega.{arith}
 use lib.IntN.{ℤ, pos, negsuc}
 use lib.Signed.{lt_z, ◌≤ℤ◌, ◌<ℤ◌}
 use Rattle.integers.specs.Integers.{min_z}
 use Rattle.integers.proofs.Linear.{ints}
-use Rattle.integers.proofs.Tests.{Test, passed, failed, lt?, min_is}
+use Rattle.integers.proofs.Tests.{Test, passed, failed, lt?}
 use Rattle.model.specs.declared.WalkKind.{WalkKind}
 use Rattle.model.specs.declared.WalkKind.TheVariants.{Reading, Writing}
 use Rattle.model.specs.Compare.{lower_of}

@@ -1,22 +1,21 @@
 -- The groups of leaf rows: each leaf row is in exactly one group, whose row is the lowest of it; these rows ascend; and where no implementation leaf stands twice
 -- the leaves of a group are distinct.
-use mathlib.Core.Path.{◌≡◌, refl, sym, ap, ◌∙◌, subst}
-use mathlib.Core.Bool.{Bool, not, ◌&&◌}
+use mathlib.Core.Path.{◌≡◌, refl, sym, ap, ◌∙◌}
+use mathlib.Core.Bool.{Bool}
 use mathlib.Core.List.Memᴰ
-use mathlib.Core.List.{List, [], ◌∷◌, map, map-map}
+use mathlib.Core.List.{List, ◌∷◌, map, map-map}
 use mathlib.Core.Logic.{◌⊎◌, inl, inr, ◌↔◌, ⊎_elim}
-use Prim.Native.Nat.{ℕ, ◌≤◌, ◌<◌}
+use Prim.Native.Nat.{◌≤◌, ◌<◌}
 use native.Mathlib.Omega.{arith}
-use lib.Dec.{ltb}
 use lib.IntN.{ℤ}
 use lib.ListN.{length}
 use Rattle.integers.specs.Integers.{eq_z}
 use Rattle.integers.proofs.Tests.{passed, failed, eq_z?}
-use Rattle.lists.specs.Lists.{◌∈◌, keep, any, Distinct, none, more}
+use Rattle.lists.specs.Lists.{◌∈◌, keep, Distinct, none, more}
 use Rattle.lists.proofs.Kept.{keep_length}
 use Rattle.lists.proofs.Membership.{keep_in, keep_out, map_in, map_out}
 use Rattle.lists.proofs.Decisions.{Decides, decides_and, decides_iff, decides_lt, not?, any?, test_map}
-use Rattle.model.specs.Rows.{Pair, pair_rows}
+use Rattle.model.specs.Rows.{Pair}
 use Rattle.model.specs.Groups.{Bank, leaves_of}
 use Rattle.model.specs.Compare.{Tables, leaf_rows, same_spec, group, bank_of, banks, is_lowest, lowest_rows, groups}
 use Rattle.model.specs.Refusals.{SameImpl, PairedBefore}

@@ -1,14 +1,14 @@
 -- Where no specification leaf is named twice and every leaf row begins at 0, each leaf row is a group by itself, and what is found is the list of its specification leaf
 -- and that of its implementation leaf.
-use mathlib.Core.Path.{◌≡◌, refl, sym, ap, ap₂, ◌∙◌, subst, fun_ext}
-use mathlib.Core.Bool.{Bool, true, false, not, cond}
+use mathlib.Core.Path.{◌≡◌, refl, sym, ap, ap₂, ◌∙◌, fun_ext}
+use mathlib.Core.Bool.{Bool, true, false, cond}
 use mathlib.Core.List.Memᴰ
 use mathlib.Core.List.{List, [], ◌∷◌, map}
-use mathlib.Core.Logic.{◌⊎◌, inl, inr, ⊎_elim}
-use Prim.Native.Nat.{ℕ, ◌<◌}
+use mathlib.Core.Logic.{◌⊎◌, inl, inr}
+use Prim.Native.Nat.{◌<◌}
 use native.Mathlib.Omega.{arith}
 use lib.IntN.{ℤ, pos}
-use Rattle.integers.proofs.Tests.{Test, passed, failed, of_test}
+use Rattle.integers.proofs.Tests.{passed, failed}
 use Rattle.lists.specs.Lists.{◌∈◌, keep}
 use Rattle.lists.proofs.Membership.{keep_nil}
 use Rattle.lists.proofs.Decisions.{Decides, decides_iff, decides_not}

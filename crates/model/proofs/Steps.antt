@@ -10,7 +10,7 @@ use lib.Signed.{◌≤ℤ◌, ◌<ℤ◌, lt_z_yes, lt_z_no}
 use Rattle.integers.specs.Integers.{max_z}
 use Rattle.integers.proofs.Linear.{ints, sum, diff}
 use Rattle.lists.proofs.Decisions.{Decides, decides_not}
-use Rattle.integers.proofs.Tests.{Test, passed, failed, eq_z?, lt?, of_test, min_le, max_le, min_is, max_is}
+use Rattle.integers.proofs.Tests.{passed, failed, eq_z?, lt?, of_test, min_le, max_le, min_is, max_is}
 use Rattle.model.specs.declared.WalkKind.{WalkKind}
 use Rattle.model.specs.declared.WalkKind.TheVariants.{Reading, Writing}
 use Rattle.model.specs.Rows.{Node, Edge}

@@ -1,24 +1,24 @@
 -- One graph of a pair: the list of its leaf, or of its group, can be asked of the swept graph, and what stands there then can be judged and worked in.
 use mathlib.Core.Path.{◌≡◌, sym, ap, subst}
-use mathlib.Core.List.{List, [], map}
-use Prim.Native.Nat.{ℕ, ◌+◌, ◌-◌, ◌*◌, ◌/◌, ◌≤◌, ◌<◌}
+use mathlib.Core.List.{List, []}
+use Prim.Native.Nat.{ℕ, ◌-◌, ◌*◌, ◌/◌, ◌≤◌, ◌<◌}
 use native.Mathlib.Omega.{arith}
 use lib.IntN.{ℤ, pos, nat_abs}
-use lib.Signed.{yes_non_neg, pos-nat_abs, ◌≤ℤ◌}
+use lib.Signed.{yes_non_neg, pos-nat_abs}
 use lib.ListN.{length}
 use borrow.Rule.Slice.PartMut.{mid_of, put_mid, same_len_mid, take_put}
 use Rattle.integers.proofs.Linear.{ints}
 use Rattle.lists.specs.Lists.{◌∈◌}
 use Rattle.lists.proofs.Membership.{map_in}
 use Rattle.model.specs.declared.WalkKind.{WalkKind}
-use Rattle.model.specs.Limits.{pair_width, max_pairs, max_paths}
-use Rattle.model.specs.Rows.{Pair, pair_rows}
+use Rattle.model.specs.Limits.{pair_width, max_paths}
+use Rattle.model.specs.Rows.{Pair}
 use Rattle.model.specs.Graph.{Graph, graph_of}
 use Rattle.model.specs.Paths.{Root, Leaf, Way, stay}
 use Rattle.model.specs.Bitmapping.{Record}
 use Rattle.model.specs.Runs.{paths, list_of}
 use Rattle.model.specs.Groups.{Bank, group_list, group_paths}
-use Rattle.model.specs.Compare.{Tables, spec_graph, impl_graph, root_rows, leaf_rows, groups}
+use Rattle.model.specs.Compare.{Tables, spec_graph, impl_graph, root_rows, groups}
 use Rattle.model.proofs.Visits.{visits_in}
 use Rattle.model.proofs.GroupRows.{group-leaf, bank_out}
 use Rattle.tables.specs.Tables.{pair_at}

@@ -1,18 +1,17 @@
 -- The findings of root rows, kept row by row.
-use mathlib.Core.Path.{◌≡◌, refl, sym, ap, subst, ◌∙◌}
-use mathlib.Core.List.{List, [], ◌∷◌, ◌++◌, map, map-append, append_assoc, append-nil, flat_map}
-use Prim.Native.Nat.{ℕ, suc, ◌+◌, ◌*◌, ◌/◌, ◌≤◌, ◌<◌}
+use mathlib.Core.Path.{◌≡◌, refl, sym, subst, ◌∙◌}
+use mathlib.Core.List.{List, [], ◌∷◌, ◌++◌, map, map-append, append-nil, flat_map}
+use Prim.Native.Nat.{ℕ, ◌+◌, ◌*◌, ◌/◌, ◌≤◌, ◌<◌}
 use native.Mathlib.Nat.{mul-le-mul}
 use native.Mathlib.Numerals.{add-one}
 use native.Mathlib.Omega.{arith}
 use lib.IntN.{ℤ}
-use lib.ListN.{length, drop, length-append, length-map, drop_of_length-le}
+use lib.ListN.{length, drop, length-append, length-map}
 use Rattle.lists.specs.Lists.{◌∈◌}
 use Rattle.lists.proofs.Kept.{keep_length}
 use Rattle.model.specs.Limits.{pair_width, max_pairs}
 use Rattle.model.specs.Rows.{Pair, pairs_from}
-use Rattle.model.specs.Compare.{Tables, root_rows, leaf_rows, is_lowest, lowest_rows, groups, Visit, visits, Finding, finding_of, findings}
-use Rattle.model.specs.Report.{finding_line}
+use Rattle.model.specs.Compare.{Tables, root_rows, leaf_rows, is_lowest, lowest_rows, groups, visits, Finding, finding_of, findings}
 use Rattle.model.proofs.Visits.{visits_length}
 use Rattle.tables.specs.Tables.{pair_at}
 use Rattle.tables.proofs.Rows.{pairs-rest, pairs_end, pairs_length}

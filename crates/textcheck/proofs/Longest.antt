@@ -1,7 +1,7 @@
 -- How long a report can be: 145 bytes and 30 for each pair. Numbers are counted by their digits: rows have at most three, lists at most four, counts
 -- seven and an address seventeen.
 use mathlib.Core.Path.{◌≡◌, refl, ap, subst, ◌∙◌}
-use mathlib.Core.Bool.{Bool, true, false, cond, ◌&&◌}
+use mathlib.Core.Bool.{Bool, true, false, cond}
 use mathlib.Core.Logic.{◌≢◌}
 use mathlib.Core.Option.{none}
 use mathlib.Core.List.Memᴰ

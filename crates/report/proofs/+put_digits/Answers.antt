@@ -5,7 +5,6 @@ use native.Mathlib.Omega.{arith}
 use lib.ListN.{length}
 use Rattle.report.proofs.Digits.{digits-none, digits_one, digits_more, digits-more_length}
 use Rattle.report.proofs.Tail.{put_none, put_byte}
-use Rattle.report.proofs.+put_digits.Goals.{Then-v-lt10}
 use Rattle.report.proofs.+put_digits.Goals as goal
 
 pub returns-then-left-eq0 : goal.returns-then-left-eq0

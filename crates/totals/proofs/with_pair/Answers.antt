@@ -1,6 +1,5 @@
 -- The pair is counted; where any of its lists has a record its line is measured and its number stored, whatever findings were kept before.
-use mathlib.Core.Path.{◌≡◌, refl, sym, ◌∙◌}
-use mathlib.Core.List.{[], ◌∷◌}
+use mathlib.Core.Path.{◌≡◌, sym, ◌∙◌}
 use native.Mathlib.Omega.{arith}
 use borrow.Author.Rules.{rules}
 use mir.Syntax.{w64}
@@ -8,7 +7,7 @@ use mir.Val.{SFits, to_z, of_z}
 use mir.Facts.{to_z-of_z}
 use Rattle.model.specs.Compare.{lower_of}
 use Rattle.reporting.proofs.Lines.{number_short}
-use Rattle.totals.proofs.Results.{asked-before, bare_verdict}
+use Rattle.totals.proofs.Results.{asked-before}
 use Rattle.totals.proofs.Keeping.{line-none, line-some, found-count, found_bare, found-verdict, kept-bytes, kept_small, found-result, kept-none, kept-some}
 use Rattle.totals.proofs.with_pair.Goals.{After-with_found-result}
 use Rattle.totals.proofs.with_pair.Goals as goal

@@ -18,7 +18,7 @@ use Rattle.sorting.specs.declared.Row.{Row}
 use Rattle.sorting.specs.Rows.{le_row, Ascending, insert, sorted}
 use Rattle.sorting.specs.Rows as rows
 use Rattle.sorting.proofs.Order.{le_row_says, le_row_refl, le_row_antisym}
-use Rattle.sorting.proofs.Sorting.{insert-none, insert_cases, insert_out, first_refusal, sorted_members, sorted_length, sorted-ascending, sorted_fixed}
+use Rattle.sorting.proofs.Sorting.{insert-none, insert_cases, insert_out, first_of_all, sorted_members, sorted_length, sorted-ascending, sorted_fixed}
 use Rattle.model.specs.Bitmapping.{Record, Before, Ordered}
 use Rattle.model.specs.Bitmapping as bits
 use Rattle.model.proofs.Records.{Aligned}
@@ -47,7 +47,7 @@ sorted-distinct (lists.more {x} {l} new d) = insert-distinct (λ m. new ((sorted
 -- the heads of ascending lists with the same rows are the same
 ascending_head : {x y : Row} {l m : List Row} → ((z : Row) → z ∈ l → T (le_row x z)) → ((z : Row) → z ∈ m → T (le_row y z))
     → x ∈ (y ∷ m) → y ∈ (x ∷ l) → x ≡ y
-ascending_head {x} {y} {l} {m} h k p q = le_row_antisym x y (first_refusal x x l (le_row_refl x) h y q) (first_refusal y y m (le_row_refl y) k x p)
+ascending_head {x} {y} {l} {m} h k p q = le_row_antisym x y (first_of_all x x l (le_row_refl x) h y q) (first_of_all y y m (le_row_refl y) k x p)
 
 -- and where none stands twice, their tails have the same rows
 ascending_tail : {x y : Row} {l m : List Row} → x ≡ y → (x ∈ l → ⊥) → ((z : Row) → z ∈ (x ∷ l) → z ∈ (y ∷ m)) → (z : Row) → z ∈ l → z ∈ m

@@ -18,7 +18,7 @@ use Rattle.model.proofs.Steps.{empty_not}
 use Rattle.sorting.specs.declared.Row.{Row}
 use Rattle.sorting.specs.Rows.{row_width, row_at, rows_of, rows_from, le_row, Ascending, more}
 use Rattle.sorting.proofs.Order.{le_row_says, le_row_refl}
-use Rattle.sorting.proofs.Sorting.{first_refusal}
+use Rattle.sorting.proofs.Sorting.{first_of_all}
 use Rattle.sorting.proofs.Tables.{rows_of_add, rows_from_more}
 use Rattle.normalisation.specs.Merging.{by_displacement}
 use Rattle.normalisation.proofs.Sorted.{rows_back}
@@ -36,7 +36,7 @@ ascending-behind [] a = a
 ascending-behind (x ∷ k) (more h a) = ascending-behind k a
 
 ascending_head : {x : Row} {l : List Row} → Ascending (x ∷ l) → (z : Row) → z ∈ (x ∷ l) → T (le_row x z)
-ascending_head {x} {l} (more h a) = first_refusal x x l (le_row_refl x) h
+ascending_head {x} {l} (more h a) = first_of_all x x l (le_row_refl x) h
 
 -- a row further on has no lower first number
 ascending-at : (t : List ℤ) (n i j : ℕ) → Ascending (rows_of t n) → i ≤ j → j < n → (row_at t i).first ≤ℤ (row_at t j).first

@@ -1,6 +1,7 @@
 // The calls on tables and the reader of sheets through C linkage, for the benchmark and the tests of host/: a text holds at most 65,536 bytes, and some of
 // the maps that are measured need more. The library that the design environment links has the text check alone.
 #![tactic(auto)]
+
 ghost use Rattle.std.specs.Prelude.{◌≡◌, pos, neg_ℤ};
 ghost use Rattle.model.specs.Answers.{comparison_result, refusal_of, checked_answer, written_answer, sheet_read_answer};
 ghost use Rattle.model.specs.Calls.{check_answer, walk_gives, walk_after, list_gives, list_after, compare_answer};

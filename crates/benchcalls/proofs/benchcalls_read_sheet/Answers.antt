@@ -1,11 +1,5 @@
 -- The number of the answer that the reader of sheets promises, and the buffers that it leaves.
-use mathlib.Core.Path.{ap, ◌∙◌}
-use borrow.Author.Rules.{rules}
-use mir.Syntax.{w64}
-use mir.Val.{SFits}
-use mir.Facts.{to_z-of_z}
 use Rattle.refusals.proofs.Sheets.{sheet_answer-small}
-use Rattle.benchcalls.specs.Summary.{tables}
 use Rattle.benchcalls.proofs.benchcalls_read_sheet.Goals as goal
 
 pub read_number-requires : goal.read_number-requires

@@ -1,5 +1,5 @@
 -- Each case of the answer has its number.
-use mathlib.Core.Path.{sym, ap, subst, ◌∙◌}
+use mathlib.Core.Path.{sym, ap, ◌∙◌}
 use borrow.Author.Rules.{rules}
 use mir.Syntax.{w64}
 use mir.Val.{SFits}
@@ -9,7 +9,6 @@ use Rattle.model.specs.Calls.{refused}
 use Rattle.model.specs.TextCheck.{coded}
 use Rattle.model.specs.Answers.{sheet_read_answer}
 use Rattle.model.specs.declared.SheetRead.{SheetRead}
-use Rattle.refusals.specs.Small.{last_of_sheet, SmallAnswer}
 use Rattle.benchcalls.specs.Summary.{tables}
 use Rattle.benchcalls.proofs.read_number.Goals as goal
 

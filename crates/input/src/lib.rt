@@ -48,17 +48,19 @@ mod tests {
 
     // Gives one byte a read, so many times, and then fails.
     #[derive(Drop)]
-    struct Breaking(usize);
+    struct Breaking {
+        left: usize,
+    }
 
     impl Read for Breaking {
         fn read(&mut self, buf: &mut [u8]) -> io::Result<usize> {
-            if self.0 == 0 {
+            if self.left == 0 {
                 return Err(io::Error::other("broken"));
             }
             if buf.is_empty() {
                 return Ok(0);
             }
-            self.0 -= 1;
+            self.left -= 1;
             buf[0] = b'x';
             Ok(1)
         }
@@ -76,10 +78,15 @@ mod tests {
     #[test]
     fn tells_a_read_that_fails_after_others(rt: HostRuntime) -> Result<(), Fail> {
         let mut text = [0u8; TEXT_ROOM];
-        assert!(rt; matches!(read_input(&mut Breaking(3), &mut text), Input::Failed(_)));
         assert!(rt;
             matches!(
-                read_input(&mut Breaking(TEXT_ROOM), &mut text),
+                read_input(&mut Breaking { left: 3 }, &mut text),
+                Input::Failed(_)
+            )
+        );
+        assert!(rt;
+            matches!(
+                read_input(&mut Breaking { left: TEXT_ROOM }, &mut text),
                 Input::Full(65537)
             )
         );

@@ -6,8 +6,8 @@
 # How long the proof of the crates that $1 uses takes, as measured.
 proof_time() {
   case $1 in
-  sheetgraph) echo '2 to 3 minutes on two cores' ;;
-  *) echo '5 to 8 minutes on two cores' ;;
+  sheetgraph) echo '3 to 6 minutes on two cores' ;;
+  *) echo '8 to 15 minutes on two cores' ;;
   esac
 }
 

@@ -15,7 +15,7 @@ const COUNT_CEILING: u64 = 9223372036854775807;
 const COUNTS: usize = COUNT_KINDS * CALLERS;
 
 // The counts of each caller, from caller 0: equal, partial, different and refused.
-#[derive(Drop)]
+#[derive(Clone, Copy)]
 pub struct Tally {
     pub counts: [u64; COUNTS],
 }

@@ -25,7 +25,7 @@ const DIFFERENT: usize = 2;
 const REFUSED: usize = 3;
 
 // The answer of a check, and the tally after it.
-#[derive(Drop)]
+#[derive(Clone, Copy)]
 pub struct Tallied {
     pub written: Written,
     pub tally: Tally,

@@ -19,9 +19,7 @@ use forward::{first_entering, next_entering, planned_count, planned_row};
 use listing::append_row;
 use model::{Bits, EDGE_WIDTH, MAX_CHAIN, MAX_NODES, MAX_PATHS, NODE_WIDTH, WalkKind};
 use normalisation::normalise_rows;
-use references::{
-    Brought, Reference, gather_list, own_reference, same_reference, shifted, step_into,
-};
+use references::{Reference, gather_list, own_reference, shifted, step_into};
 use runs::Run;
 use sorting::{ROW_WIDTH, Row};
 use tables::{edge_from, edge_to};
@@ -55,7 +53,7 @@ pub struct ListRows {
     pub count: usize,
 }
 
-// No node; no list yet; no list, since there is no room for it.
+// A state is one flat slice of numbers of fixed size, so what is absent is a number below 0 in it: no node; no list yet; no list, since there is no room for it.
 const NO_OWNER: i64 = -1;
 
 const NOT_LISTED: i64 = -1;
@@ -67,8 +65,7 @@ fn is_met(state: &[i64], v: usize) -> bool
     requires { mark_width * v + mark_width ≤ length state.now }
     ensures { result ≡ is_met state.now v }
 {
-    let owner = state[MARK_WIDTH * v];
-    0 <= owner
+    0 <= state[MARK_WIDTH * v]
 }
 
 // The reference of node v.
@@ -76,16 +73,12 @@ fn reference_at(state: &[i64], v: usize) -> Reference
     requires { (mark_width * v + mark_width ≤ length state.now) × (is_met state.now v ≡ true) }
     ensures { reference_of result ≡ reference_at state.now v }
 {
-    let owner = state[MARK_WIDTH * v];
-    let root = state[MARK_WIDTH * v + 1];
-    let low = state[MARK_WIDTH * v + 2];
-    let high = state[MARK_WIDTH * v + 3];
     Reference {
-        owner: owner as usize,
+        owner: state[MARK_WIDTH * v] as usize,
         run: Run {
-            root: Bits::of(root),
-            low: Bits::of(low),
-            high: Bits::of(high),
+            root: Bits::of(state[MARK_WIDTH * v + 1]),
+            low: Bits::of(state[MARK_WIDTH * v + 2]),
+            high: Bits::of(state[MARK_WIDTH * v + 3]),
         },
     }
 }
@@ -95,8 +88,7 @@ fn list_row(state: &[i64], v: usize) -> i64
     requires { mark_width * v + mark_width ≤ length state.now }
     ensures { result ≡ mark_number state.now v 4 }
 {
-    let row = state[MARK_WIDTH * v + 4];
-    row
+    state[MARK_WIDTH * v + 4]
 }
 
 // Whether a list is stored for node v.
@@ -104,8 +96,7 @@ fn is_listed(state: &[i64], v: usize) -> bool
     requires { mark_width * v + mark_width ≤ length state.now }
     ensures { result ≡ is_listed state.now v }
 {
-    let row = state[MARK_WIDTH * v + 4];
-    0 <= row
+    0 <= list_row(state, v)
 }
 
 // Number `at` of a state, where it is not negative.
@@ -113,8 +104,7 @@ fn number_at(state: &[i64], at: usize) -> usize
     requires { (at < length state.now) × (pos 0 ≤ℤ get_or state.now at (pos 0)) }
     ensures { pos result ≡ get_or state.now at (pos 0) }
 {
-    let number = state[at];
-    number as usize
+    state[at] as usize
 }
 
 // The row from which on the state is free.
@@ -125,14 +115,12 @@ pub fn free_row(state: &[i64]) -> usize
     number_at(state, FREE_AT)
 }
 
-// A kind of walk as the number that a state has for it.
+// A kind of walk as the number that a state has for it: a state is numbers alone.
+#[tactic(auto, unfolding(crate::specs::State::kind_number))]
 fn kind_number(kind: WalkKind) -> i64
     ensures { result ≡ kind_number kind }
 {
-    match kind {
-        WalkKind::Reading => 0,
-        WalkKind::Writing => 1,
-    }
+    kind as i64
 }
 
 // The kind of walk that a state is swept by.
@@ -140,11 +128,11 @@ fn kind_in(state: &[i64]) -> WalkKind
     requires { kind_at < length state.now }
     ensures { result ≡ kind_in state.now }
 {
-    let number = state[KIND_AT];
-    if number == 0 {
-        return WalkKind::Reading;
+    if state[KIND_AT] == 0 {
+        WalkKind::Reading
+    } else {
+        WalkKind::Writing
     }
-    WalkKind::Writing
 }
 
 // Where the list that is stored for node v stands.
@@ -166,24 +154,22 @@ fn rows_at(state: &[i64], v: usize) -> usize
 {
     let rows = state[MARK_WIDTH * v + 5];
     if rows < 0 {
-        return MAX_PATHS;
+        MAX_PATHS
+    } else {
+        MAX_PATHS.min(rows as usize)
     }
-    let count = rows as usize;
-    if MAX_PATHS < count {
-        return MAX_PATHS;
-    }
-    count
 }
 
 // The same of node v once something comes to it from this owner.
 fn rows_met(state: &[i64], v: usize, owner: usize) -> i64
     requires { (mark_width * v + mark_width ≤ length state.now) × (mark_width * owner + mark_width ≤ length state.now) }
 {
-    let rows = rows_at(state, owner);
-    if !is_met(state, v) {
-        return rows as i64;
-    }
-    (rows + rows_at(state, v)) as i64
+    let before = if is_met(state, v) {
+        rows_at(state, v)
+    } else {
+        0
+    };
+    (before + rows_at(state, owner)) as i64
 }
 
 // Whether the list of node v would take too much of the arena: past the rows that are open to any list, one may take a quarter of what is left. So where
@@ -193,10 +179,7 @@ fn crowded(state: &[i64], v: usize) -> bool
 {
     let used = free_row(state);
     let rows = rows_at(state, v);
-    if used + rows <= OPEN_END {
-        return false;
-    }
-    ARENA_END - used < SHARE * rows
+    OPEN_END < used + rows && ARENA_END - used < SHARE * rows
 }
 
 // Stores the mark of node v.
@@ -204,29 +187,28 @@ fn put_mark(state: &mut [i64], v: usize, f: Reference, row: i64, count: i64)
     requires { (mark_width * v + mark_width ≤ length state.old) × (f.owner < max_nodes) }
     ensures { state.new ≡ set_mark state.old v (marked (reference_of f) row count) }
 {
-    let run = f.run;
-    let root = run.root;
-    let low = run.low;
-    let high = run.high;
-    let origin = root.0;
-    let first = low.0;
-    let last = high.0;
     state[MARK_WIDTH * v] = f.owner as i64;
-    state[MARK_WIDTH * v + 1] = origin;
-    state[MARK_WIDTH * v + 2] = first;
-    state[MARK_WIDTH * v + 3] = last;
+    state[MARK_WIDTH * v + 1] = f.run.root.0;
+    state[MARK_WIDTH * v + 2] = f.run.low.0;
+    state[MARK_WIDTH * v + 3] = f.run.high.0;
     state[MARK_WIDTH * v + 4] = row;
     state[MARK_WIDTH * v + 5] = count;
 }
 
 // What comes over edge e of what f takes of the node that it enters, where something has arrived at the node that it leaves.
-fn brought_over(nodes: &[i64], edges: &[i64], e: usize, f: Reference, state: &[i64]) -> Brought
+fn brought_over(
+    nodes: &[i64],
+    edges: &[i64],
+    e: usize,
+    f: Reference,
+    state: &[i64],
+) -> Option<Reference>
     requires { Crossable nodes.now edges.now e (reference_of f) state.now }
     ensures { brought_of result ≡ crossing (graph_of nodes.now edges.now) (edge_at edges.now e) (reference_of f) state.now }
 {
     let from = edge_from(edges, e);
     if !is_met(state, from) {
-        return Brought::Nothing;
+        return None;
     }
     step_into(nodes, edges, e, f, reference_at(state, from))
 }
@@ -245,21 +227,19 @@ fn gather(
     requires { Gatherable nodes.now edges.now plan.now (reference_of f) left state.old n }
     ensures { Gathered (kind_in state.old) (graph_of nodes.now edges.now) (root_in state.old) (reference_of f) state.old state.new n result }
 {
-    let owner = f.owner;
-    if is_listed(state, owner) {
-        let list = stored_at(state, owner);
+    if is_listed(state, f.owner) {
+        let list = stored_at(state, f.owner);
         let bits = extents::whole(nodes, number_at(state, ROOT_AT));
         return gather_list(state, list.row, list.count, f, bits.low, bits.high, n);
     }
     if left == 0 {
         return n;
     }
-    let rows = edges.len() / EDGE_WIDTH;
     let mut m = n;
-    let mut e = first_entering(plan, owner);
-    while e < rows {
-        let brought = brought_over(nodes, edges, e, f, state);
-        if let Brought::Left(part) = brought {
+    // The edges that enter a node are linked, each to the next, so they are no range.
+    let mut e = first_entering(plan, f.owner);
+    while e < edges.len() / EDGE_WIDTH {
+        if let Some(part) = brought_over(nodes, edges, e, f, state) {
             m = gather(nodes, edges, plan, part, left - 1, state, m);
         }
         e = next_entering(plan, e);
@@ -322,13 +302,7 @@ fn store_list(
     ensures { ListMade nodes.now edges.now plan.now v state.old state.new }
 {
     let reference = reference_at(state, v);
-    if reference.owner != v {
-        return;
-    }
-    if list_row(state, v) != NOT_LISTED {
-        return;
-    }
-    if crowded(state, v) {
+    if reference.owner != v || list_row(state, v) != NOT_LISTED || crowded(state, v) {
         return;
     }
     let list = make_list(nodes, edges, plan, reference, state, spare);
@@ -345,7 +319,7 @@ fn meet(nodes: &[i64], v: usize, f: Reference, state: &mut [i64])
         put_mark(state, v, f, NOT_LISTED, rows);
         return;
     }
-    if same_reference(reference_at(state, v), f) {
+    if reference_at(state, v) == f {
         return;
     }
     put_mark(state, v, own_reference(nodes, v), NOT_LISTED, rows);
@@ -372,15 +346,14 @@ fn pass_edge(
         return;
     }
     let to = edge_to(edges, e);
-    let brought = brought_over(nodes, edges, e, own_reference(nodes, to), state);
-    if let Brought::Left(part) = brought {
-        let may_enter = extents::is_open(nodes, to, kind_in(state));
-        if !may_enter {
-            return;
-        }
-        store_list(nodes, edges, plan, from, state, spare);
-        meet(nodes, to, part, state);
+    let Some(part) = brought_over(nodes, edges, e, own_reference(nodes, to), state) else {
+        return;
+    };
+    if !extents::is_open(nodes, to, kind_in(state)) {
+        return;
     }
+    store_list(nodes, edges, plan, from, state, spare);
+    meet(nodes, to, part, state);
 }
 
 // Marks the first `count` nodes with nothing.
@@ -388,10 +361,8 @@ fn clear_marks(state: &mut [i64], count: usize)
     requires { mark_width * count ≤ length state.old }
     ensures { Blank count state.new }
 {
-    let mut v: usize = 0;
-    while v < count {
+    for v in 0..count {
         state[MARK_WIDTH * v] = NO_OWNER;
-        v += 1;
     }
 }
 
@@ -401,8 +372,7 @@ fn mark_root(nodes: &[i64], root: usize, kind: WalkKind, state: &mut [i64])
     ensures { (es : List ℤ) → state.new
         ≡ root_marked (is_open kind (node (graph_of nodes.now es) (pos root))) (own (graph_of nodes.now es) (pos root)) root state.old }
 {
-    let may_start = extents::is_open(nodes, root, kind);
-    if !may_start {
+    if !extents::is_open(nodes, root, kind) {
         return;
     }
     put_mark(state, root, own_reference(nodes, root), ARENA_ROW as i64, 1);
@@ -416,15 +386,13 @@ fn start_root(nodes: &[i64], root: usize, kind: WalkKind, state: &mut [i64])
 {
     mark_root(nodes, root, kind, state);
     let bits = extents::whole(nodes, root);
-    let low = bits.low;
-    let high = bits.high;
     let used = append_row(
         state,
         ARENA_ROW,
         Row {
             first: 0,
-            second: low.0,
-            third: high.0,
+            second: bits.low.0,
+            third: bits.high.0,
         },
     );
     state[FREE_AT] = used as i64;
@@ -447,11 +415,8 @@ pub fn sweep_root(
 {
     clear_marks(state, nodes.len() / NODE_WIDTH);
     start_root(nodes, root, kind, state);
-    let count = planned_count(plan);
-    let mut i: usize = 0;
-    while i < count {
+    for i in 0..planned_count(plan) {
         pass_edge(nodes, edges, plan, i, state, spare);
-        i += 1;
     }
 }
 
@@ -473,7 +438,6 @@ pub fn append_rows(
         return n;
     }
     let bits = extents::whole(nodes, leaf);
-    let first = bits.low;
-    let part = shifted(reference_at(state, leaf), first);
+    let part = shifted(reference_at(state, leaf), bits.low);
     gather(nodes, edges, plan, part, MAX_CHAIN, state, n)
 }

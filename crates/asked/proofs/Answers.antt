@@ -1,4 +1,5 @@
 -- The answer of a call that is asked for a root and a leaf: the checks one after the other, and then the length of its output.
+use Rattle.std.specs.Prelude.{Err, Result}
 use mathlib.Core.Path.{◌≡◌, refl, sym, ◌∙◌}
 use mathlib.Core.List.{List}
 use mathlib.Core.Option.{Option, none, some}
@@ -16,8 +17,6 @@ use Rattle.model.specs.Checks.{when, ◌then◌, check_graph, check_named, check
 use Rattle.model.specs.Calls.{refused, full, answer}
 use Rattle.model.specs.Answers.{numbered, refusal_of}
 use Rattle.model.specs.declared.Reason.{Reason}
-use Rattle.model.specs.declared.Checked.{Checked}
-use Rattle.model.specs.declared.Checked.TheVariants.{Refused}
 use Rattle.model.specs.Taken.{TakenTables}
 use Rattle.tables.proofs.Checks.{checked, then_on, then_stops}
 use Rattle.depth.proofs.GraphCheck.{checked_taken}
@@ -30,7 +29,7 @@ use Rattle.asked.specs.Asking.{check_asked}
 module _ (ns es : List ℤ) (r l : ℤ) (old new : List ℕ) where
   -- its graph is refused
   pub asked-refused : (reason : Reason) → refused (refusal_of reason) ≡ checked (check_graph 0 ns es)
-      → Counted (check_asked ns es r l) ns es l old (Refused reason) new
+      → Counted (check_asked ns es r l) ns es l old (Err reason) new
   unfolding check_asked
   asked-refused reason e =
       record {
@@ -39,7 +38,7 @@ module _ (ns es : List ℤ) (r l : ℤ) (old new : List ℕ) where
       }
 
   -- its graph is taken: the rest is up to the root and the leaf
-  pub asked-named : {given : Checked} → full tt ≡ checked (check_graph 0 ns es) → Counted (check_named (graph_of ns es) r l) ns es l old given new
+  pub asked-named : {given : Result (Unit {0}) Reason} → full tt ≡ checked (check_graph 0 ns es) → Counted (check_named (graph_of ns es) r l) ns es l old given new
       → Counted (check_asked ns es r l) ns es l old given new
   unfolding check_asked
   asked-named e c =

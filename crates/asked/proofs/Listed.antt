@@ -1,4 +1,5 @@
 -- The bitmapping list that is asked for: refused, or given.
+use Rattle.std.specs.Prelude.{Err, Ok}
 use mathlib.Core.Path.{◌≡◌, refl, ap, ◌∙◌}
 use mathlib.Core.List.{List, map}
 use mathlib.Core.Option.{Option, none, some}
@@ -15,7 +16,6 @@ use Rattle.model.specs.Refusals.{Refusal}
 use Rattle.model.specs.Calls.{refused, full, answer, numbers_of}
 use Rattle.model.specs.Answers.{refusal_of}
 use Rattle.model.specs.declared.Reason.{Reason}
-use Rattle.model.specs.declared.Written.TheVariants.{Count, Refused}
 use Rattle.model.proofs.Normalisation.{normal_length}
 use Rattle.model.proofs.Walks.{runs-within-paths}
 use Rattle.normalisation.proofs.Normalising.{numbers_length}
@@ -47,19 +47,19 @@ module _ (kind : WalkKind) (ns es : List ℤ) (r l : ℤ) where
   -- ---- refused
 
   -- what is asked for is refused
-  pub listed-refused : (reason : Reason) (work : List ℤ) → refused (refusal_of reason) ≡ checked (check_asked ns es r l) → ListedAsked kind ns es r l (Refused reason) work
+  pub listed-refused : (reason : Reason) (work : List ℤ) → refused (refusal_of reason) ≡ checked (check_asked ns es r l) → ListedAsked kind ns es r l (Err reason) work
   listed-refused reason work e =
       record { answers = (given_refused list_length (check_asked ns es r l)).0 e; numbers = λ n k. let z : ◌≡◌ {A = ℕ} 0 1 = cc in absurd (omega arith) }
 
   -- and then with this refusal
-  pub refused-listed : {reason : Reason} {work : List ℤ} → ListedAsked kind ns es r l (Refused reason) work → refused (refusal_of reason) ≡ checked (check_asked ns es r l)
+  pub refused-listed : {reason : Reason} {work : List ℤ} → ListedAsked kind ns es r l (Err reason) work → refused (refusal_of reason) ≡ checked (check_asked ns es r l)
   refused-listed p = (given_refused list_length (check_asked ns es r l)).1 p.answers
 
   -- ---- given
 
   -- what is asked for is taken, and listed
   pub listed_given : {n : ℕ} {work : List ℤ} → full tt ≡ checked (check_asked ns es r l) → n ≡ length (list_of kind (graph_of ns es) r l)
-      → take (record_width * n) work ≡ numbers_of (list_of kind (graph_of ns es) r l) → ListedAsked kind ns es r l (Count n) work
+      → take (record_width * n) work ≡ numbers_of (list_of kind (graph_of ns es) r l) → ListedAsked kind ns es r l (Ok n) work
   listed_given taken count numbers =
       record {
         answers = ap full count ∙ given_taken list_length (check_asked ns es r l) taken;
@@ -70,7 +70,7 @@ module _ (kind : WalkKind) (ns es : List ℤ) (r l : ℤ) where
       count_same e = cc
 
   -- and then these are the records
-  module _ {n : ℕ} {work : List ℤ} (p : ListedAsked kind ns es r l (Count n) work) where
+  module _ {n : ℕ} {work : List ℤ} (p : ListedAsked kind ns es r l (Ok n) work) where
     pub given_asked : full tt ≡ checked (check_asked ns es r l)
     given_asked = (given_full list_length (check_asked ns es r l) p.answers).0
 

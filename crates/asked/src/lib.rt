@@ -6,7 +6,7 @@ ghost use Rattle.model.specs.Limits.{record_width, max_nodes, max_paths};
 ghost use Rattle.named.specs.Naming.{Counted};
 ghost use Rattle.asked.specs.Asking.{check_asked, ListedAsked};
 
-use model::{Checked, MAX_EDGES, MAX_NODES, WalkKind, Written};
+use model::{MAX_EDGES, MAX_NODES, Reason, WalkKind};
 
 // Refusals 1 to 7 and 10 of a root and a leaf of a graph. Counts the paths to the leaf.
 pub fn check_asked(
@@ -15,17 +15,14 @@ pub fn check_asked(
     root: i64,
     leaf: i64,
     counts: &mut [usize],
-) -> Checked
+) -> Result<(), Reason>
     requires { max_nodes ≤ length counts.old }
     ensures { Counted (check_asked nodes.now edges.now root leaf)
         nodes.now edges.now leaf counts.old result counts.new }
 {
     let mut rest = [0usize; MAX_EDGES];
     let mut order = [0usize; MAX_EDGES];
-    let checked = depth::check_graph_with(nodes, edges, 0, &mut rest, &mut order);
-    if let Checked::Refused(reason) = checked {
-        return Checked::Refused(reason);
-    }
+    depth::check_graph_with(nodes, edges, 0, &mut rest, &mut order)?;
     named::check_named(nodes, edges, &order, root, leaf, counts)
 }
 
@@ -38,16 +35,13 @@ pub fn list_asked(
     leaf: i64,
     kind: WalkKind,
     work: &mut [i64],
-) -> Written
+) -> Result<usize, Reason>
     requires { record_width * max_paths ≤ length work.old }
     ensures { ListedAsked kind nodes.now edges.now root leaf result work.new }
 {
     let mut counts = [0usize; MAX_NODES];
-    let checked = check_asked(nodes, edges, root, leaf, &mut counts);
-    if let Checked::Refused(reason) = checked {
-        return Written::Refused(reason);
-    }
-    let records = listing::list_pair(
+    check_asked(nodes, edges, root, leaf, &mut counts)?;
+    Ok(listing::list_pair(
         nodes,
         edges,
         root as usize,
@@ -55,6 +49,5 @@ pub fn list_asked(
         kind,
         &counts,
         work,
-    );
-    Written::Count(records)
+    ))
 }

@@ -1,4 +1,5 @@
 -- What batch promises, in each of its outcomes: the batch is too long, what it is asked for is refused, or the list is passed.
+use Rattle.std.specs.Prelude.{Err, Result}
 use mathlib.Core.Path.{◌≡◌, refl, sym, ap, ◌∙◌}
 use mathlib.Core.Bool.{Bool, true, false}
 use mathlib.Core.List.{List, ◌++◌}
@@ -21,8 +22,6 @@ use Rattle.batches.specs.Batch.{BatchRow, BatchCounts, batch_numbers, batch_of, 
 use Rattle.model.specs.Answers.{numbered, refusal_of}
 use Rattle.model.specs.declared.Reason.{Reason}
 use Rattle.model.specs.declared.Reason.TheVariants.{LongBatch}
-use Rattle.model.specs.declared.Batched.{Batched}
-use Rattle.model.specs.declared.Batched.TheVariants.{Refused}
 use Rattle.model.proofs.Paths.{Fit}
 use Rattle.model.proofs.Taken.{taken-fit}
 use Rattle.model.proofs.ListLaw.{list_of_reached}
@@ -32,6 +31,7 @@ use Rattle.asked.proofs.Answers.{asked-tables, asked-leaf, single-refused, singl
 use Rattle.batches.proofs.Walks.{batch-reached, batch-once, batch-walk, batch-walk_length}
 use Rattle.batchpass.specs.Passing.{Passed}
 use Rattle.batch.specs.Promises.{BatchStands, BatchPromise}
+use Rattle.model.specs.declared.BatchCounts as code
 
 -- the counts of an answer, and its numbers
 answer-counts : (n : ℕ) (c : Option Refusal) (ts : List BatchRow) → counts_of n (answer c ts) ≡ answer c (record { rows = length ts; records = n })
@@ -95,7 +95,7 @@ module _ (kind : WalkKind) (ns es : List ℤ) (r l : ℤ) (xs : List ℤ) where
 
   module _ (old : List ℤ) where
     -- what the answer and the buffer are fixes what stands there
-    batch_promise : (given : Batched) (new : List ℤ) → batched_answer given ≡ batch_gives kind ns es r l xs old → new ≡ batch_after kind ns es r l xs old
+    batch_promise : (given : Result code.BatchCounts Reason) (new : List ℤ) → batched_answer given ≡ batch_gives kind ns es r l xs old → new ≡ batch_after kind ns es r l xs old
         → BatchPromise kind ns es r l xs old given new
     unfolding batch_gives batch_after counts_of batch_numbers_of buffer_after
     batch_promise given new a b =
@@ -113,22 +113,22 @@ module _ (kind : WalkKind) (ns es : List ℤ) (r l : ℤ) (xs : List ℤ) where
     -- ---- the outcomes
 
     -- the batch is too long
-    pub batch-long : max_batch < length xs → BatchPromise kind ns es r l xs old (Refused LongBatch) old
+    pub batch-long : max_batch < length xs → BatchPromise kind ns es r l xs old (Err LongBatch) old
     unfolding batch_gives batch_after counts_of batch_numbers_of buffer_after
     batch-long h =
         let long = answer-long (length old) h in
-        batch_promise (Refused LongBatch) old (sym (ap (counts_of (length (list_of kind (graph_of ns es) r l))) long)) (sym (ap (λ a. buffer_after (batch_numbers_of a) old) long))
+        batch_promise (Err LongBatch) old (sym (ap (counts_of (length (list_of kind (graph_of ns es) r l))) long)) (sym (ap (λ a. buffer_after (batch_numbers_of a) old) long))
 
     -- what it is asked for is refused
     pub batch-refused : (reason : Reason) → length xs ≤ max_batch → refused (refusal_of reason) ≡ checked (check_asked ns es r l)
-        → BatchPromise kind ns es r l xs old (Refused reason) old
+        → BatchPromise kind ns es r l xs old (Err reason) old
     unfolding batch_gives batch_after counts_of batch_numbers_of buffer_after
     batch-refused reason h e =
         let stops = answer-short (length old) h ∙ single-refused rows ns es r l size (length old) e in
-        batch_promise (Refused reason) old (sym (ap (counts_of (length (list_of kind (graph_of ns es) r l))) stops)) (sym (ap (λ a. buffer_after (batch_numbers_of a) old) stops))
+        batch_promise (Err reason) old (sym (ap (counts_of (length (list_of kind (graph_of ns es) r l))) stops)) (sym (ap (λ a. buffer_after (batch_numbers_of a) old) stops))
 
     -- the list is passed
-    pub batch-passed : {given : Batched} {new : List ℤ} → length xs ≤ max_batch → full tt ≡ checked (check_asked ns es r l)
+    pub batch-passed : {given : Result code.BatchCounts Reason} {new : List ℤ} → length xs ≤ max_batch → full tt ≡ checked (check_asked ns es r l)
         → Passed (list_of kind (graph_of ns es) r l) xs old given new → BatchPromise kind ns es r l xs old given new
     unfolding batch_gives batch_after batch_of
     batch-passed {given} h taken p =

@@ -3,7 +3,7 @@
 
 ghost use Rattle.batch.specs.Promises.{BatchPromise};
 
-use model::{Batched, MAX_BATCH, MAX_NUMBERS, Reason, WalkKind, Written};
+use model::{BatchCounts, MAX_BATCH, MAX_NUMBERS, Reason, WalkKind};
 
 // The rows of a batch of bit addresses at the root, in the front of `out`: a place in the batch, from 0, and a leaf bit each, for precisely the leaf
 // bits that the walks of this kind of the addresses give, record by record and within a record by place. Gives how many rows they are, and how many records were
@@ -17,16 +17,13 @@ pub fn batch(
     addresses: &[i64],
     kind: WalkKind,
     out: &mut [i64],
-) -> Batched
+) -> Result<BatchCounts, Reason>
     ensures { BatchPromise kind nodes.now edges.now root leaf addresses.now out.old result out.new }
 {
     if MAX_BATCH < addresses.len() {
-        return Batched::Refused(Reason::LongBatch);
+        return Err(Reason::LongBatch);
     }
     let mut work = [0i64; MAX_NUMBERS];
-    let listed = asked::list_asked(nodes, edges, root, leaf, kind, &mut work);
-    match listed {
-        Written::Refused(reason) => Batched::Refused(reason),
-        Written::Count(records) => batchpass::pass(&work, records, addresses, out),
-    }
+    let records = asked::list_asked(nodes, edges, root, leaf, kind, &mut work)?;
+    batchpass::pass(&work, records, addresses, out)
 }

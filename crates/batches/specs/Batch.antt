@@ -1,6 +1,6 @@
 -- Many addresses together (document 02, item 6): the rows of a batch of bit addresses at one root, the refusals of the call, what it returns, and
 -- what its buffer holds afterwards. Assumes nothing.
-use Rattle.std.specs.Prelude.{cond, ℕ, suc, ◌<◌, eqb, ltb, ℤ, pos, ◌-ℤ◌, length}
+use Rattle.std.specs.Prelude.{Result, Ok, Err, cond, ℕ, suc, ◌<◌, eqb, ltb, ℤ, pos, ◌-ℤ◌, length}
 use mathlib.Core.List.{List, [], ◌∷◌, map, flat_map}
 use Rattle.std.proofs.Math.Option.{Option}
 use Rattle.lists.specs.Lists.{keep}
@@ -14,9 +14,8 @@ use Rattle.model.specs.Refusals.{Refusal, Condition, refuse, ◌next◌, single_
 use Rattle.model.specs.Checks.{when, ◌then◌, check_single}
 use Rattle.model.specs.Answers.{refusal_of}
 use Rattle.model.specs.declared.BatchCounts as code
-use Rattle.model.specs.declared.Batched.{Batched}
-use Rattle.model.specs.declared.Batched.TheVariants as batched
 use Rattle.model.specs.Calls.{Answer, refused, full, answer, buffer_after}
+use Rattle.model.specs.declared.Reason.{Reason}
 
 -- ---- the rows
 
@@ -93,6 +92,6 @@ abbrev pub counts_result : code.BatchCounts → BatchCounts
 counts_result c = record { rows = c.rows; records = c.records }
 
 -- these, or refused
-abbrev pub batched_answer : Batched → Answer BatchCounts
-batched_answer (batched.Counts c) = full (counts_result c)
-batched_answer (batched.Refused r) = refused (refusal_of r)
+abbrev pub batched_answer : Result code.BatchCounts Reason → Answer BatchCounts
+batched_answer (Ok c) = full (counts_result c)
+batched_answer (Err r) = refused (refusal_of r)

@@ -1,4 +1,5 @@
 -- The pass record by record, from the end of the list: at the end there is no row more, and each record adds its rows in front of those behind it.
+use Rattle.std.specs.Prelude.{Err, Ok}
 use mathlib.Core.Path.{◌≡◌, refl, sym, ap, ◌∙◌}
 use mathlib.Core.Bool.{Bool, true, false}
 use mathlib.Core.List.{List, [], ◌∷◌, ◌++◌, flat_map}
@@ -16,7 +17,6 @@ use Rattle.model.specs.Calls.{full, answer, buffer_after}
 use Rattle.batches.specs.Batch.{BatchRow, BatchCounts, rows_in, batch_rows, batch_numbers, counts_result}
 use Rattle.model.specs.declared.BatchCounts as code
 use Rattle.model.specs.declared.Reason.TheVariants.{LongOutput}
-use Rattle.model.specs.declared.Batched.TheVariants.{Counts, Refused}
 use Rattle.batches.proofs.Rows.{batch_numbers_length}
 use Rattle.batches.proofs.Behind.{behind_length, behind_more}
 use Rattle.batchpass.specs.Passing.{PassedBehind, Passed}
@@ -99,7 +99,7 @@ module _ {records : List Record} {xs old new : List ℤ} {counts : code.BatchCou
   same-counts = λ i. record { rows = sym counted i; records = p.records i }
 
   -- the rows fit
-  pub passed-counts : batch_width * counts.rows ≤ length old → Passed records xs old (Counts counts) new
+  pub passed-counts : batch_width * counts.rows ≤ length old → Passed records xs old (Ok counts) new
   unfolding answer check_output when buffer_after
   passed-counts h =
       let few = le-ltb (length old) (length (batch_numbers rows)) (omega (arith, batch_numbers_length rows, counted)) in
@@ -107,7 +107,7 @@ module _ {records : List Record} {xs old new : List ℤ} {counts : code.BatchCou
       record { answers = rw few (ap full same-counts); buffer = rw few (p.fits (omega (arith, counted)) ∙ ap (λ (k : ℕ). batch_numbers rows ++ drop k old) all) }
 
   -- they do not
-  pub passed-refused : length old < batch_width * counts.rows → Passed records xs old (Refused LongOutput) new
+  pub passed-refused : length old < batch_width * counts.rows → Passed records xs old (Err LongOutput) new
   unfolding answer check_output when buffer_after
   passed-refused h =
       let many = lt-ltb (length old) (length (batch_numbers rows)) (omega (arith, batch_numbers_length rows, counted)) in

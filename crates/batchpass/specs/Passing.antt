@@ -1,4 +1,5 @@
 -- The pass of a batch over a list of records: what it may be given, and what it leaves. Assumes nothing.
+use Rattle.std.specs.Prelude.{Result}
 use Rattle.std.specs.Prelude.{◌≡◌, List, ℕ, ◌+◌, ◌*◌, ◌≤◌, ◌<◌, ℤ, length}
 use Rattle.lists.specs.Lists.{◌∈◌}
 use Rattle.model.specs.Limits.{record_width, max_paths, max_batch, batch_width}
@@ -6,10 +7,11 @@ use Rattle.model.specs.Bitmapping.{Record}
 use Rattle.model.specs.Checks.{check_output}
 use Rattle.model.specs.Calls.{answer, buffer_after}
 use Rattle.batches.specs.Batch.{BatchCounts, batch_rows, batch_numbers, batched_answer}
-use Rattle.model.specs.declared.Batched.{Batched}
 use Rattle.normalisation.specs.Records.{records_of}
 use Rattle.batches.specs.Buffers.{rows_behind}
 use Rattle.batchrows.specs.LeafBits.{LeafBitsFit}
+use Rattle.model.specs.declared.BatchCounts as code
+use Rattle.model.specs.declared.Reason.{Reason}
 
 -- n records stand in the front of a list, with leaf bits that are numbers of 64 bits, and a batch keeps its limit
 pub record Passable (list : List ℤ) (n : ℕ) (xs : List ℤ) : Type 0 where
@@ -30,7 +32,7 @@ pub record PassedBehind (list : List Record) (xs : List ℤ) (before : ℕ) (old
   pub short : length old < batch_width * (before + length (batch_rows list xs)) → new ≡ old
 
 -- the pass went through all records of a list, for a batch, into a buffer that held `old`
-pub record Passed (records : List Record) (xs : List ℤ) (old : List ℤ) (given : Batched) (new : List ℤ) : Type 0 where
+pub record Passed (records : List Record) (xs : List ℤ) (old : List ℤ) (given : Result code.BatchCounts Reason) (new : List ℤ) : Type 0 where
   -- how many rows there are, and how many records were read; or refused where the rows do not fit
   pub answers : batched_answer given
       ≡ answer (check_output (length (batch_numbers (batch_rows records xs))) (length old)) (record { rows = length (batch_rows records xs); records = length records })

@@ -8,7 +8,7 @@ ghost use Rattle.batches.specs.Batch.{counts_result};
 ghost use Rattle.normalisation.specs.Records.{records_of, records_from};
 ghost use Rattle.batchpass.specs.Passing.{Passable, PassedBehind, Passed};
 
-use model::{BATCH_WIDTH, BatchCounts, Batched, Reason};
+use model::{BATCH_WIDTH, BatchCounts, Reason};
 
 // Whether so many rows fit into a buffer with room for so many numbers.
 fn fit(rows: usize, room: usize) -> bool
@@ -51,13 +51,19 @@ fn pass_from(
 
 // Goes through the first n records of the list, once, for all addresses: the rows record by record, and within a record by place, in the front of `out`, how many
 // they are, and how many records were read. Where the rows do not fit, the refusal, with `out` untouched.
-pub fn pass(list: &[i64], n: usize, addresses: &[i64], out: &mut [i64]) -> Batched
+pub fn pass(
+    list: &[i64],
+    n: usize,
+    addresses: &[i64],
+    out: &mut [i64],
+) -> Result<BatchCounts, Reason>
     requires { Passable list.now n addresses.now }
     ensures { Passed (records_of list.now n) addresses.now out.old result out.new }
 {
     let counts = pass_from(list, n, 0, addresses, 0, out);
     if fit(counts.rows, out.len()) {
-        return Batched::Counts(counts);
+        Ok(counts)
+    } else {
+        Err(Reason::LongOutput)
     }
-    Batched::Refused(Reason::LongOutput)
 }

@@ -17,10 +17,7 @@ use verdicts::Record;
 fn has_bit(s: Record, address: i64) -> bool
     ensures { result ≡ has_bit address (as_record s) }
 {
-    if s.first <= address {
-        return address <= s.last;
-    }
-    false
+    (s.first..=s.last).contains(&address)
 }
 
 // The leaf bit of a root bit that the record has.
@@ -35,15 +32,10 @@ fn leaf_bit(s: Record, address: i64) -> Bits
 pub fn count_rows(s: Record, addresses: &[i64]) -> usize
     ensures { result ≡ length (rows_in (as_record s) 0 addresses.now) }
 {
-    let mut rows: usize = 0;
-    let mut place: usize = 0;
-    while place < addresses.len() {
-        if has_bit(s, addresses[place]) {
-            rows += 1;
-        }
-        place += 1;
-    }
-    rows
+    addresses
+        .iter()
+        .filter(|&&address| has_bit(s, address))
+        .count()
 }
 
 // Writes a row behind the first n rows of the buffer.
@@ -51,10 +43,8 @@ fn put_row(out: &mut [i64], n: usize, place: usize, bit: Bits)
     requires { (batch_width * n + batch_width ≤ length out.old) × (place < max_batch) }
     ensures { out.new ≡ set (set out.old (batch_width * n) (pos place)) (batch_width * n + 1) bit.0 }
 {
-    let place_number = place as i64;
-    let bit_number = bit.0;
-    out[BATCH_WIDTH * n] = place_number;
-    out[BATCH_WIDTH * n + 1] = bit_number;
+    out[BATCH_WIDTH * n] = place as i64;
+    out[BATCH_WIDTH * n + 1] = bit.0;
 }
 
 // Writes the rows that the record gives to the front of the buffer, by place.
@@ -63,14 +53,11 @@ pub fn put_rows(s: Record, addresses: &[i64], out: &mut [i64])
         × (batch_width * length (rows_in (as_record s) 0 addresses.now) ≤ length out.old) }
     ensures { out.new ≡ rows_over (rows_in (as_record s) 0 addresses.now) out.old }
 {
-    let mut rows: usize = 0;
-    let mut place: usize = 0;
-    while place < addresses.len() {
-        let address = addresses[place];
-        if has_bit(s, address) {
-            put_row(out, rows, place, leaf_bit(s, address));
+    let mut rows = 0;
+    for (place, address) in addresses.iter().enumerate() {
+        if has_bit(s, *address) {
+            put_row(out, rows, place, leaf_bit(s, *address));
             rows += 1;
         }
-        place += 1;
     }
 }

@@ -3,24 +3,20 @@
 #![tactic(auto)]
 
 ghost use Rattle.std.specs.Prelude.{◌≡◌, pos, neg_ℤ};
-ghost use Rattle.model.specs.Answers.{comparison_result, refusal_of, checked_answer, written_answer, sheet_read_answer};
+ghost use Rattle.model.specs.Answers.{comparison_result, refusal_of};
 ghost use Rattle.model.specs.Calls.{check_answer, walk_gives, walk_after, list_gives, list_after, compare_answer};
-ghost use Rattle.batches.specs.Batch.{counts_result, batched_answer, batch_gives, batch_after};
+ghost use Rattle.batches.specs.Batch.{counts_result, batch_gives, batch_after};
 ghost use Rattle.model.specs.SheetCall.{sheet_gives, sheet_nodes_after, sheet_edges_after};
 ghost use Rattle.arrivals.specs.State.{kind_of};
 ghost use Rattle.pairing.specs.Pairs.{tables_of};
 ghost use Rattle.benchcalls.specs.Summary.{digits, packed, summary, taken, written, counted, batched, sheet_lengths, lengths, tables};
-ghost use Rattle.refusals.specs.Small.{last_of_sheet, SmallAnswer};
 
 use batch::batch;
 use bitmapping::{list, walk};
 use compare::compare;
 use depth::check_graph;
-use model::{
-    BatchCounts, Batched, Checked, Compared, Comparison, Reason, SheetRead, SheetSizes, WalkKind,
-    Written, verdict_number,
-};
-use refusals::{negative_code, refusal_numbers};
+use model::{BatchCounts, Comparison, Reason, SheetSizes, WalkKind, verdict_number};
+use refusals::{Refusal, negative_code};
 use sheet::read_sheet;
 
 // The highest count that 20 binary digits hold.
@@ -44,28 +40,24 @@ fn kind_of(number: i64) -> WalkKind
     ensures { result ≡ kind_of number }
 {
     if number == 0 {
-        return WalkKind::Reading;
+        WalkKind::Reading
+    } else {
+        WalkKind::Writing
     }
-    WalkKind::Writing
 }
 
 // A count in 20 binary digits.
 fn digits_of(count: usize) -> usize
     ensures { result ≡ digits count }
 {
-    if count < MOST_COUNTED {
-        count
-    } else {
-        MOST_COUNTED
-    }
+    count.min(MOST_COUNTED)
 }
 
 // A full result as one number.
 fn packed_of(c: Comparison) -> i64
     ensures { result ≡ pos (packed (comparison_result c)) }
 {
-    let verdict = c.verdict;
-    let number = verdict_number(verdict);
+    let number = verdict_number(c.verdict);
     let equal = digits_of(c.equal);
     let partial = digits_of(c.partial);
     let different = digits_of(c.different);
@@ -76,28 +68,7 @@ fn packed_of(c: Comparison) -> i64
 fn refused_number(reason: Reason) -> i64
     ensures { result ≡ neg_ℤ (pos (refusal_of reason).number) }
 {
-    let refusal = refusal_numbers(reason);
-    -(refusal.number as i64)
-}
-
-// The answer of the check of one graph.
-fn checked_number(checked: Checked) -> i64
-    ensures { result ≡ taken (checked_answer checked) }
-{
-    match checked {
-        Checked::Taken => 0,
-        Checked::Refused(reason) => refused_number(reason),
-    }
-}
-
-// The answer of a call with a lent buffer.
-fn written_number(given: Written) -> i64
-    ensures { result ≡ written (written_answer given) }
-{
-    match given {
-        Written::Count(n) => digits_of(n) as i64,
-        Written::Refused(reason) => refused_number(reason),
-    }
+    -(Refusal::from(reason).number as i64)
 }
 
 // The counts of a batch as one number.
@@ -109,16 +80,6 @@ fn counts_of(counts: BatchCounts) -> i64
     (rows * ROWS_PLACE + records) as i64
 }
 
-// The answer of a batch.
-fn batched_number(given: Batched) -> i64
-    ensures { result ≡ batched (batched_answer given) }
-{
-    match given {
-        Batched::Counts(counts) => counts_of(counts),
-        Batched::Refused(reason) => refused_number(reason),
-    }
-}
-
 // The lengths of the two tables of a sheet as one number.
 fn lengths_of(sizes: SheetSizes) -> i64
     ensures { result ≡ pos (lengths (sheet_lengths sizes)) }
@@ -128,28 +89,18 @@ fn lengths_of(sizes: SheetSizes) -> i64
     (nodes * NODES_PLACE + edges) as i64
 }
 
-// The answer of the reader of sheets.
-fn read_number(read: SheetRead) -> i64
-    requires { SmallAnswer last_of_sheet (sheet_read_answer read) }
-    ensures { result ≡ tables (sheet_read_answer read) }
-{
-    match read {
-        SheetRead::Tables(sizes) => lengths_of(sizes),
-        SheetRead::Refused(reason) => negative_code(refusal_numbers(reason)),
-    }
-}
-
 // Checks one graph and gives the answer as one number.
 #[unsafe(no_mangle)]
+#[tactic(auto, unfolding(crate::specs::Summary::signed))]
 pub extern "C" fn benchcalls_check(nodes: &[i64], edges: &[i64]) -> i64
     ensures { result ≡ taken (check_answer nodes.now edges.now) }
 {
-    let checked = check_graph(nodes, edges);
-    checked_number(checked)
+    check_graph(nodes, edges).map_or_else(refused_number, |()| 0)
 }
 
 // Lists the bitmapping list of a root and a leaf for a kind of walk and gives the answer as one number.
 #[unsafe(no_mangle)]
+#[tactic(auto, unfolding(crate::specs::Summary::signed))]
 pub extern "C" fn benchcalls_list(
     nodes: &[i64],
     edges: &[i64],
@@ -161,13 +112,15 @@ pub extern "C" fn benchcalls_list(
     ensures returned { result ≡ written (list_gives (kind_of kind) nodes.now edges.now root leaf out.old) }
     ensures buffer { out.new ≡ list_after (kind_of kind) nodes.now edges.now root leaf out.old }
 {
-    let meant = kind_of(kind);
-    let given = list(nodes, edges, root, leaf, meant, out);
-    written_number(given)
+    list(nodes, edges, root, leaf, kind_of(kind), out).map_or_else(
+        refused_number,
+        |n| digits_of(n) as i64,
+    )
 }
 
 // Walks a bit address from a root to a leaf by walks of a kind and gives the answer as one number.
 #[unsafe(no_mangle)]
+#[tactic(auto, unfolding(crate::specs::Summary::signed))]
 pub extern "C" fn benchcalls_walk(
     nodes: &[i64],
     edges: &[i64],
@@ -180,13 +133,15 @@ pub extern "C" fn benchcalls_walk(
     ensures returned { result ≡ written (walk_gives (kind_of kind) nodes.now edges.now root leaf address out.old) }
     ensures buffer { out.new ≡ walk_after (kind_of kind) nodes.now edges.now root leaf address out.old }
 {
-    let meant = kind_of(kind);
-    let given = walk(nodes, edges, root, leaf, address, meant, out);
-    written_number(given)
+    walk(nodes, edges, root, leaf, address, kind_of(kind), out).map_or_else(
+        refused_number,
+        |n| digits_of(n) as i64,
+    )
 }
 
 // Walks a batch of bit addresses from a root to a leaf by walks of a kind and gives the answer as one number.
 #[unsafe(no_mangle)]
+#[tactic(auto, unfolding(crate::specs::Summary::signed))]
 pub extern "C" fn benchcalls_batch(
     nodes: &[i64],
     edges: &[i64],
@@ -199,13 +154,15 @@ pub extern "C" fn benchcalls_batch(
     ensures returned { result ≡ batched (batch_gives (kind_of kind) nodes.now edges.now root leaf addresses.now out.old) }
     ensures buffer { out.new ≡ batch_after (kind_of kind) nodes.now edges.now root leaf addresses.now out.old }
 {
-    let meant = kind_of(kind);
-    let given = batch(nodes, edges, root, leaf, addresses, meant, out);
-    batched_number(given)
+    batch(nodes, edges, root, leaf, addresses, kind_of(kind), out).map_or_else(
+        refused_number,
+        counts_of,
+    )
 }
 
 // Compares two graphs and gives the answer as one number.
 #[unsafe(no_mangle)]
+#[tactic(auto, unfolding(crate::specs::Summary::signed))]
 pub extern "C" fn benchcalls_compare(
     spec_nodes: &[i64],
     spec_edges: &[i64],
@@ -220,13 +177,10 @@ pub extern "C" fn benchcalls_compare(
         (tables_of spec_nodes.now spec_edges.now impl_nodes.now impl_edges.now
         root_pairs.now leaf_pairs.now)) }
 {
-    let answer = compare(
+    compare(
         spec_nodes, spec_edges, impl_nodes, impl_edges, root_pairs, leaf_pairs,
-    );
-    match answer {
-        Compared::Result(c) => packed_of(c),
-        Compared::Refused(reason) => refused_number(reason),
-    }
+    )
+    .map_or_else(refused_number, packed_of)
 }
 
 // Reads a sheet and gives the answer as one number: how long both tables are, or the refusal with its table and row, below zero.
@@ -236,6 +190,8 @@ pub extern "C" fn benchcalls_read_sheet(text: &[u8], nodes: &mut [i64], edges: &
     ensures nodes { nodes.new ≡ sheet_nodes_after text.now nodes.old edges.old }
     ensures edges { edges.new ≡ sheet_edges_after text.now nodes.old edges.old }
 {
-    let read = read_sheet(text, nodes, edges);
-    read_number(read)
+    match read_sheet(text, nodes, edges) {
+        Ok(sizes) => lengths_of(sizes),
+        Err(reason) => negative_code(Refusal::from(reason)),
+    }
 }

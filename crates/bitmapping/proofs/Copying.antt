@@ -1,4 +1,5 @@
 -- Numbers copied into a lent buffer: all of them, or none where they do not fit.
+use Rattle.std.specs.Prelude.{Err, Ok}
 use mathlib.Core.Path.{◌≡◌, refl, sym, ap, ◌∙◌}
 use mathlib.Core.List.{List, [], ◌∷◌, ◌++◌, map}
 use Prim.Native.Nat.{ℕ, zero, suc, ◌+◌, ◌*◌, ◌≤◌, ◌<◌}
@@ -6,13 +7,11 @@ use native.Mathlib.Numerals.{add-one}
 use native.Mathlib.Omega.{arith}
 use borrow.Author.Tests.{lt-ltb, le-ltb}
 use lib.IntN.{ℤ, pos}
-use lib.ListN.{length, get_or, take, drop, set, length-append, length-drop, length-take, length-map}
+use lib.ListN.{length, get_or, take, drop, set, length-take, length-map}
 use lib.Seq.{drop-cons, set_at, append_snoc, ext_get_or, get_or-take, length-take-le}
 use Rattle.model.specs.Checks.{when, check_output}
 use Rattle.model.specs.Calls.{answer, buffer_after, numbers_of}
 use Rattle.model.specs.declared.Reason.TheVariants.{LongOutput}
-use Rattle.model.specs.declared.Written.{Written}
-use Rattle.model.specs.declared.Written.TheVariants.{Count, Refused}
 use Rattle.reach.specs.Counting.{values_of}
 use Rattle.reach.proofs.Values.{values_length, values-at}
 use Rattle.normalisation.proofs.Normalising.{numbers_length}
@@ -31,27 +30,19 @@ module _ (f : ℕ → ℤ) (n : ℕ) (old : List ℤ) where
       ∙ set_at (values_of f n) (get_or old n (pos 0)) (drop (suc n) old) (f n) n (values_length f n)
       ∙ sym (append_snoc (values_of f n) (f n) (drop (suc n) old)))
 
-  -- the buffer keeps its length
-  pub values-over : n ≤ length old → length (values_of f n ++ drop n old) ≡ length old
-  values-over h = simp (length-append, length-drop) (omega (arith, values_length f n))
-
   -- ---- all, or none
 
-  module _ {count size : ℕ} {given : Written} {new : List ℤ} (copied : new ≡ values_of f size ++ drop size old) where
+  module _ (count : ℕ) where
     -- numbers that do not fit are refused, and none is copied
-    pub copied_none : length old < n → size ≡ 0 → given ≡ Refused LongOutput → Copied (values_of f n) count old given new
-    unfolding answer check_output when buffer_after values_of
-    copied_none h p q =
-        record { answers = rw (q, values_length f n, lt-ltb (length old) n h); buffer = rw (values_length f n, lt-ltb (length old) n h) (rw p at copied) }
+    pub copied_none : length old < n → Copied (values_of f n) count old (Err LongOutput) old
+    unfolding answer check_output when buffer_after
+    copied_none h = record { answers = rw (values_length f n, lt-ltb (length old) n h) refl; buffer = rw (values_length f n, lt-ltb (length old) n h) refl }
 
     -- numbers that fit are all copied
-    pub copied_all : n ≤ length old → size ≡ n → given ≡ Count count → Copied (values_of f n) count old given new
+    pub copied_all : n ≤ length old → {new : List ℤ} → new ≡ values_of f n ++ drop n old → Copied (values_of f n) count old (Ok count) new
     unfolding answer check_output when buffer_after
-    copied_all h p q =
-        record {
-          answers = rw (q, values_length f n, le-ltb (length old) n h);
-          buffer = rw (values_length f n, le-ltb (length old) n h, values_length f n) (rw p at copied);
-        }
+    copied_all h copied =
+        record { answers = rw (values_length f n, le-ltb (length old) n h) refl; buffer = rw (values_length f n, le-ltb (length old) n h, values_length f n) copied }
 
 -- ---- which numbers
 

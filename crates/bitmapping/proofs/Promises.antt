@@ -1,4 +1,5 @@
 -- What list and walk promise, in each of their outcomes: what they are asked for is refused, the output is too long, or it fits.
+use Rattle.std.specs.Prelude.{Err, Result}
 use mathlib.Core.Path.{◌≡◌, refl, sym, ap, subst, ◌∙◌}
 use mathlib.Core.Logic.{◌↔◌}
 use mathlib.Core.List.{List}
@@ -18,8 +19,6 @@ use Rattle.model.specs.Calls.{numbers_of, list_answer, numbers_answer, list_give
 use Rattle.model.specs.Refusals.{Refusal}
 use Rattle.model.specs.Answers.{refusal_of, written_answer}
 use Rattle.model.specs.declared.Reason.{Reason}
-use Rattle.model.specs.declared.Written.{Written}
-use Rattle.model.specs.declared.Written.TheVariants as written
 use Rattle.model.proofs.Taken.{taken-fit}
 use Rattle.model.proofs.ListLaw.{list_of_reached}
 use Rattle.model.proofs.WalkCall.{nil, cons, leaf_bits-reached, leaf_bits-ascending}
@@ -55,7 +54,7 @@ module _ (kind : WalkKind) (ns es : List ℤ) (r l : ℤ) where
 
   module _ (old : List ℤ) where
     -- what the answer and the buffer are fixes what stands there
-    list_promise : (given : Written) (new : List ℤ) → written_answer given ≡ list_gives kind ns es r l old → new ≡ list_after kind ns es r l old
+    list_promise : (given : Result ℕ Reason) (new : List ℤ) → written_answer given ≡ list_gives kind ns es r l old → new ≡ list_after kind ns es r l old
         → ListPromise kind ns es r l old given new
     unfolding list_gives list_after length_of buffer_after numbers_answer
     list_promise given new a b = record { answer = a; buffer = b; reached = λ n e. go n (list_answer kind ns es r l (length old)) refl (sym a ∙ e) b }
@@ -66,15 +65,15 @@ module _ (kind : WalkKind) (ns es : List ℤ) (r l : ℤ) where
         go n (full records) h k c = record { records = records; count = cc; stands = c; reached = list_given (length old) records h }
 
     -- what it is asked for is refused
-    pub list-refused : (reason : Reason) → refused (refusal_of reason) ≡ checked (check_asked ns es r l) → ListPromise kind ns es r l old (written.Refused reason) old
+    pub list-refused : (reason : Reason) → refused (refusal_of reason) ≡ checked (check_asked ns es r l) → ListPromise kind ns es r l old (Err reason) old
     unfolding list_answer list_gives list_after length_of buffer_after numbers_answer
     list-refused reason e =
         let out = list_of kind (graph_of ns es) r l in
         let stops = single-refused out ns es r l (length (numbers_of out)) (length old) e in
-        list_promise (written.Refused reason) old (sym (ap length_of stops)) (sym (ap (λ a. buffer_after (numbers_answer a) old) stops))
+        list_promise (Err reason) old (sym (ap length_of stops)) (sym (ap (λ a. buffer_after (numbers_answer a) old) stops))
 
     -- it is taken, and the numbers of the records are copied where they fit
-    pub list-taken : full tt ≡ checked (check_asked ns es r l) → {records : ℕ} {new : List ℤ} {given : Written} → records ≡ length (list_of kind (graph_of ns es) r l)
+    pub list-taken : full tt ≡ checked (check_asked ns es r l) → {records : ℕ} {new : List ℤ} {given : Result ℕ Reason} → records ≡ length (list_of kind (graph_of ns es) r l)
         → Copied (numbers_of (list_of kind (graph_of ns es) r l)) records old given new → ListPromise kind ns es r l old given new
     unfolding list_answer list_gives list_after
     list-taken taken {given = given} count c =
@@ -109,7 +108,7 @@ module _ (kind : WalkKind) (ns es : List ℤ) (r l x : ℤ) where
 
   module _ (old : List ℤ) where
     -- what the answer and the buffer are fixes what stands there
-    walk_promise : (given : Written) (new : List ℤ) → written_answer given ≡ walk_gives kind ns es r l x old → new ≡ walk_after kind ns es r l x old
+    walk_promise : (given : Result ℕ Reason) (new : List ℤ) → written_answer given ≡ walk_gives kind ns es r l x old → new ≡ walk_after kind ns es r l x old
         → WalkPromise kind ns es r l x old given new
     unfolding walk_gives walk_after length_of buffer_after
     walk_promise given new a b = record { answer = a; buffer = b; reached = λ n e. go n (walk_answer kind ns es r l x (length old)) refl (sym a ∙ e) b }
@@ -122,15 +121,15 @@ module _ (kind : WalkKind) (ns es : List ℤ) (r l x : ℤ) where
 
     -- what it is asked for is refused
     pub walk_refused : (reason : Reason) → refused (refusal_of reason) ≡ checked (check_asked ns es r l)
-        → WalkPromise kind ns es r l x old (written.Refused reason) old
+        → WalkPromise kind ns es r l x old (Err reason) old
     unfolding walk_answer walk_gives walk_after length_of buffer_after
     walk_refused reason e =
         let out = leaf_bits kind (graph_of ns es) r l x in
         let stops = single-refused out ns es r l (length out) (length old) e in
-        walk_promise (written.Refused reason) old (sym (ap length_of stops)) (sym (ap (λ a. buffer_after a old) stops))
+        walk_promise (Err reason) old (sym (ap length_of stops)) (sym (ap (λ a. buffer_after a old) stops))
 
     -- it is taken, and the leaf bits are copied where they fit
-    pub walk-taken : full tt ≡ checked (check_asked ns es r l) → {bits : ℕ} {new : List ℤ} {given : Written} → bits ≡ length (leaf_bits kind (graph_of ns es) r l x)
+    pub walk-taken : full tt ≡ checked (check_asked ns es r l) → {bits : ℕ} {new : List ℤ} {given : Result ℕ Reason} → bits ≡ length (leaf_bits kind (graph_of ns es) r l x)
         → Copied (leaf_bits kind (graph_of ns es) r l x) bits old given new → WalkPromise kind ns es r l x old given new
     unfolding walk_answer walk_gives walk_after
     walk-taken taken {given = given} count c =

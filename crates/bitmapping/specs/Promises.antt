@@ -1,4 +1,5 @@
 -- What the calls list and walk promise, whatever they are given. Assumes nothing.
+use Rattle.std.specs.Prelude.{Result}
 use Rattle.std.specs.Prelude.{◌≡◌, ◌↔◌, List, [], ◌∷◌, ◌++◌, ℕ, ℤ, ◌<ℤ◌, length, drop}
 use Rattle.lists.specs.Lists.{◌∈◌}
 use Rattle.model.specs.declared.WalkKind.{WalkKind}
@@ -7,7 +8,7 @@ use Rattle.model.specs.Walk.{Reached}
 use Rattle.model.specs.Bitmapping.{Record, IsBitmappingList}
 use Rattle.model.specs.Calls.{full, numbers_of, list_gives, list_after, walk_gives, walk_after}
 use Rattle.model.specs.Answers.{written_answer}
-use Rattle.model.specs.declared.Written.{Written}
+use Rattle.model.specs.declared.Reason.{Reason}
 
 -- n records stand in front of a buffer that held `old`, three numbers each, and they are the bitmapping list of root and leaf for walks of this kind: the
 -- list of the reached set
@@ -18,7 +19,7 @@ pub record ListStands (kind : WalkKind) (g : Graph) (root leaf : ℤ) (n : ℕ) 
   pub reached : IsBitmappingList kind g root leaf records
 
 -- list, for walks of this kind, of a root and a leaf of the graph of two tables, into a buffer that held `old`: what it returns, and what the buffer then holds
-pub record ListPromise (kind : WalkKind) (ns es : List ℤ) (root leaf : ℤ) (old : List ℤ) (given : Written) (new : List ℤ) : Type 0 where
+pub record ListPromise (kind : WalkKind) (ns es : List ℤ) (root leaf : ℤ) (old : List ℤ) (given : Result ℕ Reason) (new : List ℤ) : Type 0 where
   -- how many records, or a refusal
   pub answer : written_answer given ≡ list_gives kind ns es root leaf old
   -- untouched on a refusal, else the numbers of the records, and past them what it held
@@ -40,7 +41,7 @@ pub record WalkStands (kind : WalkKind) (g : Graph) (root leaf address : ℤ) (n
   pub ascending : Ascending bits
 
 -- walk, for walks of this kind, of a bit address from a root to a leaf, into a buffer that held `old`: what it returns, and what the buffer then holds
-pub record WalkPromise (kind : WalkKind) (ns es : List ℤ) (root leaf address : ℤ) (old : List ℤ) (given : Written) (new : List ℤ) : Type 0 where
+pub record WalkPromise (kind : WalkKind) (ns es : List ℤ) (root leaf address : ℤ) (old : List ℤ) (given : Result ℕ Reason) (new : List ℤ) : Type 0 where
   -- how many leaf bits, or a refusal
   pub answer : written_answer given ≡ walk_gives kind ns es root leaf address old
   -- untouched on a refusal, else the leaf bits, and past them what it held

@@ -5,7 +5,7 @@ ghost use Rattle.std.specs.Prelude.{◌≡◌, ◌++◌, ℕ, ◌+◌, ◌*◌, 
 ghost use Rattle.bitmapping.specs.Promises.{ListPromise, WalkPromise};
 ghost use Rattle.bitmapping.specs.Copying.{spaced, Copied};
 
-use model::{Checked, MAX_NODES, MAX_NUMBERS, RECORD_WIDTH, Reason, WalkKind, Written};
+use model::{MAX_NODES, MAX_NUMBERS, RECORD_WIDTH, Reason, WalkKind};
 
 // The place of the displacement among the numbers of a record.
 const DISPLACEMENT: usize = 2;
@@ -15,11 +15,8 @@ fn copy_numbers(from: &[i64], first: usize, step: usize, n: usize, to: &mut [i64
     requires { ((k : ℕ) → k < n → first + step * k < length from.now) × (n ≤ length to.old) }
     ensures { to.new ≡ spaced from.now first step n ++ drop n to.old }
 {
-    let mut k: usize = 0;
-    while k < n {
-        let x = from[first + step * k];
-        to[k] = x;
-        k += 1;
+    for (k, x) in to[..n].iter_mut().enumerate() {
+        *x = from[first + step * k];
     }
 }
 
@@ -31,19 +28,15 @@ fn put_numbers(
     n: usize,
     count: usize,
     out: &mut [i64],
-) -> Written
+) -> Result<usize, Reason>
     requires { (k : ℕ) → k < n → first + step * k < length from.now }
     ensures { Copied (spaced from.now first step n) count out.old result out.new }
 {
-    let room = out.len();
-    let mut size = n;
-    let mut given = Written::Count(count);
-    if room < n {
-        size = 0;
-        given = Written::Refused(Reason::LongOutput);
+    if out.len() < n {
+        return Err(Reason::LongOutput);
     }
-    copy_numbers(from, first, step, size, out);
-    given
+    copy_numbers(from, first, step, n, out);
+    Ok(count)
 }
 
 // The bitmapping list of a root and a leaf for walks of this kind: its records in order, three numbers each, in the front of `out`, and how many they are.
@@ -55,15 +48,12 @@ pub fn list(
     leaf: i64,
     kind: WalkKind,
     out: &mut [i64],
-) -> Written
+) -> Result<usize, Reason>
     ensures { ListPromise kind nodes.now edges.now root leaf out.old result out.new }
 {
     let mut work = [0i64; MAX_NUMBERS];
-    let listed = asked::list_asked(nodes, edges, root, leaf, kind, &mut work);
-    match listed {
-        Written::Refused(reason) => Written::Refused(reason),
-        Written::Count(records) => put_numbers(&work, 0, 1, RECORD_WIDTH * records, records, out),
-    }
+    let records = asked::list_asked(nodes, edges, root, leaf, kind, &mut work)?;
+    put_numbers(&work, 0, 1, RECORD_WIDTH * records, records, out)
 }
 
 // The distinct leaf bits that a bit address at the root reaches by walks of this kind, ascending, in the front of `out`, and how many they are: none where
@@ -76,14 +66,11 @@ pub fn walk(
     address: i64,
     kind: WalkKind,
     out: &mut [i64],
-) -> Written
+) -> Result<usize, Reason>
     ensures { WalkPromise kind nodes.now edges.now root leaf address out.old result out.new }
 {
     let mut counts = [0usize; MAX_NODES];
-    let checked = asked::check_asked(nodes, edges, root, leaf, &mut counts);
-    if let Checked::Refused(reason) = checked {
-        return Written::Refused(reason);
-    }
+    asked::check_asked(nodes, edges, root, leaf, &mut counts)?;
     let mut work = [0i64; MAX_NUMBERS];
     let bits = listing::walk_pair(
         nodes,

@@ -6,33 +6,27 @@ ghost use Rattle.model.specs.Answers.{verdict_number};
 ghost use Rattle.model.specs.Compare.{lower_of};
 ghost use Rattle.reporting.specs.Lines.{SmallLengths};
 
-use model::{Verdict, verdict_number};
+use model::Verdict;
 use reporting::Lengths;
 
 // The higher of two verdicts: of the two kinds of a pair, the worse.
 pub fn higher(one: Verdict, other: Verdict) -> Verdict
     ensures { verdict_number result ≡ max (verdict_number one) (verdict_number other) }
 {
-    if verdict_number(one) < verdict_number(other) {
-        return other;
-    }
-    one
+    one.max(other)
 }
 
-// The lower of two addresses that are there: each is -1 where there is none.
+// The lower of two addresses that are there: each is -1 where there is none, as the result of a comparison has it.
 pub fn lower_of(one: i64, other: i64) -> i64
     ensures { result ≡ lower_of one other }
 {
     if one < 0 {
-        return other;
+        other
+    } else if other < 0 {
+        one
+    } else {
+        one.min(other)
     }
-    if other < 0 {
-        return one;
-    }
-    if one <= other {
-        return one;
-    }
-    other
 }
 
 // How many records the four lists of a pair have together: those for reading and those for writing.

@@ -1,9 +1,8 @@
 // Checks of several callers, one after the other, and what each gave: who asked, the answer, how many bytes of the buffer changed, and all counts.
 #![tactic(auto)]
 
-ghost use Rattle.std.specs.Prelude.{◌≤◌};
-
-use model::{CALLERS, COUNT_KINDS, Written};
+use model::{COUNT_KINDS, Reason};
+use refusals::Refusal;
 use tally::Tally;
 use tallycheck::Tallied;
 
@@ -16,94 +15,46 @@ const FILLER: u8 = 7;
 // One byte more than a text may have.
 const LONG: usize = 65537;
 
-// Counts of a tally, and those of them that are printed in a line.
-const COUNTS: usize = COUNT_KINDS * CALLERS;
-
+// Counts of a tally that are printed in a line.
 const LINE: usize = 4 * COUNT_KINDS;
 
-// Prints bytes. What cannot be written is lost, and the checks go on.
-fn say(rt: &impl Print, text: &[u8]) {
-    let _ = rt.write_all(text);
-}
-
-// Prints a number in decimal.
-fn say_number(rt: &impl Print, n: u64) {
-    let _ = rt.print(n);
-}
-
-// The same, with a minus before it if it is negative.
-fn say_signed(rt: &impl Print, v: i64) {
-    if v < 0 {
-        say(rt, b"-");
-    }
-    say_number(rt, report::magnitude(v));
-}
-
-// Prints what stands behind the count at a place: a line feed, two spaces behind a caller's last count, or one.
-fn say_gap(rt: &impl Print, place: usize) {
+// What stands behind the count at a place: a line feed, two spaces behind a caller's last count, or one.
+fn gap(place: usize) -> &'static str {
     if place % LINE == LINE - 1 {
-        say(rt, b"\n");
-        return;
+        "\n"
+    } else if place % COUNT_KINDS == COUNT_KINDS - 1 {
+        "  "
+    } else {
+        " "
     }
-    if place % COUNT_KINDS == COUNT_KINDS - 1 {
-        say(rt, b" ");
-    }
-    say(rt, b" ");
 }
 
-// Prints all counts, four callers in a line.
+// Prints all counts, four callers in a line. What cannot be written is lost here and below, and the checks go on.
 fn say_counts(rt: &impl Print, tally: &Tally) {
-    let mut i: usize = 0;
-    while i < COUNTS {
-        say_number(rt, tally.counts[i]);
-        say_gap(rt, i);
-        i += 1;
+    for (place, count) in tally.counts.iter().enumerate() {
+        let _ = print!(rt; "{count}{}", gap(place));
     }
 }
 
 // Prints the report's length, or the refusal.
-fn say_answer(rt: &impl Print, written: Written) {
-    match written {
-        Written::Count(n) => {
-            say(rt, b"report of ");
-            say_number(rt, n as u64);
-            say(rt, b" bytes");
+fn say_answer(rt: &impl Print, written: Result<usize, Reason>) {
+    let _ = match written {
+        Ok(n) => print!(rt; "report of {n} bytes"),
+        Err(reason) => {
+            let Refusal { number, table, row } = Refusal::from(reason);
+            print!(rt; "refusal {number} {table} {row}")
         }
-        Written::Refused(reason) => {
-            let refusal = refusals::refusal_numbers(reason);
-            say(rt, b"refusal ");
-            say_number(rt, refusal.number as u64);
-            say(rt, b" ");
-            say_number(rt, refusal.table as u64);
-            say(rt, b" ");
-            say_number(rt, refusal.row as u64);
-        }
-    }
+    };
 }
 
 // How many bytes of the buffer are not what it was filled with.
 fn changed(buffer: &[u8]) -> usize {
-    let mut n: usize = 0;
-    let mut i: usize = 0;
-    while i < buffer.len() {
-        if buffer[i] != FILLER {
-            n += 1;
-        }
-        i += 1;
-    }
-    n
+    buffer.iter().filter(|byte| **byte != FILLER).count()
 }
 
-// As many bytes of the buffer as are asked for, at most all.
-fn lent(room: usize, all: usize) -> usize
-    ensures { result ≤ all }
-{
-    if room < all { room } else { all }
-}
-
-// Checks a text for a caller with the first bytes of the buffer lent for the report.
+// Checks a text for a caller with as many of the first bytes of the buffer lent for the report as are asked for, at most all.
 fn check_into(text: &[u8], buffer: &mut [u8], room: usize, tally: Tally, caller: i64) -> Tallied {
-    let end = lent(room, buffer.len());
+    let end = room.min(buffer.len());
     tallycheck::tally_check(text, &mut buffer[..end], tally, caller)
 }
 
@@ -111,17 +62,11 @@ fn check_into(text: &[u8], buffer: &mut [u8], room: usize, tally: Tally, caller:
 fn try_check(rt: &impl Print, text: &[u8], room: usize, tally: Tally, caller: i64) -> Tally {
     let mut buffer = [FILLER; BUFFER];
     let tallied = check_into(text, &mut buffer, room, tally, caller);
-    say(rt, b"caller ");
-    say_signed(rt, caller);
-    say(rt, b": ");
-    let written = tallied.written;
-    say_answer(rt, written);
-    say(rt, b", ");
-    say_number(rt, changed(&buffer) as u64);
-    say(rt, b" bytes of the buffer changed\n");
-    let next = tallied.tally;
-    say_counts(rt, &next);
-    next
+    let _ = print!(rt; "caller {caller}: ");
+    say_answer(rt, tallied.written);
+    let _ = println!(rt; ", {} bytes of the buffer changed", changed(&buffer));
+    say_counts(rt, &tallied.tally);
+    tallied.tally
 }
 
 // The map P2, which is equal.
@@ -206,7 +151,7 @@ fn at_the_ceiling() -> Tally {
 
 // Checks of caller 3, and one of 16, with that tally.
 fn try_ceiling(rt: &impl Print) {
-    say(rt, b"counts of caller 3 at the ceiling\n");
+    let _ = println!(rt; "counts of caller 3 at the ceiling");
     let t = try_equal(rt, at_the_ceiling(), 3);
     let t = try_equal(rt, t, 3);
     let t = try_partial(rt, BUFFER, t, 3);
@@ -216,10 +161,7 @@ fn try_ceiling(rt: &impl Print) {
 }
 
 fn main(rt: HostRuntime) {
-    say(
-        &rt,
-        b"equal partial different refused, four callers a line from caller 0\n",
-    );
+    let _ = println!(rt; "equal partial different refused, four callers a line from caller 0");
     let t = try_callers(&rt, tally::fresh_tally());
     try_numbers(&rt, t);
     try_ceiling(&rt);

@@ -1,75 +1,23 @@
--- Refusal 12, byte by byte: which bytes are allowed, what a pass over the text finds, and whether its last line has a line feed.
+-- Refusal 12, byte by byte: what a pass over the text finds, and whether its last line has a line feed.
 use mathlib.Core.Path.{◌≡◌, refl}
-use mathlib.Core.Bool.{Bool, true, false, not, cond, ◌||◌}
-use mathlib.Core.Logic.{◌≢◌}
+use mathlib.Core.Bool.{true, false, not, cond}
 use mathlib.Core.List.{[], ◌∷◌}
 use mathlib.Core.Option.{Option, none, some}
 use Prim.Native.Nat.{ℕ, suc, ◌+◌, ◌-◌, ◌≤◌, ◌<◌}
 use native.Mathlib.Numerals.{add-one}
 use native.Mathlib.Omega.{arith}
-use borrow.Author.Tests.{lt-ltb, le-ltb, le-leb, lt-leb, eq-eqb, ne_eqb}
-use lib.Dec.{leb, eqb}
+use borrow.Author.Tests.{lt-ltb, le-ltb}
+use lib.Dec.{eqb}
 use lib.ListN.{length, drop, get_or, drop_of_length-le}
 use lib.Seq.{drop-cons}
 use Rattle.model.specs.Limits.{max_text}
-use Rattle.model.specs.Bytes.{Bytes, line_feed, blank, dash}
+use Rattle.model.specs.Bytes.{Bytes, line_feed}
 use Rattle.model.specs.MapFile.{feeds}
 use Rattle.model.specs.Refusals.{Refusal}
 use Rattle.model.specs.Checks.{when, ◌then◌}
 use Rattle.model.specs.Calls.{Answer, refused, full, answer}
 use Rattle.model.specs.Answers.{numbered}
 use Rattle.model.specs.Reader.{allowed, check_bytes, broken_off, check_text}
-
--- ---- allowed bytes
-
-or_false : (a : Bool) → (a || false) ≡ a
-or_false true = refl
-or_false false = refl
-
--- from a on only the letters
-pub allowed-high : (b : ℕ) → 97 ≤ b → allowed b ≡ leb b 122
-unfolding allowed
-allowed-high b h =
-    simp (
-      le-leb 97 b h,
-      lt-leb b 57 (omega arith),
-      le-leb 48 b (omega arith),
-      ne_eqb b dash (λ e. omega arith),
-      ne_eqb b blank (λ e. omega arith),
-      ne_eqb b line_feed (λ e. omega arith),
-      or_false,
-    )
-
--- below a, from 0 on only the digits
-pub allowed_middle : (b : ℕ) → b < 97 → 48 ≤ b → allowed b ≡ leb b 57
-unfolding allowed
-allowed_middle b k h =
-    simp (
-      lt-leb 97 b k,
-      le-leb 48 b h,
-      ne_eqb b dash (λ e. omega arith),
-      ne_eqb b blank (λ e. omega arith),
-      ne_eqb b line_feed (λ e. omega arith),
-      or_false,
-    )
-
--- below 0 only minus, space and line feed are allowed
-module _ (b : ℕ) (h : b < 48) where
-  -- minus
-  pub allowed-dash : b ≡ dash → allowed b ≡ true
-  unfolding allowed
-  allowed-dash e = simp (lt-leb 97 b (omega arith), lt-leb 48 b h, eq-eqb b dash e)
-
-  module _ (d : b ≢ dash) where
-    -- space
-    pub allowed-blank : b ≡ blank → allowed b ≡ true
-    unfolding allowed
-    allowed-blank e = simp (lt-leb 97 b (omega arith), lt-leb 48 b h, ne_eqb b dash d, eq-eqb b blank e)
-
-    -- line feed, and no other
-    pub allowed_feed : b ≢ blank → allowed b ≡ eqb b line_feed
-    unfolding allowed
-    allowed_feed e = simp (lt-leb 97 b (omega arith), lt-leb 48 b h, ne_eqb b dash d, ne_eqb b blank e)
 
 -- ---- a pass over the bytes from place k on, where line n begins or goes on
 

@@ -12,6 +12,7 @@ use Rattle.model.specs.Reader.{fields_of, column_of}
 use Rattle.cursor.specs.Parts.{first_line, later_lines, first_field, blank_first, followed, rest_of}
 use Rattle.cursor.specs.Given.{Stands}
 use Rattle.cursor.proofs.Parts.{fields-first, later_inner, later_last}
+use Rattle.columns.specs.Given.{line_fields}
 use Rattle.cursor.proofs.Fields.{end_within, end_behind, end_rest, end_blank}
 
 -- ---- how many fields a line has
@@ -45,6 +46,56 @@ module _ (name t : Bytes) {r : Bool} (test : (r ≡ true → name ≡ first_fiel
     pub column_none : followed t ≡ false → column_of name (fields_of (first_line t)) ≡ 1
     unfolding column_of
     column_none e = column_behind ∙ rw e refl
+
+-- ---- a name, looked for among the fields of a line
+
+-- a line has a field
+fields_some : (t : Bytes) → 1 ≤ length (fields_of (first_line t))
+fields_some t = rw (fields-first t) (omega arith)
+
+-- the name is none of the first i fields of the line that starts at `from`, and the fields behind them start at `at`
+pub record NameBehind (text name : Bytes) (from at i : ℕ) : Type 0 where
+  pub within : at ≤ length text
+  pub count : i + length (line_fields text at) ≡ length (line_fields text from)
+  pub column : column_of name (line_fields text from) ≡ i + column_of name (line_fields text at)
+
+-- so it is while there are fields behind them, and else the name is none of the fields
+pub record NameLeft (text name : Bytes) (from at i : ℕ) : Type 0 where
+  pub more : i < length (line_fields text from) → NameBehind text name from at i
+  pub none : i ≡ length (line_fields text from) → column_of name (line_fields text from) ≡ i
+
+-- no field is compared
+pub name_left : (text name : Bytes) (from : ℕ) → from ≤ length text → NameLeft text name from from 0
+name_left text name from h =
+    record { more = λ _. record { within = h; count = omega arith; column = omega arith }; none = λ e. absurd (omega (arith, fields_some (drop from text))) }
+
+module _ {text name : Bytes} {from at i : ℕ} (l : NameBehind text name from at i) {r : Bool}
+    (test : (r ≡ true → name ≡ first_field (drop at text)) × (name ≡ first_field (drop at text) → r ≡ true)) where
+  -- the next field is the name
+  pub name_here : r ≡ true → i ≡ column_of name (line_fields text from)
+  name_here e = omega (arith, l.column, column_here name (drop at text) test e)
+
+  -- it is not
+  pub name_next : (end : ℕ) → end ≡ at + length (first_field (drop at text)) → r ≡ false → NameLeft text name from (end + 1) (i + 1)
+  name_next end e other = go (followed (drop at text)) refl
+    where
+      go : (b : Bool) → followed (drop at text) ≡ b → NameLeft text name from (end + 1) (i + 1)
+      go true f =
+          let rest : drop (end + 1) text ≡ rest_of (drop at text) = end_rest text at end l.within e in
+          let there : end < length text = end_blank text at end l.within e (ap blank_first (end_behind text at end l.within e) ∙ f) in
+          record {
+            more = λ _. record {
+              within = omega (arith, there);
+              count = rw rest (omega (arith, l.count, count_goes (drop at text) f));
+              column = rw rest (omega (arith, l.column, column_goes name (drop at text) test other f));
+            };
+            none = λ q. absurd (omega (arith, l.count, count_goes (drop at text) f, fields_some (rest_of (drop at text))));
+          }
+      go false f =
+          record {
+            more = λ h. absurd (omega (arith, l.count, count-ends (drop at text) f));
+            none = λ _. omega (arith, l.column, column_none name (drop at text) test other f);
+          }
 
 -- ---- the number of fields
 

@@ -6,7 +6,7 @@ ghost use Rattle.compare.specs.Promises.{ComparePromise};
 
 use forward::PLAN_ROOM;
 use grouping::LINK_ROOM;
-use model::{Checked, Compared};
+use model::{Comparison, Reason};
 use prepare::prepare;
 use survey::survey;
 
@@ -22,7 +22,7 @@ pub fn compare(
     impl_edges: &[i64],
     root_pairs: &[i64],
     leaf_pairs: &[i64],
-) -> Compared
+) -> Result<Comparison, Reason>
     ensures { ComparePromise
         (tables_of spec_nodes.now spec_edges.now impl_nodes.now impl_edges.now
         root_pairs.now leaf_pairs.now)
@@ -31,7 +31,7 @@ pub fn compare(
     let mut spec_plan = [0usize; PLAN_ROOM];
     let mut impl_plan = [0usize; PLAN_ROOM];
     let mut links = [0usize; LINK_ROOM];
-    let c = prepare(
+    prepare(
         spec_nodes,
         spec_edges,
         impl_nodes,
@@ -41,15 +41,11 @@ pub fn compare(
         &mut spec_plan,
         &mut impl_plan,
         &mut links,
-    );
-    if let Checked::Refused(reason) = c {
-        return Compared::Refused(reason);
-    }
+    )?;
     let mut lines = [0usize; 1];
     let kept = survey(
         spec_nodes, spec_edges, impl_nodes, impl_edges, root_pairs, leaf_pairs, &links, &spec_plan,
         &impl_plan, NO_LIMIT, &mut lines,
     );
-    let result = kept.result;
-    Compared::Result(result)
+    Ok(kept.result)
 }

@@ -23,10 +23,7 @@ fn same_displacement(r: Row, s: Row) -> bool
 fn root_bits_within(r: Row, s: Row) -> bool
     ensures { result ≡ (le_z s.second r.second && le_z r.third s.third) }
 {
-    if s.second <= r.second {
-        return r.third <= s.third;
-    }
-    false
+    s.second <= r.second && r.third <= s.third
 }
 
 // Whether r is contained in row i of t. Each is a row by displacement.
@@ -34,10 +31,8 @@ fn contained_in(r: Row, t: &[i64], i: usize) -> bool
     requires { row_width * i + row_width ≤ length t.now }
     ensures { result ≡ contained (of_displacement r) (of_displacement (row_at t.now i)) }
 {
-    if same_displacement(r, sorting::row_at(t, i)) {
-        return root_bits_within(r, sorting::row_at(t, i));
-    }
-    false
+    let s = sorting::row_at(t, i);
+    same_displacement(r, s) && root_bits_within(r, s)
 }
 
 // Whether each of the ni rows of imp is contained in one of the ns rows of spec, in one pass. Both are rows by displacement, sorted.
@@ -45,8 +40,9 @@ pub fn contains_all(spec: &[i64], ns: usize, imp: &[i64], ni: usize) -> bool
     requires { (row_width * ns ≤ length spec.now) × (row_width * ni ≤ length imp.now) }
     ensures { result ≡ contains_all (displaced_of spec.now ns) (displaced_of imp.now ni) }
 {
-    let mut i: usize = 0;
-    let mut j: usize = 0;
+    // Each turn goes on by one in one of the lists: which, the records tell.
+    let mut i = 0;
+    let mut j = 0;
     while j < ni {
         if ns <= i {
             return false;

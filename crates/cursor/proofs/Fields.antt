@@ -61,26 +61,14 @@ module _ (text : Bytes) (at : ℕ) (within : at ≤ length text) {f : Field} (g 
   pub given_inner : f.more ≡ true → {o : Option ℤ} → signed_value f.value ≡ o → inner_value (drop at text) ≡ o
   given_inner e q = rw (sym g.more ∙ e) (sym g.value ∙ q)
 
-  -- no other field follows
-  pub given_not_inner : f.more ≡ false → inner_value (drop at text) ≡ none
-  given_not_inner e = rw (sym g.more ∙ e) refl
-
   -- the value of the last field of a line
   pub given_last : f.more ≡ false → {o : Option ℤ} → signed_value f.value ≡ o → last_value (drop at text) ≡ o
   given_last e q = rw (sym g.more ∙ e) (sym g.value ∙ q)
 
-  -- another field follows
-  pub given_not_last : f.more ≡ true → last_value (drop at text) ≡ none
-  given_not_last e = rw (sym g.more ∙ e) refl
-
-  -- the space behind which the next field starts is in the text
-  pub given_blank : f.more ≡ true → f.end < length text
-  given_blank e =
-      end_blank text at f.end within g.ends (ap blank_first (end_behind text at f.end within g.ends) ∙ sym g.more ∙ e)
-
-  -- and the cursor before that field
-  pub given_next : (n : ℕ) → f.more ≡ true → Stands text (rest_of (drop at text)) n (record { at = f.end + 1; line = n })
-  given_next n e = record { within = omega (arith, given_blank e); before = end_rest text at f.end within g.ends; line = refl }
+  -- the place of the next field
+  pub given_next : (n p : ℕ) → f.more ≡ true → (p ≤ length text) × (drop p text ≡ drop (f.end + 1) text)
+      → Stands text (rest_of (drop at text)) n (record { at = p; line = n })
+  given_next n p e h = record { within = h.0; before = h.1 ∙ end_rest text at f.end within g.ends; line = refl }
 
   -- the place of the next line
   pub given_later : (n p : ℕ) → f.more ≡ false → (p ≤ length text) × (drop p text ≡ drop (f.end + 1) text)

@@ -1,19 +1,23 @@
 -- A value line, read value by value into the front of a row.
+use Rattle.std.specs.Prelude as std
 use mathlib.Core.Path.{◌≡◌, refl, sym, ap, ◌∙◌}
+use mathlib.Core.Bool.{Bool, true, false}
+use mathlib.Core.Logic.{◌≢◌}
 use mathlib.Core.List.{List, [], ◌∷◌, ◌++◌, append_assoc}
 use mathlib.Core.Option.{Option, none, some, map}
 use Prim.Native.Nat.{ℕ, suc, ◌+◌, ◌-◌, ◌≤◌, ◌<◌}
-use native.Mathlib.Nat.{sub-zero}
 use native.Mathlib.Numerals.{add-one}
 use native.Mathlib.Omega.{arith}
+use lib.Dec.{eqb}
 use lib.IntN.{ℤ}
 use lib.ListN.{length, take, drop, set, length-set, length-drop}
 use lib.Seq.{take-suc-set, drop-set-lt}
+use Rattle.integers.proofs.Tests.{Test, passed, failed, eq?}
 use Rattle.model.specs.Bytes.{Bytes}
 use Rattle.model.specs.Reader.{cons_option}
 use Rattle.cursor.specs.declared.Cursor.{Cursor}
-use Rattle.cursor.specs.Parts.{later_lines, rest_of, inner_value, last_value, line_values}
-use Rattle.cursor.specs.Given.{InText, Stands}
+use Rattle.cursor.specs.Parts.{later_lines, rest_of, inner_value, last_value, value_at, rest_at, line_at, line_values}
+use Rattle.cursor.specs.Given.{InText, Stands, LineGiven}
 use Rattle.cursor.proofs.Parts.{rest_shorter, later_inner}
 use Rattle.cursor.proofs.Fields.{values_inner, values-last, inner_followed}
 
@@ -39,19 +43,6 @@ pub record LineLeft (text : Bytes) (width : ℕ) (row₀ : List ℤ) (c₀ : Cur
   pub same : line_values width (drop c₀.at text) ≡ behind (take i row) (line_values (width - i) (drop c.at text))
   pub later : later_lines (drop c.at text) ≡ later_lines (drop c₀.at text)
   pub line : c.line ≡ c₀.line
-
--- none is read
-pub left_all : (text : Bytes) (width : ℕ) (row : List ℤ) (c : Cursor) → 1 ≤ width → InText text c → LineLeft text width row c row c 0
-left_all text width row c h p =
-    record {
-      short = omega arith;
-      kept = refl;
-      rest = refl;
-      in_text = p;
-      same = rw (sub-zero width) (sym (behind_nil (line_values width (drop c.at text))));
-      later = refl;
-      line = refl;
-    }
 
 module _ {text : Bytes} {width : ℕ} {row₀ : List ℤ} {c₀ : Cursor} {row : List ℤ} {c : Cursor} {i : ℕ} (l : LineLeft text width row₀ c₀ row c i) where
   -- what lies behind the values of the line stays
@@ -121,3 +112,37 @@ module _ {text : Bytes} {width : ℕ} {row₀ : List ℤ} {c₀ : Cursor} {row :
           l.same ∙ rw (left_one, e, all) refl,
           record { within = s.within; before = s.before ∙ l.later; line = s.line ∙ ap suc l.line },
         )
+
+-- i values of the line that starts at c₀ are read into the front of the row, and the cursor c stands before the others, or before the next line
+pub record LineState (text : Bytes) (width : ℕ) (row₀ : List ℤ) (c₀ : Cursor) (row : List ℤ) (c : Cursor) (i : ℕ) : Type 0 where
+  pub left : i < width → LineLeft text width row₀ c₀ row c i
+  pub read : i ≡ width → LineGiven text c₀ width row (std.Some c)
+  pub kept : length row ≡ length row₀
+  pub rest : drop width row ≡ drop width row₀
+
+module _ {text : Bytes} {width : ℕ} {row₀ : List ℤ} {c₀ : Cursor} {row : List ℤ} {c : Cursor} {i : ℕ} (s : LineState text width row₀ c₀ row c i) (due : i < width) where
+  -- the next field is no value
+  pub state_stops : value_at (eqb (i + 1) width) (drop c.at text) ≡ none → line_values width (drop c₀.at text) ≡ none
+  state_stops = go (eqb (i + 1) width) (eq? (i + 1) width)
+    where
+      go : (b : Bool) → Test (i + 1 ≡ width) (i + 1 ≢ width) b → value_at b (drop c.at text) ≡ none → line_values width (drop c₀.at text) ≡ none
+      go true (passed e) n = left_fails (s.left due) (omega arith) n
+      go false (failed e) n = left_stops (s.left due) (omega arith) n
+
+  -- its value is read
+  pub state_goes : {v : ℤ} {d : Cursor} → width ≤ length row₀ → value_at (eqb (i + 1) width) (drop c.at text) ≡ some v
+      → Stands text (rest_at (eqb (i + 1) width) (drop c.at text)) (line_at (eqb (i + 1) width) c.line) d → LineState text width row₀ c₀ (set row i v) d (i + 1)
+  state_goes {v} {d} room = go (eqb (i + 1) width) (eq? (i + 1) width)
+    where
+      go : (b : Bool) → Test (i + 1 ≡ width) (i + 1 ≢ width) b → value_at b (drop c.at text) ≡ some v
+          → Stands text (rest_at b (drop c.at text)) (line_at b c.line) d → LineState text width row₀ c₀ (set row i v) d (i + 1)
+      go true (passed e) q t =
+          record {
+            left = λ h. absurd (omega arith);
+            read = λ _. left_ends (s.left due) (omega arith) room q t;
+            kept = length-set row i v ∙ s.kept;
+            rest = left_rest (s.left due) v;
+          }
+      go false (failed e) q t =
+          let more = left_goes (s.left due) (omega arith) room q t in
+          record { left = λ _. more; read = λ h. absurd (omega arith); kept = more.kept; rest = more.rest }

@@ -1,4 +1,5 @@
 -- What the cursor and the functions of fields and value lines give. Assumes nothing.
+use Rattle.std.specs.Prelude as std
 use Rattle.std.specs.Prelude.{◌≡◌, List, ℕ, suc, ◌+◌, ◌≤◌, ℤ, length, take, drop}
 use Rattle.std.proofs.Math.Option.{Option, none, some}
 use Rattle.model.specs.Bytes.{Bytes}
@@ -6,10 +7,6 @@ use Rattle.model.specs.Reader.{value_of}
 use Rattle.values.specs.Given.{signed_value}
 use Rattle.cursor.specs.declared.Field.{Field}
 use Rattle.cursor.specs.declared.Cursor.{Cursor}
-use Rattle.cursor.specs.declared.Num.{Num}
-use Rattle.cursor.specs.declared.Line.{Line}
-use Rattle.cursor.specs.declared.Num.TheVariants as num
-use Rattle.cursor.specs.declared.Line.TheVariants as line
 use Rattle.cursor.specs.Parts.{later_lines, first_field, followed, line_values}
 
 -- the field that starts at a place of the text: where it ends, whether another follows it on its line, and its value
@@ -30,12 +27,12 @@ pub record Stands (text rest : Bytes) (n : ℕ) (c : Cursor) : Type 0 where
   pub line : c.line ≡ n
 
 -- a value that is read, with the cursor before rest on line n
-abbrev pub NumGiven : Bytes → Option ℤ → Bytes → ℕ → Num → Type 0
-NumGiven text value rest n (num.Value v c) = (value ≡ some v) × Stands text rest n c
-NumGiven text value rest n num.Bad = value ≡ none
+abbrev pub NumGiven : Bytes → Option ℤ → Bytes → ℕ → std.Option (ℤ × Cursor) → Type 0
+NumGiven text value rest n (std.Some (v, c)) = (value ≡ some v) × Stands text rest n c
+NumGiven text value rest n std.None = value ≡ none
 
 -- the values of a line, `width` of them, at the front of the row, with the cursor before the next line
-abbrev pub LineGiven : Bytes → Cursor → ℕ → List ℤ → Line → Type 0
-LineGiven text c width row (line.Values d) =
+abbrev pub LineGiven : Bytes → Cursor → ℕ → List ℤ → std.Option Cursor → Type 0
+LineGiven text c width row (std.Some d) =
     (line_values width (drop c.at text) ≡ some (take width row)) × Stands text (later_lines (drop c.at text)) (suc c.line) d
-LineGiven text c width row line.Bad = line_values width (drop c.at text) ≡ none
+LineGiven text c width row std.None = line_values width (drop c.at text) ≡ none

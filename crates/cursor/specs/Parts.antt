@@ -1,5 +1,5 @@
 -- The parts at the front of what remains of a text: its first line, the first field of that line, and what lies behind them. Assumes nothing.
-use Rattle.std.specs.Prelude.{Bool, false, cond, ◌||◌, List, [], ◌∷◌, ℕ, eqb, ℤ, length, drop}
+use Rattle.std.specs.Prelude.{Bool, false, cond, ◌||◌, List, [], ◌∷◌, ℕ, suc, eqb, ℤ, length, drop}
 use Rattle.std.proofs.Math.Option.{Option, none, some}
 use Rattle.model.specs.Bytes.{Bytes, line_feed, blank}
 use Rattle.model.specs.Reader.{fields_of, value_of, values_of}
@@ -48,6 +48,18 @@ inner_value t = cond (followed t) (value_of (first_field t)) none
 -- the value of the first field, where it is the last of its line
 abbrev pub last_value : Bytes → Option ℤ
 last_value t = cond (followed t) none (value_of (first_field t))
+
+-- the value of the first field, where it is the last of its line, or where another follows it there
+abbrev pub value_at : Bool → Bytes → Option ℤ
+value_at last t = cond last (last_value t) (inner_value t)
+
+-- what lies behind that field: the later lines, or the fields that follow it
+abbrev pub rest_at : Bool → Bytes → Bytes
+rest_at last t = cond last (later_lines t) (rest_of t)
+
+-- the line on which this lies, where the field stands on line n
+abbrev pub line_at : Bool → ℕ → ℕ
+line_at last n = cond last (suc n) n
 
 -- the values, where there are n
 unfoldable pub exactly : ℕ → Option (List ℤ) → Option (List ℤ)

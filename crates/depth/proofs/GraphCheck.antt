@@ -1,5 +1,6 @@
 -- The check of one graph is the checks of its rows and then what its edges are: its answer, the buffer for the order, and that a graph
 -- that it takes is taken.
+use Rattle.std.specs.Prelude.{Err, Ok, Result}
 use mathlib.Core.Path.{◌≡◌, sym, ap, subst, ◌∙◌}
 use mathlib.Core.List.{List, flat_map}
 use mathlib.Core.Option.{none, some}
@@ -16,8 +17,6 @@ use Rattle.model.specs.Checks.{when, ◌then◌, first_refusal, check_shape, che
 use Rattle.model.specs.Calls.{answer}
 use Rattle.model.specs.Answers.{refusal_of, checked_answer}
 use Rattle.model.specs.declared.Reason.{Reason}
-use Rattle.model.specs.declared.Checked.{Checked}
-use Rattle.model.specs.declared.Checked.TheVariants as checked
 use Rattle.model.specs.Taken.{TakenTables}
 use Rattle.model.proofs.Checks.{then-none, answer-some, answer-none}
 use Rattle.model.proofs.Settled.{Settled, settled_each}
@@ -81,7 +80,7 @@ module _ (t : ℕ) (ns es : List ℤ) (good : check_rows t ns es ≡ none) where
 
 module _ (t : ℕ) (ns es : List ℤ) (buffer : List ℕ) where
   -- where the checks of the rows refuse, the check does so, and the buffer is untouched
-  pub rows-refused : (r : Reason) → checked_answer (checked.Refused r) ≡ answer (check_rows t ns es) tt → GraphChecked t ns es buffer (checked.Refused r) buffer
+  pub rows-refused : (r : Reason) → checked_answer (Err r) ≡ answer (check_rows t ns es) tt → GraphChecked t ns es buffer (Err r) buffer
   unfolding answer order_after order_unless ◌then◌
   rows-refused r e =
       let bad : check_rows t ns es ≡ some (refusal_of r) = (answer-some tt (check_rows t ns es)).0 (sym e) in
@@ -91,13 +90,13 @@ module _ (t : ℕ) (ns es : List ℤ) (buffer : List ℕ) where
         order = sym (ap (λ c. order_unless c es buffer) bad);
       }
 
-  module _ (taken : checked_answer checked.Taken ≡ answer (check_rows t ns es) tt) where
+  module _ (taken : checked_answer (Ok tt) ≡ answer (check_rows t ns es) tt) where
     -- where they take the graph, its edges can be ordered
     pub rows_taken : {room : ℕ} → max_edges ≤ room → Orderable es room
     rows_taken h = rows_orderable t ns es ((answer-none tt (check_rows t ns es)).0 (sym taken)) h
 
     -- and the check answers as the chains of its edges say
-    pub chains_answered : {found : Chained} {buffer' : List ℕ} {given : Checked} → OrderedInto es buffer found buffer'
+    pub chains_answered : {found : Chained} {buffer' : List ℕ} {given : Result (Unit {0}) Reason} → OrderedInto es buffer found buffer'
         → checked_answer given ≡ answer (chain_refusal t found) tt → GraphChecked t ns es buffer given buffer'
     chains_answered o e =
         let good = (answer-none tt (check_rows t ns es)).0 (sym taken) in
@@ -108,7 +107,7 @@ module _ (t : ℕ) (ns es : List ℤ) (buffer : List ℕ) where
 
 -- ---- a graph that the check takes
 
-module _ (t : ℕ) (ns es : List ℤ) (takes : checked_answer checked.Taken ≡ answer (check_graph t ns es) tt) where
+module _ (t : ℕ) (ns es : List ℤ) (takes : checked_answer (Ok tt) ≡ answer (check_graph t ns es) tt) where
   -- its tables are taken
   pub checked_taken : TakenTables ns es
   checked_taken =

@@ -1,7 +1,7 @@
 -- Stores into a list one after the other, and the elements that a loop has passed.
 use mathlib.Core.Path.{◌≡◌, refl, sym, ap, subst, ◌∙◌}
 use mathlib.Core.Bool.{Bool, true, false}
-use mathlib.Core.List.{List, [], ◌∷◌, ◌++◌}
+use mathlib.Core.List.{List, [], ◌∷◌, ◌++◌, append-nil}
 use Prim.Native.Nat.{ℕ, zero, suc, ◌+◌, ◌≤◌, ◌<◌}
 use native.Mathlib.Nat.{add-zero}
 use native.Mathlib.Numerals.{add-one}
@@ -9,6 +9,7 @@ use native.Mathlib.Omega.{arith}
 use lib.Dec.{ltb}
 use lib.ListN.{length, get_or, set, take, drop, replicate, length-append, get_or-append}
 use lib.Seq.{sets, sets-eq, get_or-set_other, take-suc, get_or-take, length-take-le, take_at, get_or_at}
+use Rattle.std.proofs.lemmas.List.{drop_all}
 use Rattle.integers.proofs.Tests.{Test, passed, failed, ltb?}
 use Rattle.lists.specs.Lists.{◌∈◌}
 use Rattle.lists.proofs.Places.{get_d_in}
@@ -37,6 +38,10 @@ module _ {A : Type 0} where
     where
       omega_zero : (n : ℕ) → 0 + n ≡ n
       omega_zero n = omega arith
+
+  -- as many stores as there are elements
+  pub sets_over : (l xs : List A) → length xs ≡ length l → sets l 0 xs ≡ xs
+  sets_over l xs e = sets_front l xs (omega arith) ∙ ap (λ r. xs ++ r) (drop_all (length xs) l (omega arith)) ∙ append-nil xs
 
   -- what was stored at the front
   pub sets_take : (l xs : List A) → length xs ≤ length l → take (length xs) (sets l 0 xs) ≡ xs

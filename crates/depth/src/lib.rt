@@ -9,9 +9,9 @@ ghost use Rattle.model.specs.Answers.{checked_answer};
 ghost use Rattle.depth.specs.Check.{GraphChecked};
 ghost use Rattle.depth.specs.Passes.{up_to, EndsWithin, stamped, enters_stamped, SplitInto, Orderable, Unpeeled, OrderedInto};
 
-use model::{Checked, EDGE_WIDTH, MAX_CHAIN, MAX_EDGES, MAX_NODES, Reason};
+use model::{EDGE_WIDTH, MAX_CHAIN, MAX_EDGES, MAX_NODES, Reason};
 
-// What the edges of a graph are: ordered from the leaves up, or with a chain of more than 64 edges, or with a cycle.
+// What the edges of a graph are: ordered from the leaves up, or with a chain of more than 64 edges, or with a cycle. No Result: edges with a long chain are ordered too.
 #[derive(Clone, Copy)]
 pub enum Chained {
     Ordered,
@@ -24,10 +24,8 @@ fn number_rows(rows: &mut [usize], count: usize)
     requires { count ≤ length rows.old }
     ensures { rows.new ≡ sets rows.old 0 (up_to count) }
 {
-    let mut i: usize = 0;
-    while i < count {
-        rows[i] = i;
-        i += 1;
+    for (i, row) in rows[..count].iter_mut().enumerate() {
+        *row = i;
     }
 }
 
@@ -36,12 +34,8 @@ fn stamp_starts(edges: &[i64], rest: &[usize], left: usize, stamp: usize, marks:
     requires { (left ≤ length rest.now) × EndsWithin edges.now (length marks.old) (take left rest.now) }
     ensures { marks.new ≡ stamped edges.now stamp (take left rest.now) marks.old }
 {
-    let mut i: usize = 0;
-    while i < left {
-        let e = rest[i];
-        let v = tables::edge_from(edges, e);
-        marks[v] = stamp;
-        i += 1;
+    for e in &rest[..left] {
+        marks[tables::edge_from(edges, *e)] = stamp;
     }
 }
 
@@ -59,19 +53,15 @@ fn split_rows(
     requires { (left ≤ length rest.old) × EndsWithin edges.now (length marks.now) (take left rest.old) × (at + left ≤ length order.old) }
     ensures { SplitInto (enters_stamped edges.now stamp marks.now) left rest.old order.old at result rest.new order.new }
 {
-    let mut kept: usize = 0;
-    let mut i: usize = 0;
-    while i < left {
+    let mut kept = 0;
+    for i in 0..left {
         let e = rest[i];
-        let v = tables::edge_to(edges, e);
-        let mark = marks[v];
-        if mark == stamp {
+        if marks[tables::edge_to(edges, e)] == stamp {
             rest[kept] = e;
             kept += 1;
         } else {
             order[at + i - kept] = e;
         }
-        i += 1;
     }
     kept
 }
@@ -84,7 +74,7 @@ fn peel(edges: &[i64], rest: &mut [usize], marks: &mut [usize], order: &mut [usi
 {
     let count = edges.len() / EDGE_WIDTH;
     let mut left = count;
-    let mut round: usize = 0;
+    let mut round = 0;
     while 0 < left {
         round += 1;
         stamp_starts(edges, rest, left, round, marks);
@@ -120,24 +110,20 @@ pub fn check_graph_with(
     table: usize,
     rest: &mut [usize],
     order: &mut [usize],
-) -> Checked
+) -> Result<(), Reason>
     requires { (table < 100) × (max_edges ≤ length rest.old) × (max_edges ≤ length order.old) }
     ensures { GraphChecked table nodes.now edges.now order.old result order.new }
 {
-    let rows = tables::check_rows(nodes, edges, table);
-    if let Checked::Refused(reason) = rows {
-        return Checked::Refused(reason);
-    }
-    let chains = order_edges(edges, rest, order);
-    match chains {
-        Chained::Cycle => Checked::Refused(Reason::Cycle { table: table }),
-        Chained::LongChain => Checked::Refused(Reason::LongChain { table: table }),
-        Chained::Ordered => Checked::Taken,
+    tables::check_rows(nodes, edges, table)?;
+    match order_edges(edges, rest, order) {
+        Chained::Cycle => Err(Reason::Cycle { table }),
+        Chained::LongChain => Err(Reason::LongChain { table }),
+        Chained::Ordered => Ok(()),
     }
 }
 
 // The check of one graph: taken, or refused. Its tables are 0 and 1.
-pub fn check_graph(nodes: &[i64], edges: &[i64]) -> Checked
+pub fn check_graph(nodes: &[i64], edges: &[i64]) -> Result<(), Reason>
     ensures { checked_answer result ≡ check_answer nodes.now edges.now }
 {
     let mut rest = [0usize; MAX_EDGES];

@@ -1,6 +1,9 @@
 -- The bits of a node that keeps the limits and the bit offsets of a taken graph are small, and so is every run of a taken graph.
+use Rattle.std.proofs.Common.{Ordering, Less, Equal, Greater, is_le, int_cmp}
+use Rattle.std.specs.Ordering.{MatchOrdering}
+use Rattle.std.specs.Cmp.{int_ranks}
 use mathlib.Core.Path.{◌≡◌, refl, sym, ap, ◌∙◌, subst}
-use mathlib.Core.Bool.{Bool, true, false, not, cond, ◌&&◌}
+use mathlib.Core.Bool.{Bool, true, false, not, cond}
 use mathlib.Core.Option.{some}
 use Prim.Native.Nat.{◌^◌}
 use native.Mathlib.Omega.{arith}
@@ -134,23 +137,27 @@ extent_closed e x p = record { first = x.first; last = rw (sym e) (p ∙ ap (λ 
 
 -- ---- the test whether a walk may stand on a node, from the bits that were computed
 
--- below the first bit it may not
-pub stands-below : (kind : WalkKind) (n : Node) {a low high : ℤ} → OpenExtent kind n low high → a <ℤ low → false ≡ stands_on kind n a
-unfolding stands_on
-stands-below kind n {a} x h = go (le_z (first_bit n) a) (le? (first_bit n) a)
+-- the order of bit addresses is that of their numbers
+pub lowest_test : (a b : ℤ) → is_le (int_cmp a b) ≡ le_z a b
+lowest_test a b = go (int_cmp a b) (int_ranks a b) (le_z a b) (le? a b)
   where
-    go : (t : Bool) → Test (first_bit n ≤ℤ a) (a <ℤ first_bit n) t → false ≡ t && le_z a (last_open kind n)
-    go true (passed k) = absurd (omega (arith, ints, x.first))
-    go false (failed k) = refl
+    go : (o : Ordering) → MatchOrdering o (a <ℤ b) (a ≡ b) (b <ℤ a) → (t : Bool) → Test (a ≤ℤ b) (b <ℤ a) t → is_le o ≡ t
+    go Less h true k = refl
+    go Less h false (failed k) = absurd (omega (arith, ints, h, k))
+    go Equal h true k = refl
+    go Equal h false (failed k) = absurd (omega (arith, ints, h, k))
+    go Greater h true (passed k) = absurd (omega (arith, ints, h, k))
+    go Greater h false k = refl
+
+-- below the first bit it may not
+pub stands-below : {kind : WalkKind} {n : Node} (a : ℤ) {low high : ℤ} → OpenExtent kind n low high → le_z low a ≡ false → false ≡ stands_on kind n a
+unfolding stands_on
+stands-below a x e = rw (ap (λ (z : ℤ). le_z z a) (sym x.first) ∙ e) refl
 
 -- from the first bit on it may up to the last
-pub stands-above : (kind : WalkKind) (n : Node) {a low high : ℤ} → OpenExtent kind n low high → low ≤ℤ a → le_z a high ≡ stands_on kind n a
+pub stands-above : {kind : WalkKind} {n : Node} (a : ℤ) {low high : ℤ} → OpenExtent kind n low high → le_z low a ≡ true → le_z a high ≡ stands_on kind n a
 unfolding stands_on
-stands-above kind n {a} {low} {high} x h = go (le_z (first_bit n) a) (le? (first_bit n) a)
-  where
-    go : (t : Bool) → Test (first_bit n ≤ℤ a) (a <ℤ first_bit n) t → le_z a high ≡ t && le_z a (last_open kind n)
-    go true (passed k) = ap (le_z a) x.last
-    go false (failed k) = absurd (omega (arith, ints, x.first))
+stands-above a x e = rw (ap (λ (z : ℤ). le_z z a) (sym x.first) ∙ e) (ap (le_z a) x.last)
 
 -- ---- edges of a taken graph
 

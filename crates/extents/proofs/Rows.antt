@@ -1,19 +1,19 @@
 -- Rows of taken tables: what the code asks of a row of a node table and of an edge table.
 use mathlib.Core.Path.{◌≡◌, refl, sym, ap, subst, ◌∙◌}
 use mathlib.Core.Bool.{Bool}
-use mathlib.Core.List.{List, [], ◌∷◌}
+use mathlib.Core.List.{List, []}
 use mathlib.Core.Logic.{◌↔◌}
-use Prim.Native.Nat.{ℕ, zero, suc, ◌+◌, ◌*◌, ◌≤◌, ◌<◌}
+use Prim.Native.Nat.{ℕ, ◌+◌, ◌*◌, ◌≤◌, ◌<◌}
 use native.Mathlib.Omega.{arith}
-use lib.Dec.{leb, ltb}
+use lib.Dec.{leb}
 use lib.IntN.{ℤ, pos, negsuc, neg_ℤ, ◌*ℤ◌}
 use lib.Signed.{◌≤ℤ◌}
-use lib.ListN.{length, get_or}
+use lib.ListN.{length, get_or-eq_default}
 use mir.Syntax.{w64}
 use mir.Val.{SFits, to_z, of_z}
 use mir.Facts.{to_z-of_z}
 use Rattle.integers.proofs.Linear.{ints}
-use Rattle.integers.proofs.Tests.{Test, passed, failed, leb?, ltb?}
+use Rattle.integers.proofs.Tests.{Test, passed, failed, leb?}
 use Rattle.lists.specs.Lists.{◌∈◌}
 use Rattle.model.specs.Rows.{Node, node_rows}
 use Rattle.model.specs.Limits.{node_width, edge_width, max_units}
@@ -111,12 +111,6 @@ module _ {ns : List ℤ} {v : ℕ} (good : GoodRow ns v) (r : NodeRow) (read : n
 
 -- ---- tables whose nodes may all be read and written
 
--- what stands for an element behind the last
-get_d_past : {A : Type 0} (l : List A) (i : ℕ) (d : A) → length l ≤ i → get_or l i d ≡ d
-get_d_past [] i d h = refl
-get_d_past (x ∷ l) zero d h = absurd (omega arith)
-get_d_past (x ∷ l) (suc i) d h = get_d_past l i d (omega arith)
-
 -- every row may be read and written exactly where every node of a graph with these rows may: what stands for a row that is not there may
 pub all-rows_open : (ns : List ℤ)
     → ((w : ℕ) → node_width * w + node_width ≤ length ns → (node_at ns w).access ≡ read_write) ↔ ((es : List ℤ) → AllOpen (graph_of ns es))
@@ -126,19 +120,11 @@ all-rows_open ns = (λ h es v. forth h es v, λ h w there. ap (λ (n : Node). n.
     there? : (es : List ℤ) (w : ℕ) → ((w : ℕ) → node_width * w + node_width ≤ length ns → (node_at ns w).access ≡ read_write) → (b : Bool)
         → Test (node_width * w + node_width ≤ length ns) (length ns < node_width * w + node_width) b → (node (graph_of ns es) (pos w)).access ≡ read_write
     there? es w h b (passed t) = ap (λ (n : Node). n.access) (node_at_lem ns es w t) ∙ h w t
-    there? es w h b (failed t) = ap (λ (n : Node). n.access) (get_d_past (node_rows ns) w no_node (omega (arith, nodes_length ns)))
+    there? es w h b (failed t) = ap (λ (n : Node). n.access) (get_or-eq_default (node_rows ns) no_node (omega (arith, nodes_length ns)))
 
     forth : ((w : ℕ) → node_width * w + node_width ≤ length ns → (node_at ns w).access ≡ read_write) → (es : List ℤ) (v : ℤ) → (node (graph_of ns es) v).access ≡ read_write
     forth h es (pos w) = there? es w h (leb (node_width * w + node_width) (length ns)) (leb? (node_width * w + node_width) (length ns))
     forth h es (negsuc w) = refl
-
--- what holds of all numbers below n and of n holds of all below n + 1
-pub up_to : (P : ℕ → Type 0) (n : ℕ) → ((w : ℕ) → w < n → P w) → P n → (w : ℕ) → w < n + 1 → P w
-up_to P n below here w h = go (ltb w n) (ltb? w n)
-  where
-    go : (b : Bool) → Test (w < n) (n ≤ w) b → P w
-    go b (passed t) = below w t
-    go b (failed t) = subst P (omega arith) here
 
 -- a number whose bits are those of 0 is 0
 pub bits_zero : {z : ℤ} → SFits w64 z → of_z w64 z ≡ 0 → z ≡ pos 0

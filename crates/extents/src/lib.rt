@@ -51,14 +51,12 @@ fn open_extent(nodes: &[i64], v: usize, kind: WalkKind) -> Extent
     ensures { (es : List ℤ) → OpenExtent kind (node (graph_of nodes.now es) (pos v)) result.first.0 result.last.0 }
 {
     let extent = extent_of(nodes, v);
-    let node_open = is_open(nodes, v, kind);
-    if node_open {
+    if is_open(nodes, v, kind) {
         return extent;
     }
-    let first = extent.first;
     Extent {
-        first: first,
-        last: first.previous(),
+        last: extent.first.previous(),
+        ..extent
     }
 }
 
@@ -76,10 +74,8 @@ pub fn offset_of(nodes: &[i64], edges: &[i64], e: usize) -> Bits
     ensures { result.0 ≡ bit_offset (graph_of nodes.now edges.now) (edge_at edges.now e) }
 {
     let row = tables::edge_at(edges, e);
-    let to = tables::edge_to(edges, e);
-    let entered = tables::node_at(nodes, to);
-    let offset = row.offset;
-    tables::edge_bit_offset(offset, entered.unit)
+    let entered = tables::node_at(nodes, tables::edge_to(edges, e));
+    tables::edge_bit_offset(row.offset, entered.unit)
 }
 
 // All bits of node v, whichever walks may stand on it.
@@ -87,9 +83,7 @@ pub fn whole(nodes: &[i64], v: usize) -> Run
     requires { GoodRow nodes.now v }
     ensures { (es : List ℤ) → run_of result ≡ bits_of (node (graph_of nodes.now es) (pos v)) }
 {
-    let extent = extent_of(nodes, v);
-    let first = extent.first;
-    let last = extent.last;
+    let Extent { first, last } = extent_of(nodes, v);
     Run {
         root: first,
         low: first,
@@ -102,13 +96,8 @@ pub fn stands(nodes: &[i64], v: usize, a: Bits, kind: WalkKind) -> bool
     requires { GoodRow nodes.now v }
     ensures { (es : List ℤ) → result ≡ stands_on kind (node (graph_of nodes.now es) (pos v)) a.0 }
 {
-    let extent = open_extent(nodes, v, kind);
-    let first = extent.first;
-    let last = extent.last;
-    if a.0 < first.0 {
-        return false;
-    }
-    a.0 <= last.0
+    let Extent { first, last } = open_extent(nodes, v, kind);
+    first <= a && a <= last
 }
 
 // The bit address that a becomes over edge e: the shift of one bit address (000, 2.3 to 2.5).
@@ -125,22 +114,18 @@ pub fn leaf_bit(nodes: &[i64], leaf: usize, a: Bits) -> Bits
     requires { GoodRow nodes.now leaf × SmallAddress a.0 }
     ensures { (es : List ℤ) → result.0 ≡ a.0 -ℤ first_bit (node (graph_of nodes.now es) (pos leaf)) }
 {
-    let extent = extent_of(nodes, leaf);
-    a.less(extent.first)
+    a.less(extent_of(nodes, leaf).first)
 }
 
 // Whether every node of a table may be read and written.
 pub fn all_open(nodes: &[i64]) -> bool
     ensures { (result ≡ true) ↔ ((es : List ℤ) → AllOpen (graph_of nodes.now es)) }
 {
-    let count = nodes.len() / NODE_WIDTH;
-    let mut v: usize = 0;
-    while v < count {
+    for v in 0..nodes.len() / NODE_WIDTH {
         let row = tables::node_at(nodes, v);
         if row.access != READ_WRITE {
             return false;
         }
-        v += 1;
     }
     true
 }

@@ -2,13 +2,14 @@
 -- A node is marked, at any time, where it was marked at the start or an edge that is passed leads from it on. When an edge is passed, all edges that
 -- leave the node it enters are, so that node's mark is final, and marking the node that the edge leaves keeps the rule.
 use mathlib.Core.Path.{◌≡◌, refl, sym, ap, subst, ◌∙◌}
+use mathlib.Core.Bool.{Bool, true, false, true≢false}
 use mathlib.Core.List.Memᴰ
 use mathlib.Core.List.{List, [], ◌∷◌}
 use mathlib.Core.Logic.{◌⊎◌, inl, inr, ⊎_elim, ◌↔◌}
 use Prim.Native.Nat.{ℕ, ◌+◌, ◌/◌, ◌≤◌, ◌<◌}
 use native.Mathlib.Omega.{arith}
 use lib.IntN.{ℤ, pos}
-use lib.ListN.{length, get_or, set, length-set}
+use lib.ListN.{length, get_or, set, take, length-set}
 use Rattle.integers.proofs.Linear.{ints}
 use Rattle.lists.specs.Lists.{◌∈◌}
 use Rattle.model.specs.Limits.{node_width, edge_width}
@@ -18,12 +19,12 @@ use Rattle.model.specs.Paths.{Way, stay, over}
 use Rattle.tables.specs.Tables.{edge_at}
 use Rattle.tables.proofs.Rows.{nodes_length}
 use Rattle.reach.proofs.Sweep.{Cut}
-use Rattle.reach.proofs.Ends.{Ends, from-below, to_below}
+use Rattle.reach.proofs.Ends.{from-below, to_below}
 use Rattle.reach.proofs.Turns.{Between, between_start, between_next, between_end, turn, turn_ends, turn_from, turn_to}
 use Rattle.forward.specs.Passes.{Marking, Marked, LeadsTo, BackwardRows, Spread}
 use Rattle.forward.proofs.Marks.{mark_set}
 
-module _ (g : Graph) (start : List ℕ) where
+module _ (g : Graph) (start : List Bool) where
   -- v leads to a node that was marked at the start
   abbrev Leading : ℤ → Type 0
   Leading v = LeadsTo g (Marked start) v
@@ -33,7 +34,7 @@ module _ (g : Graph) (start : List ℕ) where
   SoFar before v = Marked start v ⊎ ((e : Edge) × (e ∈ before) × (e.from ≡ v) × Leading e.to)
 
   -- exactly those nodes are marked
-  abbrev pub Swept : List Edge → List ℕ → Type 0
+  abbrev pub Swept : List Edge → List Bool → Type 0
   Swept before marks = Marking marks (SoFar before)
 
   -- such a node leads to one that was marked
@@ -68,20 +69,20 @@ module _ (g : Graph) (start : List ℕ) where
   pub swept_start : Swept [] start
   swept_start = record { each = λ v. (λ h. inl (v, refl, h), λ s. ⊎_elim (same v) (λ w. absurd (Memᴰ.not-nil w.1)) s) }
     where
-      same : (v : ℕ) → Marked start (pos v) → 0 < get_or start v 0
-      same v m = let e : m.0 ≡ v = omega (arith, ints, m.1) in subst (λ (i : ℕ). 0 < get_or start i 0) e m.2
+      same : (v : ℕ) → Marked start (pos v) → get_or start v false ≡ true
+      same v m = let e : m.0 ≡ v = omega (arith, ints, m.1) in subst (λ (i : ℕ). get_or start i false ≡ true) e m.2
 
-  module _ {before ahead : List Edge} {e : Edge} {marks : List ℕ} (from to : ℕ) (c : Cut g.edges before (e ∷ ahead)) (p : pos from ≡ e.from)
+  module _ {before ahead : List Edge} {e : Edge} {marks : List Bool} (from to : ℕ) (c : Cut g.edges before (e ∷ ahead)) (p : pos from ≡ e.from)
       (q : pos to ≡ e.to) (s : Swept before marks)
     where
       -- the mark of the node that the next edge enters is final
-      entered : (0 < get_or marks to 0) ↔ Leading e.to
+      entered : (get_or marks to false ≡ true) ↔ Leading e.to
       entered =
           let all = so_far_all (pos to) c.passed_in (λ f m r. c.ordered.0 f m (r ∙ q)) in
           rw (← q) (λ h. all.0 ((s.each to).0 h), λ k. (s.each to).1 (all.1 k))
 
       -- an edge into a marked node marks the node that it leaves
-      pub swept_marked : 0 < get_or marks to 0 → from < length marks → Swept (e ∷ before) (set marks from 1)
+      pub swept_marked : get_or marks to false ≡ true → from < length marks → Swept (e ∷ before) (set marks from true)
       swept_marked h k =
           record {
             each = λ v. (
@@ -95,17 +96,17 @@ module _ (g : Graph) (start : List ℕ) where
           }
 
       -- any other edge changes nothing
-      pub swept_over : get_or marks to 0 ≡ 0 → Swept (e ∷ before) marks
+      pub swept_over : get_or marks to false ≡ false → Swept (e ∷ before) marks
       swept_over h =
           record {
             each = λ v. (
               λ m. so_far_more e ((s.each v).0 m),
-              λ w. ⊎_elim (λ z. absurd (let k = entered.1 z.1 in omega (arith, h, k))) (s.each v).1 (so_far_less w),
+              λ w. ⊎_elim (λ z. absurd (true≢false (sym (entered.1 z.1) ∙ h))) (s.each v).1 (so_far_less w),
             );
           }
 
   -- behind all edges the marks are those of the nodes that lead to one marked at the start
-  pub swept_end : {before : List Edge} {marks : List ℕ} → Cut g.edges before [] → Swept before marks → Marking marks Leading
+  pub swept_end : {before : List Edge} {marks : List Bool} → Cut g.edges before [] → Swept before marks → Marking marks Leading
   swept_end c s =
       record {
         each = λ v.
@@ -117,7 +118,7 @@ module _ (g : Graph) (start : List ℕ) where
 
 module _ (es : List ℤ) (order : List ℕ) where
   -- the state between two turns
-  pub record Passed (start marks : List ℕ) (i : ℕ) : Type 0 where
+  pub record Passed (start marks : List Bool) (i : ℕ) : Type 0 where
     pub nodes : List ℤ
     pub at : Between nodes es order i
     pub room : length nodes / node_width ≤ length marks
@@ -125,7 +126,7 @@ module _ (es : List ℤ) (order : List ℕ) where
     pub swept : (ns : List ℤ) → Swept (graph_of ns es) start at.before marks
 
   -- before the first turn
-  pub pass_start : {start : List ℕ} → BackwardRows es order (length start) → Passed start start 0
+  pub pass_start : {start : List Bool} → BackwardRows es order (length start) → Passed start start 0
   pass_start {start} k =
       record {
         nodes = k.nodes;
@@ -135,39 +136,38 @@ module _ (es : List ℤ) (order : List ℕ) where
         swept = λ ns. swept_start (graph_of ns es) start;
       }
 
-  module _ {start marks : List ℕ} {i : ℕ} (p : Passed start marks i) where
-    -- the order has a row for a turn, and the ends of its edge are nodes
-    pub turn_within : i < length es / edge_width → (i < length order) × Ends p.nodes es (get_or order i 0)
-    turn_within h = turn_ends p.nodes es order p.at h
+  module _ {start marks : List Bool} {i : ℕ} (p : Passed start marks i) where
+    module _ (from to : ℕ) (h : i < length (take (length es / edge_width) order))
+        (q : pos from ≡ (edge_at es (get_or (take (length es / edge_width) order) i 0)).from)
+        (r : pos to ≡ (edge_at es (get_or (take (length es / edge_width) order) i 0)).to)
+      where
+        -- both ends have a mark
+        pub ends-within : (from < length marks) × (to < length marks)
+        ends-within = let e = turn_ends p.nodes es order p.at h in (omega (arith, from-below e from q, p.room), omega (arith, to_below e to r, p.room))
 
-    module _ (from to : ℕ) (h : i < length es / edge_width) (q : pos from ≡ (edge_at es (get_or order i 0)).from) (r : pos to ≡ (edge_at es (get_or order i 0)).to) where
-      -- both ends have a mark
-      pub ends-within : (from < length marks) × (to < length marks)
-      ends-within = let e = (turn_within h).1 in (omega (arith, from-below e from q, p.room), omega (arith, to_below e to r, p.room))
+        -- a turn that leaves marks'
+        pass_next : (marks' : List Bool) → length marks' ≡ length marks
+            → ((ns : List ℤ) → Swept (graph_of ns es) start ((turn p.nodes es order p.at h).edge ∷ p.at.before) marks') → Passed start marks' (i + 1)
+        pass_next marks' e s =
+            record { nodes = p.nodes; at = between_next p.nodes es order p.at h; room = omega (arith, p.room, e); size = e ∙ p.size; swept = s }
 
-      -- a turn that leaves marks'
-      pass_next : (marks' : List ℕ) → length marks' ≡ length marks
-          → ((ns : List ℤ) → Swept (graph_of ns es) start ((turn p.nodes es order p.at h).edge ∷ p.at.before) marks') → Passed start marks' (i + 1)
-      pass_next marks' e s =
-          record { nodes = p.nodes; at = between_next p.nodes es order p.at h; room = omega (arith, p.room, e); size = e ∙ p.size; swept = s }
+        -- an edge into a marked node marks the node that it leaves
+        pub pass_marked : get_or marks to false ≡ true → Passed start (set marks from true) (i + 1)
+        unfolding graph_of
+        pass_marked m =
+            pass_next (set marks from true) (length-set marks from true)
+            (λ ns. swept_marked (graph_of ns es) start from to (turn p.nodes es order p.at h).cut (turn_from p.nodes es order p.at from h q)
+            (turn_to p.nodes es order p.at to h r) (p.swept ns) m ends-within.0)
 
-      -- an edge into a marked node marks the node that it leaves
-      pub pass_marked : 0 < get_or marks to 0 → Passed start (set marks from 1) (i + 1)
-      unfolding graph_of
-      pass_marked m =
-          pass_next (set marks from 1) (length-set marks from 1)
-          (λ ns. swept_marked (graph_of ns es) start from to (turn p.nodes es order p.at h).cut (turn_from p.nodes es order p.at from h q)
-          (turn_to p.nodes es order p.at to h r) (p.swept ns) m ends-within.0)
-
-      -- any other edge changes nothing
-      pub pass_over : get_or marks to 0 ≡ 0 → Passed start marks (i + 1)
-      unfolding graph_of
-      pass_over z =
-          pass_next marks refl
-          (λ ns. swept_over (graph_of ns es) start from to (turn p.nodes es order p.at h).cut (turn_from p.nodes es order p.at from h q)
-          (turn_to p.nodes es order p.at to h r) (p.swept ns) z)
+        -- any other edge changes nothing
+        pub pass_over : get_or marks to false ≡ false → Passed start marks (i + 1)
+        unfolding graph_of
+        pass_over z =
+            pass_next marks refl
+            (λ ns. swept_over (graph_of ns es) start from to (turn p.nodes es order p.at h).cut (turn_from p.nodes es order p.at from h q)
+            (turn_to p.nodes es order p.at to h r) (p.swept ns) z)
 
     -- behind the last turn
-    pub pass_end : length es / edge_width ≤ i → Spread es start marks
+    pub pass_end : length (take (length es / edge_width) order) ≤ i → Spread es start marks
     unfolding graph_of
     pass_end h ns = swept_end (graph_of ns es) start (between_end p.nodes es order p.at h) (p.swept ns)

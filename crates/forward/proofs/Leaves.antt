@@ -1,6 +1,6 @@
 -- The nodes in a column of a pair table, and the marks of those in its first rows.
 use mathlib.Core.Path.{◌≡◌, sym, ap, ◌∙◌}
-use mathlib.Core.Bool.{Bool, true, false}
+use mathlib.Core.Bool.{Bool, true, false, true≢false}
 use mathlib.Core.List.{List}
 use mathlib.Core.Logic.{◌≢◌, ◌⊎◌, inl, inr, ⊎_elim}
 use Prim.Native.Nat.{ℕ, ◌+◌, ◌/◌, ◌<◌}
@@ -32,20 +32,20 @@ module _ (pairs : List ℤ) (column : ℕ) where
   InRows k v = (q : ℕ) × (q < k) × (v ≡ node_in column (pair_at pairs q))
 
   -- exactly those nodes are marked
-  abbrev pub RowsMarked : List ℕ → ℕ → Type 0
+  abbrev pub RowsMarked : List Bool → ℕ → Type 0
   RowsMarked marks k = Marking marks (InRows k)
 
   -- the node of a row has a mark
-  pub row_within : {marks : List ℕ} → Markable pairs column marks → (k : ℕ) → k < length pairs / pair_width → Within (length marks) (node_in column (pair_at pairs k))
+  pub row_within : {marks : List Bool} → Markable pairs column marks → (k : ℕ) → k < length pairs / pair_width → Within (length marks) (node_in column (pair_at pairs k))
   row_within m k h = m.within (node_in column (pair_at pairs k)) (row_in k (omega arith))
 
   -- before the first row
-  pub rows_start : {marks : List ℕ} → Markable pairs column marks → RowsMarked marks 0
-  rows_start m = record { each = λ v. (λ h. absurd (omega (arith, h, m.blank v)), λ w. absurd (omega (arith, w.1))) }
+  pub rows_start : {marks : List Bool} → Markable pairs column marks → RowsMarked marks 0
+  rows_start m = record { each = λ v. (λ h. absurd (true≢false (sym h ∙ m.blank v)), λ w. absurd (omega (arith, w.1))) }
 
   -- the node of the next row is marked
-  pub rows_next : {marks : List ℕ} {k : ℕ} (i : ℕ) → pos i ≡ node_in column (pair_at pairs k) → i < length marks → RowsMarked marks k
-      → RowsMarked (set marks i 1) (k + 1)
+  pub rows_next : {marks : List Bool} {k : ℕ} (i : ℕ) → pos i ≡ node_in column (pair_at pairs k) → i < length marks → RowsMarked marks k
+      → RowsMarked (set marks i true) (k + 1)
   rows_next {marks} {k} i q h r =
       record {
         each = λ v. (
@@ -56,12 +56,12 @@ module _ (pairs : List ℤ) (column : ℕ) where
         );
       }
     where
-      earlier : (v : ℕ) (w : InRows (k + 1) (pos v)) (t : Bool) → Test (w.0 ≡ k) (w.0 ≢ k) t → (v ≡ i) ⊎ (0 < get_or marks v 0)
+      earlier : (v : ℕ) (w : InRows (k + 1) (pos v)) (t : Bool) → Test (w.0 ≡ k) (w.0 ≢ k) t → (v ≡ i) ⊎ (get_or marks v false ≡ true)
       earlier v w true (passed e) = inl (let z : pos v ≡ pos i = w.2 ∙ ap (λ j. node_in column (pair_at pairs j)) e ∙ sym q in omega (arith, ints, z))
       earlier v w false (failed n) = inr ((r.each v).1 (w.0, omega (arith, w.1, n), w.2))
 
   -- behind the last row
-  pub rows_end : {marks : List ℕ} {k : ℕ} → k ≡ length pairs / pair_width → RowsMarked marks k → Marking marks (λ v. v ∈ nodes_in column pairs)
+  pub rows_end : {marks : List Bool} {k : ℕ} → k ≡ length pairs / pair_width → RowsMarked marks k → Marking marks (λ v. v ∈ nodes_in column pairs)
   rows_end e r =
       record {
         each = λ v. (

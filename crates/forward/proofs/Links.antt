@@ -1,14 +1,18 @@
 -- The edges that enter each node, linked by one pass from the last edge to the first.
+use Rattle.std.proofs.Common.{add-zero}
+use Rattle.std.proofs.lemmas.List.{get_or-drop, get_or-append_right}
+use Rattle.std.proofs.lemmas.Slice.{take-put_mid, take-put_mid_below, drop-put_mid}
+use borrow.Rule.Slice.PartMut.{put_mid, same_len_mid}
 use mathlib.Core.Path.{◌≡◌, refl, sym, ap, subst, ◌∙◌}
 use mathlib.Core.Bool.{Bool, true, false, cond}
 use mathlib.Core.List.{List}
 use mathlib.Core.Logic.{◌≢◌, inl, inr, ⊎_elim}
-use Prim.Native.Nat.{ℕ, suc, ◌+◌, ◌/◌, ◌≤◌, ◌<◌}
+use Prim.Native.Nat.{ℕ, suc, ◌+◌, ◌-◌, ◌/◌, ◌≤◌, ◌<◌}
 use native.Mathlib.Omega.{arith}
 use lib.Dec.{eqb}
 use lib.IntN.{ℤ, pos}
-use lib.ListN.{length, get_or, set, length-set}
-use lib.Seq.{get_or-set_same, get_or-set_other}
+use lib.ListN.{length, get_or, set, take, drop, replicate, length-set, length-take, length-drop, length-replicate, get_or-replicate}
+use lib.Seq.{get_or-take, get_or-set_same, get_or-set_other}
 use Rattle.integers.specs.Integers.{eq_z}
 use Rattle.integers.proofs.Linear.{ints}
 use Rattle.integers.proofs.Tests.{Test, passed, failed, eq_z?, eq?, is_true, is_false, of_test, test_of}
@@ -49,23 +53,39 @@ module _ {a : ℕ} {l m : List ℕ} where
 
 -- ---- heads that are all set to a value
 
--- before the first
-pub heads-start : (value : ℕ) (plan : List ℕ) → HeadsSet 0 value plan plan
-heads-start value plan = record { each = λ v h. absurd (omega (arith, h)); same = same_start head_at (head_at + 0) plan }
-
--- one head more
-pub heads-next : {v value : ℕ} {old plan : List ℕ} → head_at + v < length plan → HeadsSet v value old plan
-    → HeadsSet (v + 1) value old (set plan (head_at + v) value)
-heads-next {v} {value} {plan = plan} h s =
+-- their part of the plan is filled
+pub heads-filled : (count value k : ℕ) (plan ys : List ℕ) → head_at + count ≤ length plan → k ≡ count → ys ≡ replicate count value
+    → HeadsSet count value plan (put_mid head_at k plan ys)
+heads-filled count value k plan ys room e f =
+    let all = put_mid head_at k plan ys in
+    let long : length ys ≡ count = ap length f ∙ length-replicate count value in
+    let inside : head_at ≤ length plan = omega arith in
     record {
-      each = λ u k. go u k (eqb u v) (eq? u v);
-      same = same_set (head_at + v) value (omega arith) (omega arith) (same_wider (head_at + (v + 1)) (omega arith) s.same);
+      each = λ v h.
+          sym (get_or-take (head_at + length ys) all (head_at + v) 0 (omega (arith, h, long)))
+          ∙ ap (λ l. get_or l (head_at + v) 0) (take-put_mid head_at k plan ys (head_at + length ys) refl inside)
+          ∙ get_or-append_right (take head_at plan) ys head_at (head_at + v) 0 (omega (arith, inside, length-take head_at plan)) (omega arith)
+          ∙ ap (λ l. get_or l (head_at + v - head_at) 0) f
+          ∙ get_or-replicate count (head_at + v - head_at) value 0 (omega (arith, h));
+      same = record {
+        size = same_len_mid head_at k plan ys (omega (arith, room, e, long, length-take k (drop head_at plan), length-drop head_at plan));
+        others = λ i h.
+            ⊎_elim
+            (λ low.
+            sym (get_or-take head_at all i 0 low)
+            ∙ ap (λ l. get_or l i 0) (take-put_mid_below head_at k plan ys head_at (omega arith) inside)
+            ∙ get_or-take head_at plan i 0 low)
+            (λ high.
+            at i all
+            ∙ ap (λ l. get_or l 0 0) (drop-put_mid head_at k plan ys i (omega (arith, high, e)) inside (omega (arith, long, e)))
+            ∙ sym (at i plan))
+            h;
+      };
     }
   where
-    go : (u : ℕ) → u < v + 1 → (t : Bool) → Test (u ≡ v) (u ≢ v) t → get_or (set plan (head_at + v) value) (head_at + u) 0 ≡ value
-    go u k true (passed e) = rw e (get_or-set_same plan (head_at + v) value 0 h)
-    go u k false (failed n) =
-        get_or-set_other plan (head_at + v) (head_at + u) value 0 (λ e. n (omega (arith, e))) ∙ s.each u (omega (arith, k, n))
+    -- what stands at a place is the first of what stands from there on
+    at : (i : ℕ) (l : List ℕ) → get_or l i 0 ≡ get_or (drop i l) 0 0
+    at i l = sym (get_or-drop i l 0 0 ∙ ap (λ j. get_or l j 0) (add-zero i))
 
 -- ---- one pass from the last edge to the first
 

@@ -1,18 +1,18 @@
 -- The plan of a graph, put together from what its passes leave.
 use mathlib.Core.Path.{◌≡◌, refl, sym, ap, subst, ◌∙◌}
-use mathlib.Core.Bool.{Bool}
+use mathlib.Core.Bool.{Bool, false}
 use mathlib.Core.List.Memᴰ
 use mathlib.Core.List.{List, [], ◌∷◌, map, reverse}
 use mathlib.Core.Logic.{◌↔◌}
 use Prim.Native.Nat.{ℕ, ◌+◌, ◌≤◌, ◌<◌}
 use native.Mathlib.Omega.{arith}
-use lib.Dec.{T, ltb}
+use lib.Dec.{T}
 use lib.IntN.{ℤ, pos, nat_abs}
 use lib.Signed.{yes_non_neg, pos-nat_abs}
 use lib.ListN.{length, get_or, take, replicate, length-set, length-replicate, length-reverse}
 use lib.Seq.{sets, length-sets, get_or-set_same, get_or-set_other, get_or-take, take-set-le}
 use Rattle.integers.proofs.Linear.{ints}
-use Rattle.integers.proofs.Tests.{ltb?, of_test, test_of}
+use Rattle.integers.proofs.Tests.{is_true}
 use Rattle.lists.specs.Lists.{◌∈◌, keep, Distinct}
 use Rattle.lists.proofs.Distinct.{keep-distinct}
 use Rattle.lists.proofs.Kept.{keep_length}
@@ -28,11 +28,12 @@ use Rattle.tables.proofs.Rows.{nodes_length, edges_length, edge_own}
 use Rattle.depth.specs.Order.{edge_order}
 use Rattle.depth.proofs.Keeping.{keep_map}
 use Rattle.depth.proofs.Order.{order_members}
-use Rattle.depth.proofs.Stores.{sets_past, sets_take, zeros_at}
+use Rattle.depth.proofs.Stores.{sets_past, sets_take}
 use Rattle.reach.proofs.Turns.{order-cut}
 use Rattle.reach.proofs.Ends.{row_below}
 use Rattle.forward.specs.Forward.{Leads, Forward, head_at, next_at, count_at, plan_room, planned_count, planned_of, Planned, LeadingTo, Plannable}
 use Rattle.forward.specs.Passes.{Marking, Marked, LeadsTo, Markable, BackwardRows, enters_marked, leading_rows, plan_with, EnteringLinked}
+use Rattle.forward.proofs.Marks.{unmarked_at}
 use Rattle.forward.proofs.Stored.{front_length, front-row}
 use Rattle.forward.proofs.Reversed.{map_reverse, reverse_in, reverse_out, reverse_distinct}
 use Rattle.forward.proofs.Order.{forward-kept}
@@ -49,7 +50,7 @@ row_index : {g : Graph} {v : ℤ} → NodeRow g v → pos (nat_abs v) ≡ v
 row_index {v = v} r = pos-nat_abs v (yes_non_neg r.low)
 
 -- marks of the nodes that lead to a marked leaf are those of the nodes that lead to a leaf
-pub leading_marks : {g : Graph} {ls : List ℤ} {marks marks' : List ℕ} → ((l : ℤ) → l ∈ ls → NodeRow g l) → Marking marks (λ v. v ∈ ls)
+pub leading_marks : {g : Graph} {ls : List ℤ} {marks marks' : List Bool} → ((l : ℤ) → l ∈ ls → NodeRow g l) → Marking marks (λ v. v ∈ ls)
     → Marking marks' (LeadsTo g (Marked marks)) → Marking marks' (Leads g ls)
 leading_marks {g} {ls} {marks} rows leaves leading = record { each = λ v. (λ h. leaf ((leading.each v).0 h), λ k. (leading.each v).1 (marked k)) }
   where
@@ -65,14 +66,14 @@ leading_marks {g} {ls} {marks} rows leaves leading = record { each = λ v. (λ h
 
 module _ {ns es : List ℤ} {order : List ℕ} {pairs : List ℤ} {side : ℕ} {plan : List ℕ} (c : Plannable ns es order pairs side plan) where
   -- each leaf is one of the most nodes that there can be
-  pub plan_markable : Markable pairs side (replicate max_nodes 0)
+  pub plan_markable : Markable pairs side (replicate max_nodes false)
   plan_markable =
       record {
         in_pair = c.in_pair;
         within = λ l m.
             let r = c.rows l m in
-            record { low = r.low; high = omega (arith, ints, row_below ns es r, c.tables.nodes.few, length-replicate {A = ℕ} max_nodes 0) };
-        blank = zeros_at max_nodes;
+            record { low = r.low; high = omega (arith, ints, row_below ns es r, c.tables.nodes.few, length-replicate {A = Bool} max_nodes false) };
+        blank = unmarked_at max_nodes;
       }
 
   -- the edges can be passed in the order that is given
@@ -82,7 +83,7 @@ module _ {ns es : List ℤ} {order : List ℕ} {pairs : List ℤ} {side : ℕ} {
 
 -- ---- what they leave
 
-module _ {ns es : List ℤ} {order : List ℕ} {count : ℕ} {ls : List ℤ} {marks plan : List ℕ} (linked : List ℕ) (tables : TakenTables ns es)
+module _ {ns es : List ℤ} {order : List ℕ} {count : ℕ} {ls : List ℤ} {marks : List Bool} {plan : List ℕ} (linked : List ℕ) (tables : TakenTables ns es)
     (p : BackwardRows es order count) (m : Marking marks (Leads (graph_of ns es) ls)) (room : length linked ≡ plan_room)
     (made : plan ≡ plan_with (leading_rows es order marks) linked)
   where
@@ -151,14 +152,11 @@ module _ {ns es : List ℤ} {order : List ℕ} {count : ℕ} {ls : List ℤ} {ma
     ok_leads : (e : Edge) → e ∈ edge_rows es → T (ok e) ↔ Leads (graph_of ns es) ls e.to
     unfolding graph_of enters_marked
     ok_leads e k =
-        let mark = get_or marks (nat_abs e.to) 0 in
         let own = (edge_own es k).1 in
         let index = row_index (tables.graph.ends e k).1 in
-        let test : ok e ≡ ltb 0 mark = ap (λ (d : Edge). ltb 0 (get_or marks (nat_abs d.to) 0)) (sym own) in (
-          λ t. subst (Leads (graph_of ns es) ls) index ((m.each (nat_abs e.to)).0 (test_of (ltb? 0 mark) (subst T test t))),
-          λ w.
-              let h = (m.each (nat_abs e.to)).1 (subst (Leads (graph_of ns es) ls) (sym index) w) in
-              subst T (sym test) (of_test (ltb? 0 mark) (λ z. omega (arith, h, z))),
+        let test : ok e ≡ get_or marks (nat_abs e.to) false = ap (λ (d : Edge). get_or marks (nat_abs d.to) false) (sym own) in (
+          λ t. subst (Leads (graph_of ns es) ls) index ((m.each (nat_abs e.to)).0 (sym test ∙ is_true (ok e) t)),
+          λ w. subst T (sym (test ∙ (m.each (nat_abs e.to)).1 (subst (Leads (graph_of ns es) ls) (sym index) w))) tt,
         )
 
     -- the edges of the plan are those

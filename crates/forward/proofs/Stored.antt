@@ -2,14 +2,11 @@
 use mathlib.Core.Path.{◌≡◌, refl, sym, ap, subst, ◌∙◌}
 use mathlib.Core.Bool.{Bool, true, false, cond}
 use mathlib.Core.List.{List, [], ◌∷◌, ◌++◌, reverse, reverse-cons}
-use mathlib.Core.Logic.{◌≢◌}
 use Prim.Native.Nat.{ℕ, suc, ◌+◌, ◌/◌, ◌≤◌, ◌<◌}
 use native.Mathlib.Omega.{arith}
-use lib.Dec.{ltb}
 use lib.IntN.{ℤ, pos, nat_abs}
 use lib.ListN.{length, get_or, set, take, drop, length-take, length-drop, length-map, length-append, length-reverse}
 use lib.Seq.{sets, length-sets, drop-cons, drop-length, get_or-take}
-use Rattle.integers.proofs.Tests.{ltb?, is_true, is_false, of_test, test_of}
 use Rattle.lists.specs.Lists.{◌∈◌, keep}
 use Rattle.lists.proofs.Kept.{keep_length}
 use Rattle.lists.proofs.Membership.{map_out}
@@ -64,7 +61,7 @@ module _ {es : List ℤ} {order : List ℕ} {count : ℕ} (p : BackwardRows es o
 
 -- ---- one pass from the last to the first
 
-module _ (es : List ℤ) (order marks : List ℕ) where
+module _ (es : List ℤ) (order : List ℕ) (marks : List Bool) where
   -- the leading rows of those from place i on
   abbrev leading_from : ℕ → List ℕ
   leading_from i = reverse (keep (enters_marked es marks) (drop i (take (length (edge_rows es)) order)))
@@ -114,12 +111,12 @@ module _ (es : List ℤ) (order marks : List ℕ) where
       below = omega (arith, s.within)
 
       -- the test of the row, by the mark of the node that it enters
-      test_at : enters_marked es marks (get_or order k 0) ≡ ltb 0 (get_or marks to 0)
+      test_at : enters_marked es marks (get_or order k 0) ≡ get_or marks to false
       unfolding enters_marked
-      test_at = ap (λ v. ltb 0 (get_or marks (nat_abs v) 0)) (sym q)
+      test_at = ap (λ v. get_or marks (nat_abs v) false) (sym q)
 
       -- the leading rows with one row more, by the test of it
-      leading_more : (t : Bool) → ltb 0 (get_or marks to 0) ≡ t
+      leading_more : (t : Bool) → get_or marks to false ≡ t
           → leading_from k ≡ cond t (leading_from (suc k) ++ (get_or order k 0 ∷ [])) (leading_from (suc k))
       unfolding keep
       leading_more t e =
@@ -137,10 +134,10 @@ module _ (es : List ℤ) (order marks : List ℕ) where
           turned false = refl
 
       -- a row that enters a marked node is stored
-      pub store_marked : get_or marks to 0 ≢ 0 → Storing old (set plan leading (get_or order k 0)) (leading + 1) k
+      pub store_marked : get_or marks to false ≡ true → Storing old (set plan leading (get_or order k 0)) (leading + 1) k
       store_marked m =
           let row = get_or order k 0 in
-          let more = leading_more true (is_true (ltb 0 (get_or marks to 0)) (of_test (ltb? 0 (get_or marks to 0)) (λ z. m (omega (arith, z))))) in
+          let more = leading_more true m in
           let place : leading ≡ 0 + length (leading_from (suc k)) = omega (arith, s.count) in
           record {
             within = omega (arith, below);
@@ -153,9 +150,9 @@ module _ (es : List ℤ) (order marks : List ℕ) where
           }
 
       -- any other is passed over
-      pub store_over : get_or marks to 0 ≡ 0 → Storing old plan leading k
+      pub store_over : get_or marks to false ≡ false → Storing old plan leading k
       store_over z =
-          let same = leading_more false (is_false (ltb 0 (get_or marks to 0)) (λ t. let m = test_of (ltb? 0 (get_or marks to 0)) t in omega (arith, m, z))) in
+          let same = leading_more false z in
           record { within = omega (arith, below); count = s.count ∙ ap length (sym same); stored = s.stored ∙ ap (sets old 0) (sym same) }
 
   -- behind the last turn the number of rows is stored

@@ -1,5 +1,5 @@
 -- What each pass that makes a part of a plan asks and leaves. Assumes nothing.
-use Rattle.std.specs.Prelude.{◌≡◌, Bool, ◌⊎◌, ◌↔◌, List, map, reverse, ℕ, suc, ◌+◌, ◌≤◌, ◌<◌, ltb, ℤ, pos, nat_abs, length, get_or, set, take}
+use Rattle.std.specs.Prelude.{◌≡◌, Bool, true, false, ◌⊎◌, ◌↔◌, List, map, reverse, ℕ, suc, ◌+◌, ◌≤◌, ◌<◌, ℤ, pos, nat_abs, length, get_or, set, take}
 use Rattle.std.proofs.lemmas.List.Edits.{sets}
 use Rattle.lists.specs.Lists.{◌∈◌, keep}
 use Rattle.model.specs.Rows.{Edge, node_rows, edge_rows}
@@ -14,25 +14,25 @@ use Rattle.entering.specs.Entering.{enters}
 use Rattle.pairing.specs.Pairs.{node_columns}
 use Rattle.forward.specs.Forward.{head_at, next_at, count_at, plan_room, nodes_in}
 
--- ---- marks: a number for each node, 0 where it is not marked
+-- ---- marks: one for each node
 
 -- exactly the nodes of which P is said are marked
-pub record Marking (marks : List ℕ) (P : ℤ → Type 0) : Type 0 where
-  pub each : (v : ℕ) → (0 < get_or marks v 0) ↔ P (pos v)
+pub record Marking (marks : List Bool) (P : ℤ → Type 0) : Type 0 where
+  pub each : (v : ℕ) → (get_or marks v false ≡ true) ↔ P (pos v)
 
 -- node v is marked
-abbrev pub Marked : List ℕ → ℤ → Type 0
-Marked marks v = (i : ℕ) × (pos i ≡ v) × (0 < get_or marks i 0)
+abbrev pub Marked : List Bool → ℤ → Type 0
+Marked marks v = (i : ℕ) × (pos i ≡ v) × (get_or marks i false ≡ true)
 
 -- v leads to a node of which P is said
 abbrev pub LeadsTo : Graph → (ℤ → Type 0) → ℤ → Type 0
 LeadsTo g P v = (l : ℤ) × P l × ((p : List Edge) × Way g v p l)
 
 -- what marking the nodes in a column of a pair table starts from: a mark for each of them, and none that is set
-pub record Markable (pairs : List ℤ) (column : ℕ) (marks : List ℕ) : Type 0 where
+pub record Markable (pairs : List ℤ) (column : ℕ) (marks : List Bool) : Type 0 where
   pub in_pair : column < node_columns
   pub within : (l : ℤ) → l ∈ nodes_in column pairs → Within (length marks) l
-  pub blank : (v : ℕ) → get_or marks v 0 ≡ 0
+  pub blank : (v : ℕ) → get_or marks v false ≡ false
 
 -- ---- a pass over the edges in backward order
 
@@ -44,17 +44,17 @@ pub record BackwardRows (es : List ℤ) (order : List ℕ) (count : ℕ) : Type 
   pub room : length (node_rows nodes) ≤ count
 
 -- the marks behind the pass: of the nodes that lead to a marked one. Ways go by edges, so the node table does not matter
-abbrev pub Spread : List ℤ → List ℕ → List ℕ → Type 0
+abbrev pub Spread : List ℤ → List Bool → List Bool → Type 0
 Spread es marks marks' = (ns : List ℤ) → Marking marks' (LeadsTo (graph_of ns es) (Marked marks))
 
 -- ---- the edges that lead on, from the roots down
 
 -- the edge row enters a marked node
-unfoldable pub enters_marked : List ℤ → List ℕ → ℕ → Bool
-enters_marked es marks e = ltb 0 (get_or marks (nat_abs (edge_at es e).to) 0)
+unfoldable pub enters_marked : List ℤ → List Bool → ℕ → Bool
+enters_marked es marks e = get_or marks (nat_abs (edge_at es e).to) false
 
 -- the edge rows in front of `order` that enter a marked node, the last of them first
-unfoldable pub leading_rows : List ℤ → List ℕ → List ℕ → List ℕ
+unfoldable pub leading_rows : List ℤ → List ℕ → List Bool → List ℕ
 leading_rows es order marks = reverse (keep (enters_marked es marks) (take (length (edge_rows es)) order))
 
 -- a plan that held `plan`, with these rows in front, and their number

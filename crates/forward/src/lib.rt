@@ -24,8 +24,7 @@ pub fn planned_count(plan: &[usize]) -> usize
     requires { length plan.now ≡ plan_room }
     ensures { result ≡ planned_count plan.now }
 {
-    let count = plan[COUNT_AT];
-    count
+    plan[COUNT_AT]
 }
 
 // Edge row i of those in forward order.
@@ -33,8 +32,7 @@ pub fn planned_row(plan: &[usize], i: usize) -> usize
     requires { i < length plan.now }
     ensures { result ≡ get_or plan.now i 0 }
 {
-    let row = plan[i];
-    row
+    plan[i]
 }
 
 // The first edge row that enters node v, the number of edges where there is none.
@@ -42,8 +40,7 @@ pub fn first_entering(plan: &[usize], v: usize) -> usize
     requires { head_at + v < length plan.now }
     ensures { result ≡ get_or plan.now (head_at + v) 0 }
 {
-    let row = plan[HEAD_AT + v];
-    row
+    plan[HEAD_AT + v]
 }
 
 // The edge row behind row e that enters the same node, the number of edges where there is none.
@@ -51,55 +48,44 @@ pub fn next_entering(plan: &[usize], e: usize) -> usize
     requires { next_at + e < length plan.now }
     ensures { result ≡ get_or plan.now (next_at + e) 0 }
 {
-    let row = plan[NEXT_AT + e];
-    row
+    plan[NEXT_AT + e]
 }
 
 // Marks the nodes in a column of a pair table.
-fn mark_leaves(pairs: &[i64], column: usize, marks: &mut [u8])
+fn mark_leaves(pairs: &[i64], column: usize, marks: &mut [bool])
     requires { Markable pairs.now column marks.old }
     ensures { Marking marks.new (λ v. v ∈ nodes_in column pairs.now) }
 {
-    let count = pairs.len() / PAIR_WIDTH;
-    let mut k = 0;
-    while k < count {
-        let v = pair_node(pairs, column, k);
-        marks[v] = 1;
-        k += 1;
+    for k in 0..pairs.len() / PAIR_WIDTH {
+        marks[pair_node(pairs, column, k)] = true;
     }
 }
 
 // Marks every node that leads to a marked one. One pass over the edges in an order that has each edge behind all edges that leave the node it enters.
-fn mark_leading(edges: &[i64], order: &[usize], marks: &mut [u8])
+fn mark_leading(edges: &[i64], order: &[usize], marks: &mut [bool])
     requires { BackwardRows edges.now order.now (length marks.old) }
     ensures { Spread edges.now marks.old marks.new }
 {
-    let count = edges.len() / EDGE_WIDTH;
-    let mut i = 0;
-    while i < count {
-        let e = order[i];
-        i += 1;
+    for &e in &order[..edges.len() / EDGE_WIDTH] {
         let from = edge_from(edges, e);
         let to = edge_to(edges, e);
-        if marks[to] != 0 {
-            marks[from] = 1;
+        if marks[to] {
+            marks[from] = true;
         }
     }
 }
 
 // Stores the rows of the edges that enter a marked node in front of a plan, in the order from the roots down, and how many they are.
-fn store_leading(edges: &[i64], order: &[usize], marks: &[u8], plan: &mut [usize])
+fn store_leading(edges: &[i64], order: &[usize], marks: &[bool], plan: &mut [usize])
     requires backward_rows { BackwardRows edges.now order.now (length marks.now) }
     requires plan_len { length plan.old ≡ plan_room }
     ensures { plan.new ≡ plan_with (leading_rows edges.now order.now marks.now) plan.old }
 {
     let mut leading = 0;
-    let mut i = edges.len() / EDGE_WIDTH;
-    while 0 < i {
-        i -= 1;
+    for i in (0..edges.len() / EDGE_WIDTH).rev() {
         let e = order[i];
         let to = edge_to(edges, e);
-        if marks[to] != 0 {
+        if marks[to] {
             plan[leading] = e;
             leading += 1;
         }
@@ -112,11 +98,7 @@ fn set_heads(plan: &mut [usize], count: usize, value: usize)
     requires { head_at + count ≤ length plan.old }
     ensures { HeadsSet count value plan.old plan.new }
 {
-    let mut v = 0;
-    while v < count {
-        plan[HEAD_AT + v] = value;
-        v += 1;
-    }
+    plan[HEAD_AT..HEAD_AT + count].fill(value);
 }
 
 // Makes edge e, which enters node `to`, the first of those that enter it.
@@ -135,11 +117,8 @@ fn link_entering(nodes: &[i64], edges: &[i64], plan: &mut [usize])
 {
     let count = edges.len() / EDGE_WIDTH;
     set_heads(plan, nodes.len() / NODE_WIDTH, count);
-    let mut e = count;
-    while 0 < e {
-        e -= 1;
-        let to = edge_to(edges, e);
-        link_first(plan, e, to);
+    for e in (0..count).rev() {
+        link_first(plan, e, edge_to(edges, e));
     }
 }
 
@@ -156,7 +135,7 @@ pub fn plan_graph(
     ensures planned { Planned nodes.now edges.now plan.new }
     ensures leading_to { LeadingTo nodes.now edges.now (nodes_in column pairs.now) plan.new }
 {
-    let mut marks = [0u8; MAX_NODES];
+    let mut marks = [false; MAX_NODES];
     mark_leaves(pairs, column, &mut marks);
     mark_leading(edges, order, &mut marks);
     link_entering(nodes, edges, plan);

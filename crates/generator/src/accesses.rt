@@ -1,63 +1,66 @@
 // Which nodes of a map are closed to a kind of walk: a node that is read only to writing walks, and one that is write only to reading walks.
-use crate::maps::Shape;
-use crate::numbers::{draw, less, rest, sum};
-use crate::rows;
-use crate::rows::{Map, READ_WRITE};
+use crate::draws::Draws;
+use crate::rows::{Access, Map};
 
-// How many nodes of a map are closed, as it is counted: none, a few, many.
-const NONE: usize = 0;
-
-const FEW: usize = 1;
-
-// Of four maps two have no closed node, one a few and one many.
-const CLOSED_DRAWS: usize = 4;
+// How many nodes of a map are closed.
+#[derive(Clone, Copy, PartialEq, Eq)]
+pub enum Closed {
+    Nowhere,
+    Few,
+    Many,
+}
 
 // One node in so many is closed where there are a few, and where there are many.
 const ONE_OF_FEW: usize = 5;
 
 const ONE_OF_MANY: usize = 2;
 
-// Accesses: read and write, read only, write only.
-const ACCESSES: usize = 3;
-
-// Draws how many nodes of a map are closed.
-pub fn draw_closed(seed: &mut usize) -> usize {
-    less(draw(seed, CLOSED_DRAWS), 1)
-}
-
-// An access other than this one.
-pub fn draw_other(access: usize, seed: &mut usize) -> usize {
-    rest(sum(access, sum(1, draw(seed, less(ACCESSES, 1)))), ACCESSES)
-}
-
-// The access of a node that is open to the other kind of walk alone.
-pub fn opposite(access: usize) -> usize {
-    less(ACCESSES, access)
-}
-
-// Draws the access of a node where one in so many is closed.
-fn draw_of(limit: usize, seed: &mut usize) -> usize {
-    if draw(seed, limit) > 0 {
-        return READ_WRITE;
+impl Closed {
+    // Draws how many nodes of a map are closed: of four maps two have no closed node, one a few and one many.
+    pub fn draw(draws: &mut Draws) -> Closed {
+        draws.pick(&[Closed::Nowhere, Closed::Nowhere, Closed::Few, Closed::Many])
     }
-    draw_other(READ_WRITE, seed)
-}
 
-// Draws the access of a node where none, a few or many are closed.
-fn draw_access(closed: usize, seed: &mut usize) -> usize {
-    match closed {
-        NONE => READ_WRITE,
-        FEW => draw_of(ONE_OF_FEW, seed),
-        _ => draw_of(ONE_OF_MANY, seed),
-    }
-}
-
-// Draws the access of every node.
-pub fn draw_accesses(map: &mut Map, shape: Shape, closed: usize, seed: &mut usize) {
-    for v in 0..rows::MAX_NODES {
-        if v >= shape.nodes {
-            return;
+    // Draws the access of a node.
+    fn draw_access(self, draws: &mut Draws) -> Access {
+        let limit = match self {
+            Closed::Nowhere => return Access::ReadWrite,
+            Closed::Few => ONE_OF_FEW,
+            Closed::Many => ONE_OF_MANY,
+        };
+        if draws.one_in(limit) {
+            Access::ReadWrite.draw_other(draws)
+        } else {
+            Access::ReadWrite
         }
-        rows::put_access(map, v, draw_access(closed, seed));
+    }
+}
+
+impl Access {
+    // An access other than this one.
+    pub fn draw_other(self, draws: &mut Draws) -> Access {
+        draws.pick(&match self {
+            Access::ReadOnly => [Access::WriteOnly, Access::ReadWrite],
+            Access::WriteOnly => [Access::ReadWrite, Access::ReadOnly],
+            _ => [Access::ReadOnly, Access::WriteOnly],
+        })
+    }
+
+    // The access of a node that is open to the other kind of walk alone.
+    pub fn opposite(self) -> Access {
+        match self {
+            Access::ReadOnly => Access::WriteOnly,
+            Access::WriteOnly => Access::ReadOnly,
+            _ => self,
+        }
+    }
+}
+
+impl Map {
+    // Draws the access of every node.
+    pub fn draw_accesses(&mut self, closed: Closed, draws: &mut Draws) {
+        for v in 0..self.shape.nodes {
+            self.put_access(v, closed.draw_access(draws));
+        }
     }
 }

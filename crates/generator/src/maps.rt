@@ -1,110 +1,37 @@
 // The generator of specification maps. In a plain map the roots come first, then the nodes between, then the leaves, and every edge leads to
 // a later node.
-use crate::numbers::{difference, draw, less, lowered, quotient, raised, rest, sum, times};
-use crate::rows;
-use crate::rows::{Map, Node};
-
-// The sizes of a plain map. `inner` counts roots and nodes between, `pairs` leaf rows.
-#[derive(Clone, Copy)]
-pub struct Shape {
-    pub roots: usize,
-    pub inner: usize,
-    pub leaves: usize,
-    pub nodes: usize,
-    pub edges: usize,
-    pub pairs: usize,
-}
+use crate::draws::Draws;
+use crate::numbers::{difference, lowered, quotient, raised, rest};
+use crate::rows::{Access, Edge, Kind, Map, Node, Shape};
 
 // Styles: how the nodes hang together.
-pub const TREE: usize = 0;
-
-const CHAIN: usize = 1;
-
-const FLAT: usize = 2;
-
-const DIAMONDS: usize = 3;
-
-const WINDOWS: usize = 4;
-
-pub const STYLES: usize = 5;
-
-// Units of a map: below this number the map has one unit for all its nodes, from it on the units are mixed.
-pub const UNITS: usize = 5;
-
-const BLOCK: usize = 2;
-
-// Bits of roots, nodes between and leaves: the first bit at most, the bits at least, and those that may come to them.
-const ROOT_LOW: usize = 128;
-
-const ROOT_LEAST: usize = 64;
-
-const ROOT_MORE: usize = 320;
-
-const INNER_LOW: usize = 128;
-
-const INNER_LEAST: usize = 96;
-
-const INNER_MORE: usize = 416;
-
-const LEAF_LOW: usize = 256;
-
-const LEAF_MORE: usize = 192;
-
-const WINDOW_BITS: usize = 128;
-
-// Bits of the gap between two windows at most, and the bits by which it begins below 0.
-const GAP_STEP: usize = 8;
-
-const SMALLEST_UNIT: usize = 8;
-
-const GAPS: usize = 6;
-
-const OVERLAP: usize = 16;
-
-pub fn unit_of(k: usize) -> usize {
-    match k {
-        0 => 8,
-        1 => 16,
-        2 => 32,
-        3 => 64,
-        _ => 128,
-    }
+#[derive(Clone, Copy, PartialEq, Eq)]
+pub enum Style {
+    Tree,
+    Chain,
+    Flat,
+    Diamonds,
+    Windows,
 }
 
-// The unit of a node: the map's own, or one drawn where units are mixed.
-fn draw_unit(units: usize, seed: &mut usize) -> usize {
-    if units < UNITS {
-        return unit_of(units);
-    }
-    unit_of(draw(seed, UNITS))
+impl Style {
+    // All styles, in the order in which they are drawn.
+    pub const ALL: [Style; 5] = [
+        Style::Tree,
+        Style::Chain,
+        Style::Flat,
+        Style::Diamonds,
+        Style::Windows,
+    ];
 }
 
-// How many roots, nodes between and leaves a map of this style has. Each leaf has one leaf row.
-pub fn draw_shape(style: usize, seed: &mut usize) -> Shape {
-    let roots = sum(1, draw(seed, 6) / 5);
-    let leaves = sum(1, draw(seed, 5) / 2);
-    let mut between = sum(1, draw(seed, 4));
-    if style == FLAT {
-        between = 0;
-    }
-    if style == WINDOWS {
-        between = sum(2, draw(seed, 3));
-    }
-    let inner = sum(roots, between);
-    let nodes = sum(inner, leaves);
-    let mut edges = sum(less(nodes, roots), draw(seed, 5));
-    if style == WINDOWS {
-        edges = sum(between, times(between, leaves));
-    }
-    Shape {
-        roots: roots,
-        inner: inner,
-        leaves: leaves,
-        nodes: nodes,
-        edges: edges,
-        pairs: leaves,
-    }
-}
+// Units of nodes. A map has one of them for all its nodes, or none of its own: then each node's is drawn.
+pub const UNITS: [usize; 5] = [8, 16, 32, 64, 128];
+
+// The smallest of them, and the largest.
+pub const SMALLEST_UNIT: usize = 8;
+
+pub const LARGEST_UNIT: usize = 128;
 
 // Bits of a node: the first at most, how many at least, and those that may come to them.
 #[derive(Clone, Copy)]
@@ -114,237 +41,281 @@ struct Bounds {
     more: usize,
 }
 
-// The bounds of node v by its part in the map.
-fn bounds_of(shape: Shape, v: usize) -> Bounds {
-    if v < shape.roots {
-        return Bounds {
-            low: ROOT_LOW,
-            least: ROOT_LEAST,
-            more: ROOT_MORE,
-        };
+// The bounds of roots, of nodes between and of leaves.
+const ROOT: Bounds = Bounds {
+    low: 128,
+    least: 64,
+    more: 320,
+};
+
+const INNER: Bounds = Bounds {
+    low: 128,
+    least: 96,
+    more: 416,
+};
+
+const LEAF: Bounds = Bounds {
+    low: 256,
+    least: 0,
+    more: 192,
+};
+
+// Bits of a window at most.
+const WINDOW_BITS: usize = 128;
+
+// Bits of the gap between two windows at most, and the bits by which it begins below 0.
+const GAP_STEP: usize = 8;
+
+const GAPS: usize = 6;
+
+const OVERLAP: usize = 16;
+
+// The unit of a node: the map's own, or one drawn where units are mixed.
+fn draw_unit(units: Option<usize>, draws: &mut Draws) -> usize {
+    match units {
+        Some(unit) => unit,
+        None => draws.pick(&UNITS),
     }
-    if v >= shape.inner {
-        return Bounds {
-            low: LEAF_LOW,
-            least: 0,
-            more: LEAF_MORE,
-        };
+}
+
+impl Shape {
+    // How many roots, nodes between and leaves a map of this style has. Each leaf has one leaf row.
+    pub fn draw(style: Style, draws: &mut Draws) -> Shape {
+        let roots = 1 + draws.below(6) / 5;
+        let leaves = 1 + draws.below(5) / 2;
+        let mut between = 1 + draws.below(4);
+        if style == Style::Flat {
+            between = 0;
+        }
+        if style == Style::Windows {
+            between = 2 + draws.below(3);
+        }
+        let inner = roots + between;
+        let nodes = inner + leaves;
+        let mut edges = between + leaves + draws.below(5);
+        if style == Style::Windows {
+            edges = between + between * leaves;
+        }
+        Shape {
+            roots,
+            inner,
+            leaves,
+            nodes,
+            edges,
+            pairs: leaves,
+        }
     }
-    Bounds {
-        low: INNER_LOW,
-        least: INNER_LEAST,
-        more: INNER_MORE,
+
+    // How many nodes stand between roots and leaves.
+    pub fn between(self) -> usize {
+        self.inner.saturating_sub(self.roots)
+    }
+
+    // The bounds of node v by its part in the map.
+    fn bounds_of(self, v: usize) -> Bounds {
+        if v < self.roots {
+            ROOT
+        } else if v < self.inner {
+            INNER
+        } else {
+            LEAF
+        }
+    }
+
+    // Draws the kind of node v.
+    fn draw_kind(self, v: usize, draws: &mut Draws) -> Kind {
+        if v < self.inner {
+            draws.pick(&[Kind::Space, Kind::Segment])
+        } else {
+            Kind::Block
+        }
+    }
+
+    // The node from which the first edge into node v comes.
+    fn draw_parent(self, v: usize, style: Style, draws: &mut Draws) -> usize {
+        let limit = self.inner.min(v);
+        match style {
+            Style::Chain => limit.saturating_sub(1),
+            Style::Flat => draws.below(self.roots),
+            _ => draws.below(limit),
+        }
+    }
+
+    // The node that edge e is the first to enter. Behind the nodes there is none.
+    fn entered(self, e: usize) -> Option<usize> {
+        let v = self.roots.saturating_add(e);
+        if v < self.nodes { Some(v) } else { None }
+    }
+
+    // Draws the ends of edge e: one edge into each node, then those that a map would hang together without.
+    fn draw_ends(self, e: usize, style: Style, draws: &mut Draws) -> (usize, usize) {
+        if let Some(to) = self.entered(e) {
+            return (self.draw_parent(to, style, draws), to);
+        }
+        let mut to = self
+            .roots
+            .saturating_add(draws.below(self.nodes.saturating_sub(self.roots)));
+        if style == Style::Diamonds {
+            to = self.inner.saturating_add(draws.below(self.leaves));
+        }
+        (self.draw_parent(to, Style::Tree, draws), to)
+    }
+
+    // Whether edge e is put beside an earlier one.
+    fn is_beside(self, e: usize, style: Style, draws: &mut Draws) -> bool {
+        self.entered(e).is_none() && style != Style::Diamonds && draws.one_in(2)
     }
 }
 
 // Draws a node of this kind and unit within its bounds.
-fn draw_within(kind: usize, unit: usize, bounds: Bounds, seed: &mut usize) -> Node {
-    let mut base: usize = 0;
-    if draw(seed, 2) == 0 {
-        base = draw(seed, sum(1, quotient(bounds.low, unit)));
+fn draw_within(kind: Kind, unit: usize, bounds: Bounds, draws: &mut Draws) -> Node {
+    let mut base = 0;
+    if draws.one_in(2) {
+        base = draws.below(quotient(bounds.low, unit).saturating_add(1));
     }
-    let bits = sum(bounds.least, draw(seed, bounds.more));
+    let bits = bounds.least.saturating_add(draws.below(bounds.more));
     Node {
-        kind: kind,
-        base: base,
-        range: sum(1, quotient(bits, unit)),
-        unit: unit,
-        access: rows::READ_WRITE,
+        kind,
+        base,
+        range: quotient(bits, unit).saturating_add(1),
+        unit,
+        access: Access::ReadWrite,
     }
-}
-
-// The bit behind the window before window v. Before the first stands the root's first bit.
-fn window_end(map: &Map, v: usize, shape: Shape) -> usize {
-    if v == shape.roots {
-        return rows::first_bit(map, 0);
-    }
-    rows::end_bit(map, less(v, 1))
 }
 
 // Draws a window near the end of the window before it: at that end, or some bits above or below.
-fn draw_window(kind: usize, own: usize, end: usize, seed: &mut usize) -> Node {
-    let mut unit = own;
-    if draw(seed, 2) == 0 {
-        unit = SMALLEST_UNIT;
-    }
-    let gap = times(GAP_STEP, draw(seed, GAPS));
+fn draw_window(kind: Kind, own: usize, end: usize, draws: &mut Draws) -> Node {
+    let unit = if draws.one_in(2) { SMALLEST_UNIT } else { own };
+    let gap = GAP_STEP * draws.below(GAPS);
+    let first = end.saturating_add(gap).saturating_sub(OVERLAP);
     Node {
-        kind: kind,
-        base: quotient(less(sum(end, gap), OVERLAP), unit),
-        range: sum(1, quotient(draw(seed, WINDOW_BITS), unit)),
-        unit: unit,
-        access: rows::READ_WRITE,
+        kind,
+        base: quotient(first, unit),
+        range: quotient(draws.below(WINDOW_BITS), unit).saturating_add(1),
+        unit,
+        access: Access::ReadWrite,
     }
-}
-
-fn draw_kind(shape: Shape, v: usize, seed: &mut usize) -> usize {
-    if v < shape.inner {
-        return draw(seed, BLOCK);
-    }
-    BLOCK
-}
-
-// Whether node v is one of a row of windows.
-fn is_window(shape: Shape, style: usize, v: usize) -> bool {
-    if style != WINDOWS {
-        return false;
-    }
-    if v < shape.roots {
-        return false;
-    }
-    v < shape.inner
-}
-
-// Draws node v by its part in the map.
-fn draw_node(map: &mut Map, v: usize, shape: Shape, style: usize, units: usize, seed: &mut usize) {
-    let kind = draw_kind(shape, v, seed);
-    let unit = draw_unit(units, seed);
-    let mut node = draw_within(kind, unit, bounds_of(shape, v), seed);
-    if is_window(shape, style, v) {
-        node = draw_window(kind, unit, window_end(map, v, shape), seed);
-    }
-    rows::put_node(map, v, node);
-}
-
-pub fn draw_nodes(map: &mut Map, shape: Shape, style: usize, units: usize, seed: &mut usize) {
-    for v in 0..rows::MAX_NODES {
-        if v >= shape.nodes {
-            return;
-        }
-        draw_node(map, v, shape, style, units, seed);
-    }
-}
-
-// A bit of a node: its first, or one drawn.
-fn draw_bit(map: &Map, v: usize, seed: &mut usize) -> usize {
-    let first = rows::first_bit(map, v);
-    if draw(seed, 12) > 0 {
-        return first;
-    }
-    sum(first, draw(seed, rows::bit_count(map, v)))
-}
-
-// An offset by which some bit of node u comes to some bit of node v, or near it.
-fn draw_offset(map: &Map, u: usize, v: usize, seed: &mut usize) -> i64 {
-    let unit = rows::node_size(map, v, rows::UNIT);
-    let from = draw_bit(map, u, seed);
-    let to = draw_bit(map, v, seed);
-    difference(quotient(from, unit), quotient(to, unit))
-}
-
-// The node from which the first edge into node v comes.
-fn draw_parent(shape: Shape, v: usize, style: usize, seed: &mut usize) -> usize {
-    let mut limit = shape.inner;
-    if v < limit {
-        limit = v;
-    }
-    if style == CHAIN {
-        return less(limit, 1);
-    }
-    if style == FLAT {
-        return draw(seed, shape.roots);
-    }
-    draw(seed, limit)
 }
 
 // An offset moved by a few units, or not at all.
-fn draw_near(offset: i64, seed: &mut usize) -> i64 {
-    match draw(seed, 4) {
+fn draw_near(offset: i64, draws: &mut Draws) -> i64 {
+    match draws.below(4) {
         0 => offset,
         1 => raised(offset, 1),
         2 => lowered(offset, 1),
-        _ => raised(offset, sum(1, draw(seed, 6))),
+        _ => raised(offset, 1 + draws.below(6)),
     }
 }
 
-// Puts an edge beside an earlier one.
-fn put_beside(map: &mut Map, e: usize, seed: &mut usize) {
-    let other = rows::edge_of(map, draw(seed, e));
-    let offset = draw_near(other.offset, seed);
-    rows::put_edge(map, e, other.from, other.to, offset);
-}
-
-// The ends of an edge.
-#[derive(Clone, Copy)]
-struct Ends {
-    from: usize,
-    to: usize,
-}
-
-// Draws the ends of edge e: one edge into each node, then those that a map would hang together without.
-fn draw_ends(shape: Shape, e: usize, style: usize, seed: &mut usize) -> Ends {
-    let mut to = sum(shape.roots, e);
-    let mut way = style;
-    if to >= shape.nodes {
-        to = sum(shape.roots, draw(seed, less(shape.nodes, shape.roots)));
-        way = TREE;
-    }
-    if style == DIAMONDS {
-        if sum(shape.roots, e) >= shape.nodes {
-            to = sum(shape.inner, draw(seed, shape.leaves));
+impl Map {
+    // The bit behind the window before window v. Before the first stands the root's first bit.
+    fn window_end(&self, v: usize) -> usize {
+        if v == self.shape.roots {
+            self.node(0).first_bit()
+        } else {
+            self.node(v.saturating_sub(1)).end_bit()
         }
     }
-    Ends {
-        from: draw_parent(shape, to, way, seed),
-        to: to,
-    }
-}
 
-// Whether edge e is put beside an earlier one.
-fn is_beside(shape: Shape, e: usize, style: usize, seed: &mut usize) -> bool {
-    if sum(shape.roots, e) < shape.nodes {
-        return false;
-    }
-    if style == DIAMONDS {
-        return false;
-    }
-    draw(seed, 2) == 0
-}
-
-// The offset of an edge from a window to leaf v: of one displacement for all windows, or sometimes a unit off.
-fn window_offset(map: &Map, shape: Shape, v: usize, seed: &mut usize) -> i64 {
-    let unit = rows::node_size(map, v, rows::UNIT);
-    let first = quotient(rows::first_bit(map, shape.roots), unit);
-    let offset = difference(first, rows::node_size(map, v, rows::BASE));
-    if draw(seed, 4) == 0 {
-        return draw_near(offset, seed);
-    }
-    offset
-}
-
-// Puts edge e of a row of windows: one from a root to each window, then one from each window to each leaf.
-fn put_window_edge(map: &mut Map, e: usize, shape: Shape, seed: &mut usize) {
-    let between = less(shape.inner, shape.roots);
-    if e < between {
-        rows::put_edge(map, e, draw(seed, shape.roots), sum(shape.roots, e), 0);
-        return;
-    }
-    let k = less(e, between);
-    let v = sum(shape.inner, quotient(k, between));
-    let offset = window_offset(map, shape, v, seed);
-    rows::put_edge(map, e, sum(shape.roots, rest(k, between)), v, offset);
-}
-
-// Draws edge e.
-fn draw_edge(map: &mut Map, e: usize, shape: Shape, style: usize, seed: &mut usize) {
-    if style == WINDOWS {
-        put_window_edge(map, e, shape, seed);
-        return;
-    }
-    if is_beside(shape, e, style, seed) {
-        put_beside(map, e, seed);
-        return;
-    }
-    let ends = draw_ends(shape, e, style, seed);
-    let offset = draw_offset(map, ends.from, ends.to, seed);
-    rows::put_edge(map, e, ends.from, ends.to, offset);
-}
-
-pub fn draw_edges(map: &mut Map, shape: Shape, style: usize, seed: &mut usize) {
-    for e in 0..rows::MAX_EDGES {
-        if e >= shape.edges {
-            return;
+    // Draws node v by its part in the map.
+    fn draw_node(&mut self, v: usize, style: Style, units: Option<usize>, draws: &mut Draws) {
+        let shape = self.shape;
+        let kind = shape.draw_kind(v, draws);
+        let unit = draw_unit(units, draws);
+        let mut node = draw_within(kind, unit, shape.bounds_of(v), draws);
+        if style == Style::Windows && (shape.roots..shape.inner).contains(&v) {
+            node = draw_window(kind, unit, self.window_end(v), draws);
         }
-        draw_edge(map, e, shape, style, seed);
+        self.put_node(v, node);
+    }
+
+    // Draws every node.
+    pub fn draw_nodes(&mut self, style: Style, units: Option<usize>, draws: &mut Draws) {
+        for v in 0..self.shape.nodes {
+            self.draw_node(v, style, units, draws);
+        }
+    }
+
+    // A bit of a node: its first, or one drawn.
+    fn draw_bit(&self, v: usize, draws: &mut Draws) -> usize {
+        let node = self.node(v);
+        if draws.one_in(12) {
+            return node
+                .first_bit()
+                .saturating_add(draws.below(node.bit_count()));
+        }
+        node.first_bit()
+    }
+
+    // An offset by which some bit of node u comes to some bit of node v, or near it.
+    fn draw_offset(&self, u: usize, v: usize, draws: &mut Draws) -> i64 {
+        let unit = self.node(v).unit;
+        let from = self.draw_bit(u, draws);
+        let to = self.draw_bit(v, draws);
+        difference(quotient(from, unit), quotient(to, unit))
+    }
+
+    // An edge beside one of those before edge e.
+    fn draw_beside(&self, e: usize, draws: &mut Draws) -> Edge {
+        let other = self.edge(draws.below(e));
+        Edge {
+            offset: draw_near(other.offset, draws),
+            ..other
+        }
+    }
+
+    // The offset of an edge from a window to leaf v: of one displacement for all windows, or sometimes a unit off.
+    fn window_offset(&self, v: usize, draws: &mut Draws) -> i64 {
+        let leaf = self.node(v);
+        let first = quotient(self.node(self.shape.roots).first_bit(), leaf.unit);
+        let offset = difference(first, leaf.base);
+        if draws.one_in(4) {
+            return draw_near(offset, draws);
+        }
+        offset
+    }
+
+    // Edge e of a row of windows: one from a root to each window, then one from each window to each leaf.
+    fn draw_window_edge(&self, e: usize, draws: &mut Draws) -> Edge {
+        let shape = self.shape;
+        let between = shape.between();
+        if e < between {
+            return Edge {
+                from: draws.below(shape.roots),
+                to: shape.roots.saturating_add(e),
+                offset: 0,
+            };
+        }
+        let k = e - between;
+        let to = shape.inner.saturating_add(quotient(k, between));
+        Edge {
+            from: shape.roots.saturating_add(rest(k, between)),
+            to,
+            offset: self.window_offset(to, draws),
+        }
+    }
+
+    // Draws edge e.
+    fn draw_edge(&self, e: usize, style: Style, draws: &mut Draws) -> Edge {
+        if style == Style::Windows {
+            return self.draw_window_edge(e, draws);
+        }
+        if self.shape.is_beside(e, style, draws) {
+            return self.draw_beside(e, draws);
+        }
+        let (from, to) = self.shape.draw_ends(e, style, draws);
+        Edge {
+            from,
+            to,
+            offset: self.draw_offset(from, to, draws),
+        }
+    }
+
+    // Draws every edge.
+    pub fn draw_edges(&mut self, style: Style, draws: &mut Draws) {
+        for e in 0..self.shape.edges {
+            let edge = self.draw_edge(e, style, draws);
+            self.put_edge(e, edge);
+        }
     }
 }

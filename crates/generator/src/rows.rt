@@ -1,168 +1,275 @@
-// Tables, number by number: those that the calls under test are handed, and maps, in which the tables stand one behind the other.
-use crate::numbers::{at, bits, less, number, put, size, sum, times};
+// Maps, row by row.
+ghost use Rattle.std.specs.Prelude.{◌≡◌, ◌≤◌, ◌<◌, IsTrue, length};
 
-// Numbers of a node row, and of an edge row or a pair row.
-pub const NODE_WIDTH: usize = 5;
-
-pub const EDGE_WIDTH: usize = 3;
-
-// Rows of a map at most: nodes, edges and leaf rows. Root rows are two at most.
+// Rows of a map at most.
 pub const MAX_NODES: usize = 24;
 
 pub const MAX_EDGES: usize = 64;
 
+pub const MAX_ROOTS: usize = 2;
+
 pub const MAX_LEAVES: usize = 8;
 
-// Where the tables of a map begin: the node rows at 0, then the edge rows, the root rows and the leaf rows.
-pub const EDGES_AT: usize = 120;
+// Kinds of nodes.
+#[derive(Clone, Copy, PartialEq, Eq)]
+pub enum Kind {
+    Space,
+    Segment,
+    Block,
+}
 
-pub const ROOTS_AT: usize = 312;
+// Accesses of nodes. An unknown one is a number that no node may have as its access.
+#[derive(Clone, Copy, PartialEq, Eq)]
+pub enum Access {
+    ReadWrite,
+    ReadOnly,
+    WriteOnly,
+    Unknown(i64),
+}
 
-pub const LEAVES_AT: usize = 318;
-
-pub const MAP_NUMBERS: usize = 342;
-
-// A map: a graph, and of an implementation its pairing with the specification.
-pub type Map = [i64; MAP_NUMBERS];
-
-// Columns of a node row, of an edge row and of a pair row.
-pub const KIND: usize = 0;
-
-pub const BASE: usize = 1;
-
-pub const RANGE: usize = 2;
-
-pub const UNIT: usize = 3;
-
-pub const ACCESS: usize = 4;
-
-pub const FROM: usize = 0;
-
-pub const TO: usize = 1;
-
-pub const OFFSET: usize = 2;
-
-pub const SPEC: usize = 0;
-
-pub const IMPL: usize = 1;
-
-pub const AT: usize = 2;
-
-// Access of a node: read and write, read only, write only.
-pub const READ_WRITE: usize = 0;
-
-pub const READ_ONLY: usize = 1;
-
-pub const WRITE_ONLY: usize = 2;
-
-// A place that no table has.
-const NOWHERE: usize = 1000000;
+// The number of an access in a node row.
+impl From<Access> for i64 {
+    fn from(access: Access) -> i64 {
+        match access {
+            Access::ReadWrite => 0,
+            Access::ReadOnly => 1,
+            Access::WriteOnly => 2,
+            Access::Unknown(number) => number,
+        }
+    }
+}
 
 // A node row.
-#[derive(Clone, Copy)]
+#[derive(Clone, Copy, PartialEq, Eq)]
 pub struct Node {
-    pub kind: usize,
+    pub kind: Kind,
     pub base: usize,
     pub range: usize,
     pub unit: usize,
-    pub access: usize,
+    pub access: Access,
 }
 
 // An edge row.
-#[derive(Clone, Copy)]
+#[derive(Clone, Copy, PartialEq, Eq)]
 pub struct Edge {
     pub from: usize,
     pub to: usize,
     pub offset: i64,
 }
 
-// The place of a number of a row, in a table whose rows have this width.
-pub fn place(width: usize, row: usize, column: usize) -> usize {
-    if row >= NOWHERE {
-        return NOWHERE;
+// A root row or a leaf row: a node of the specification, a node of the implementation, and the leaf bit at which the bank begins.
+#[derive(Clone, Copy, PartialEq, Eq)]
+pub struct Pair {
+    pub spec: usize,
+    pub other: usize,
+    pub at: i64,
+}
+
+// What stands in rows that are not given.
+const NO_NODE: Node = Node {
+    kind: Kind::Space,
+    base: 0,
+    range: 0,
+    unit: 0,
+    access: Access::ReadWrite,
+};
+
+const NO_EDGE: Edge = Edge {
+    from: 0,
+    to: 0,
+    offset: 0,
+};
+
+const NO_PAIR: Pair = Pair {
+    spec: 0,
+    other: 0,
+    at: 0,
+};
+
+// The sizes of a map. `inner` counts roots and nodes between, `pairs` leaf rows.
+#[derive(Clone, Copy, PartialEq, Eq)]
+pub struct Shape {
+    pub roots: usize,
+    pub inner: usize,
+    pub leaves: usize,
+    pub nodes: usize,
+    pub edges: usize,
+    pub pairs: usize,
+}
+
+// A map: a graph, and of an implementation its pairing with the specification. A row that is not there reads as zeros, and none is written in its place.
+#[derive(Clone, Copy)]
+pub struct Map {
+    pub shape: Shape,
+    nodes: [Node; MAX_NODES],
+    edges: [Edge; MAX_EDGES],
+    roots: [Pair; MAX_ROOTS],
+    leaves: [Pair; MAX_LEAVES],
+}
+
+impl Node {
+    // The first bit of a node.
+    pub fn first_bit(self) -> usize {
+        self.base.saturating_mul(self.unit)
     }
-    sum(times(row, width), column)
-}
 
-// A number of a node row.
-pub fn node_size(map: &Map, v: usize, column: usize) -> usize {
-    size(at(map, place(NODE_WIDTH, v, column)))
-}
+    // The bit after the last bit of a node.
+    pub fn end_bit(self) -> usize {
+        self.base
+            .saturating_add(self.range)
+            .saturating_mul(self.unit)
+    }
 
-pub fn node_of(map: &Map, v: usize) -> Node {
-    Node {
-        kind: node_size(map, v, KIND),
-        base: node_size(map, v, BASE),
-        range: node_size(map, v, RANGE),
-        unit: node_size(map, v, UNIT),
-        access: node_size(map, v, ACCESS),
+    // How many bits a node has.
+    pub fn bit_count(self) -> usize {
+        self.end_bit().saturating_sub(self.first_bit())
+    }
+
+    // Whether an address lies between the first and the last bit of a node.
+    pub fn has(self, address: usize) -> bool {
+        (self.first_bit()..self.end_bit()).contains(&address)
     }
 }
 
-// The first bit of a node.
-pub fn first_bit(map: &Map, v: usize) -> usize {
-    bits(node_size(map, v, BASE), node_size(map, v, UNIT))
-}
-
-// The bit after the last bit of a node.
-pub fn end_bit(map: &Map, v: usize) -> usize {
-    let units = sum(node_size(map, v, BASE), node_size(map, v, RANGE));
-    bits(units, node_size(map, v, UNIT))
-}
-
-// How many bits a node has.
-pub fn bit_count(map: &Map, v: usize) -> usize {
-    less(end_bit(map, v), first_bit(map, v))
-}
-
-// Sets a number of a node row.
-fn put_size(map: &mut Map, v: usize, column: usize, count: usize) {
-    put(map, place(NODE_WIDTH, v, column), number(count));
-}
-
-pub fn put_node(map: &mut Map, v: usize, node: Node) {
-    put_size(map, v, KIND, node.kind);
-    put_size(map, v, BASE, node.base);
-    put_size(map, v, RANGE, node.range);
-    put_size(map, v, UNIT, node.unit);
-    put_size(map, v, ACCESS, node.access);
-}
-
-// Gives a node another access.
-pub fn put_access(map: &mut Map, v: usize, access: usize) {
-    put_size(map, v, ACCESS, access);
-}
-
-// A number of a row of three, in the table of a map that begins at `first`.
-pub fn number_in(map: &Map, first: usize, row: usize, column: usize) -> i64 {
-    at(map, sum(first, place(EDGE_WIDTH, row, column)))
-}
-
-// The node that a row of three names in a column.
-pub fn node_in(map: &Map, first: usize, row: usize, column: usize) -> usize {
-    size(number_in(map, first, row, column))
-}
-
-pub fn edge_of(map: &Map, e: usize) -> Edge {
-    Edge {
-        from: node_in(map, EDGES_AT, e, FROM),
-        to: node_in(map, EDGES_AT, e, TO),
-        offset: number_in(map, EDGES_AT, e, OFFSET),
+impl Map {
+    // A map of these sizes whose rows are all zeros.
+    pub fn empty(shape: Shape) -> Map
+        ensures { result.shape ≡ shape }
+    {
+        Map {
+            shape,
+            nodes: [NO_NODE; MAX_NODES],
+            edges: [NO_EDGE; MAX_EDGES],
+            roots: [NO_PAIR; MAX_ROOTS],
+            leaves: [NO_PAIR; MAX_LEAVES],
+        }
     }
-}
 
-// Sets a number of a row of three.
-pub fn put_in(map: &mut Map, first: usize, row: usize, column: usize, number: i64) {
-    put(map, sum(first, place(EDGE_WIDTH, row, column)), number);
-}
+    // The node rows.
+    pub fn nodes(&self) -> &[Node]
+        ensures { length result.now ≤ MAX_NODES }
+    {
+        &self.nodes[..self.shape.nodes.min(MAX_NODES)]
+    }
 
-// Sets a row of three: an edge or a pair.
-pub fn put_row(map: &mut Map, first: usize, row: usize, left: usize, right: usize, last: i64) {
-    put_in(map, first, row, 0, number(left));
-    put_in(map, first, row, 1, number(right));
-    put_in(map, first, row, 2, last);
-}
+    // The edge rows.
+    pub fn edges(&self) -> &[Edge]
+        ensures { length result.now ≤ MAX_EDGES }
+    {
+        &self.edges[..self.shape.edges.min(MAX_EDGES)]
+    }
 
-pub fn put_edge(map: &mut Map, e: usize, from: usize, to: usize, offset: i64) {
-    put_row(map, EDGES_AT, e, from, to, offset);
+    // The root rows.
+    pub fn roots(&self) -> &[Pair]
+        ensures { length result.now ≤ MAX_ROOTS }
+    {
+        &self.roots[..self.shape.roots.min(MAX_ROOTS)]
+    }
+
+    // The leaf rows.
+    pub fn leaves(&self) -> &[Pair]
+        ensures { length result.now ≤ MAX_LEAVES }
+    {
+        &self.leaves[..self.shape.pairs.min(MAX_LEAVES)]
+    }
+
+    // A node row.
+    pub fn node(&self, v: usize) -> Node {
+        self.nodes.get(v).copied().unwrap_or(NO_NODE)
+    }
+
+    // An edge row.
+    pub fn edge(&self, e: usize) -> Edge {
+        self.edges.get(e).copied().unwrap_or(NO_EDGE)
+    }
+
+    // A root row.
+    pub fn root(&self, row: usize) -> Pair {
+        self.roots.get(row).copied().unwrap_or(NO_PAIR)
+    }
+
+    // A leaf row.
+    pub fn leaf(&self, row: usize) -> Pair {
+        self.leaves.get(row).copied().unwrap_or(NO_PAIR)
+    }
+
+    // Sets a node row.
+    pub fn put_node(&mut self, v: usize, node: Node)
+        ensures { self.new.shape ≡ self.old.shape }
+    {
+        if let Some(row) = self.nodes.get_mut(v) {
+            *row = node;
+        }
+    }
+
+    // Sets an edge row.
+    pub fn put_edge(&mut self, e: usize, edge: Edge)
+        ensures { self.new.shape ≡ self.old.shape }
+    {
+        if let Some(row) = self.edges.get_mut(e) {
+            *row = edge;
+        }
+    }
+
+    // Sets a root row.
+    pub fn put_root(&mut self, row: usize, pair: Pair)
+        ensures { self.new.shape ≡ self.old.shape }
+    {
+        if let Some(place) = self.roots.get_mut(row) {
+            *place = pair;
+        }
+    }
+
+    // Sets a leaf row.
+    pub fn put_leaf(&mut self, row: usize, pair: Pair)
+        ensures { self.new.shape ≡ self.old.shape }
+    {
+        if let Some(place) = self.leaves.get_mut(row) {
+            *place = pair;
+        }
+    }
+
+    // Adds a node row behind the others, if there is room.
+    pub fn push_node(&mut self, node: Node) {
+        if let Some(row) = self.nodes.get_mut(self.shape.nodes) {
+            *row = node;
+            self.shape.nodes += 1;
+        }
+    }
+
+    // Adds an edge row behind the others, if there is room.
+    pub fn push_edge(&mut self, edge: Edge) {
+        if let Some(row) = self.edges.get_mut(self.shape.edges) {
+            *row = edge;
+            self.shape.edges += 1;
+        }
+    }
+
+    // Adds a leaf row behind the others, if there is room.
+    pub fn push_leaf(&mut self, pair: Pair) {
+        if let Some(row) = self.leaves.get_mut(self.shape.pairs) {
+            *row = pair;
+            self.shape.pairs += 1;
+        }
+    }
+
+    // Gives a node another access.
+    pub fn put_access(&mut self, v: usize, access: Access)
+        ensures { self.new.shape ≡ self.old.shape }
+    {
+        self.put_node(
+            v,
+            Node {
+                access,
+                ..self.node(v)
+            },
+        );
+    }
+
+    // Whether a map has room for one more node, and for each of its edges once more.
+    pub fn has_room(&self) -> bool
+        ensures { IsTrue result → self.now.shape.nodes < MAX_NODES }
+    {
+        self.shape.nodes < MAX_NODES && self.shape.edges.saturating_mul(2) < MAX_EDGES
+    }
 }

@@ -29,13 +29,10 @@ fn put_rows(out: &mut [u8], table: &[i64], width: usize, front: usize, n: usize)
     requires { (0 < front) × (front ≤ width) × (width * n ≤ length table.now) × (length (row_lines width front table.now n) ≤ length out.old) }
     ensures { Put (row_lines width front table.now n) out.old out.new result }
 {
-    let mut at: usize = 0;
-    let mut i: usize = 0;
-    while i < n {
+    let mut at = 0;
+    for i in 0..n {
         let start = width * i;
-        let end = start + front;
-        at += put_row(&mut out[at..], &table[start..end]);
-        i += 1;
+        at += put_row(&mut out[at..], &table[start..start + front]);
     }
     at
 }

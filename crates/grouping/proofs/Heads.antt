@@ -8,7 +8,7 @@ use native.Mathlib.Omega.{arith}
 use lib.Dec.{eqb}
 use lib.IntN.{ℤ, pos}
 use lib.Signed.{◌≤ℤ◌}
-use lib.ListN.{length, get_or, set}
+use lib.ListN.{length, get_or, set, replicate, get_or-replicate}
 use lib.Seq.{get_or-set_same, get_or-set_other}
 use Rattle.integers.proofs.Linear.{ints}
 use Rattle.integers.proofs.Tests.{Test, passed, failed, eq?}
@@ -33,35 +33,14 @@ module _ (pairs : List ℤ) where
   pub leaf-below : {nodes : ℕ} → LeavesWithin pairs nodes → (k v : ℕ) → k < length pairs / pair_width → pos v ≡ (pair_at pairs k).spec → v < nodes
   leaf-below w k v h q = omega (arith, ints, q, (w (pair_at pairs k) (pair_member pairs k h)).high)
 
-  -- ---- heads that are set to the number of rows
-
-  -- the heads of the leaves of the first k rows are set
-  pub record HeadsSet (k : ℕ) (head : List ℕ) : Type 0 where
-    pub each : (j v : ℕ) → j < k → pos v ≡ (pair_at pairs j).spec → get_or head v 0 ≡ length pairs / pair_width
-
-  -- before the first
-  pub heads-start : (head : List ℕ) → HeadsSet 0 head
-  heads-start head = record { each = λ j v h q. absurd (omega (arith, h)) }
-
-  -- one more
-  pub heads-next : {head : List ℕ} (k v : ℕ) → v < length head → pos v ≡ (pair_at pairs k).spec → HeadsSet k head
-      → HeadsSet (k + 1) (set head v (length pairs / pair_width))
-  heads-next {head} k v h q s = record { each = λ j u b r. go j u b r (eqb u v) (eq? u v) }
-    where
-      go : (j u : ℕ) → j < k + 1 → pos u ≡ (pair_at pairs j).spec → (t : Bool) → Test (u ≡ v) (u ≢ v) t
-          → get_or (set head v (length pairs / pair_width)) u 0 ≡ length pairs / pair_width
-      go j u b r true (passed e) = rw e (get_or-set_same head v (length pairs / pair_width) 0 h)
-      go j u b r false (failed n) =
-          let other : j ≢ k = λ e. let z : pos u ≡ pos v = r ∙ ap (λ i. (pair_at pairs i).spec) e ∙ sym q in n (omega (arith, ints, z)) in
-          get_or-set_other head v u (length pairs / pair_width) 0 n ∙ s.each j u (omega (arith, b, other)) r
-
-  -- behind the last row there is none
-  pub heads_end : {k : ℕ} {head : List ℕ} → length pairs / pair_width ≤ k → HeadsSet k head → HeadsFrom pairs (length pairs / pair_width) head
-  heads_end b s =
+  -- behind the last row there is none: where every head is the number of rows, each is as it is from there on
+  pub heads_begun : (nodes : ℕ) → LeavesWithin pairs nodes → HeadsFrom pairs (length pairs / pair_width) (replicate nodes (length pairs / pair_width))
+  heads_begun nodes w =
       let count = length pairs / pair_width in
       record {
         each = λ j v h q.
-            s.each j v (omega (arith, b, h)) q ∙ sym (first_row_end (same_spec (pair_at pairs j)) count (pair_rows pairs) (omega (arith, pairs_length pairs)) ∙ pairs_length pairs);
+            get_or-replicate nodes v count 0 (leaf-below w j v h q)
+            ∙ sym (first_row_end (same_spec (pair_at pairs j)) count (pair_rows pairs) (omega (arith, pairs_length pairs)) ∙ pairs_length pairs);
       }
 
   -- ---- heads that move on by one row

@@ -7,7 +7,7 @@ ghost use Rattle.model.specs.Rows.{pair_rows};
 ghost use Rattle.model.specs.Compare.{group};
 ghost use Rattle.tables.specs.Tables.{pair_at};
 ghost use Rattle.grouping.specs.Links.{next_at, link_room, group_count, group_row, next_row, Linked, Linkable, Passing};
-ghost use Rattle.grouping.specs.Passes.{LeavesWithin, HeadsFrom, Headed, RowsLinked, lowest_numbers, links_with};
+ghost use Rattle.grouping.specs.Passes.{Headed, RowsLinked, lowest_numbers, links_with};
 ghost use Rattle.grouping.specs.Totals.{bank_total, Summable};
 
 use model::{MAX_NODES, PAIR_WIDTH};
@@ -25,8 +25,7 @@ pub fn group_count(links: &[usize]) -> usize
     requires { length links.now ≡ link_room }
     ensures { result ≡ group_count links.now }
 {
-    let count = links[COUNT_AT];
-    count
+    links[COUNT_AT]
 }
 
 // The lowest row of group k.
@@ -34,8 +33,7 @@ pub fn group_row(links: &[usize], k: usize) -> usize
     requires { k < length links.now }
     ensures { result ≡ group_row links.now k }
 {
-    let row = links[k];
-    row
+    links[k]
 }
 
 // The row behind a row in its group, the number of leaf rows where there is none.
@@ -43,22 +41,7 @@ pub fn next_row(links: &[usize], row: usize) -> usize
     requires { next_at + row < length links.now }
     ensures { result ≡ next_row links.now row }
 {
-    let next = links[NEXT_AT + row];
-    next
-}
-
-// Sets the head of each specification leaf to the number of leaf rows, which stands for none.
-fn set_heads(pairs: &[i64], head: &mut [usize])
-    requires { LeavesWithin pairs.now (length head.old) }
-    ensures { HeadsFrom pairs.now (length pairs.now / pair_width) head.new }
-{
-    let count = pairs.len() / PAIR_WIDTH;
-    let mut row = 0;
-    while row < count {
-        let v = pair_node(pairs, SPEC_COLUMN, row);
-        head[v] = count;
-        row += 1;
-    }
+    links[NEXT_AT + row]
 }
 
 // Links the rows of each group, from the last row to the first: head[v] is the lowest row with specification leaf v.
@@ -66,9 +49,7 @@ fn link_rows(pairs: &[i64], head: &mut [usize], links: &mut [usize])
     requires { Headed pairs.now (length pairs.now / pair_width) head.old links.old }
     ensures { RowsLinked pairs.now head.new links.new }
 {
-    let mut row = pairs.len() / PAIR_WIDTH;
-    while 0 < row {
-        row -= 1;
+    for row in (0..pairs.len() / PAIR_WIDTH).rev() {
         let leaf = pair_node(pairs, SPEC_COLUMN, row);
         let next = head[leaf];
         links[NEXT_AT + row] = next;
@@ -83,25 +64,22 @@ fn store_groups(pairs: &[i64], head: &[usize], links: &mut [usize])
 {
     let count = pairs.len() / PAIR_WIDTH;
     let mut groups = 0;
-    let mut row = 0;
-    while row < count {
+    for row in 0..count {
         let v = pair_node(pairs, SPEC_COLUMN, row);
         if head[v] == row {
             links[groups] = row;
             groups += 1;
         }
-        row += 1;
     }
     links[COUNT_AT] = groups;
 }
 
-// Links the groups of the leaf pairs. Three passes over the rows. What stands in the links outside their parts is space that was worked in.
+// Links the groups of the leaf pairs. Two passes over the rows; before them the head of each node is the number of leaf rows, which stands for none. What stands in the links outside their parts is space that was worked in.
 pub fn link_banks(pairs: &[i64], links: &mut [usize])
     requires { Linkable pairs.now links.old }
     ensures { Linked pairs.now links.new }
 {
-    let mut head = [0usize; MAX_NODES];
-    set_heads(pairs, &mut head);
+    let mut head = [pairs.len() / PAIR_WIDTH; MAX_NODES];
     link_rows(pairs, &mut head, links);
     store_groups(pairs, &head, links);
 }
@@ -114,10 +92,10 @@ pub fn group_total(pairs: &[i64], links: &[usize], lowest: usize, counts: &[usiz
 {
     let count = pairs.len() / PAIR_WIDTH;
     let mut total = 0;
+    // The next row stands in the links: no range and no slice has the rows of one group.
     let mut bank = lowest;
     while bank < count {
-        let leaf = impl_node(pairs, bank);
-        total += counts[leaf];
+        total += counts[impl_node(pairs, bank)];
         bank = next_row(links, bank);
     }
     total

@@ -14,21 +14,19 @@ ghost use Rattle.groups.specs.Banks.{raised_row, Raisable, bank_with, Gathering,
 
 use arrivals::{ListRows, append_rows, free_row, normalise_between};
 use grouping::next_row;
-use listing::{append_row, leaf_bit, raised_displacement};
+use listing::{leaf_bit, raised_displacement};
 use model::{Bits, PAIR_WIDTH};
 use pairing::{impl_node, pair_at};
-use sorting::{Row, row_at};
+use sorting::{Row, put_row, row_at};
 
 // The row of a record with its leaf bits so much higher.
 fn raised_row(row: Row, at: Bits) -> Row
     requires { Subtractable row.first at.0 }
     ensures { result ≡ raised_row at.0 row }
 {
-    let displacement = raised_displacement(row.first, at);
     Row {
-        first: displacement.0,
-        second: row.second,
-        third: row.third,
+        first: raised_displacement(row.first, at).0,
+        ..row
     }
 }
 
@@ -40,9 +38,8 @@ fn raise_rows(state: &mut [i64], from: usize, to: usize, at: Bits)
     if at.0 == 0 {
         return;
     }
-    let mut i = from;
-    while i < to {
-        i = append_row(state, i, raised_row(row_at(state, i), at));
+    for i in from..to {
+        put_row(state, i, raised_row(row_at(state, i), at));
     }
 }
 
@@ -117,10 +114,10 @@ pub fn list_group(
     ensures { (kind : WalkKind) (root : ℕ) → Swept kind nodes.now edges.now plan.now root state.old
         → GroupAnswered kind nodes.now edges.now plan.now root (banks_at pairs.now lowest) state.new result }
 {
-    let count = pairs.len() / PAIR_WIDTH;
     let mut n = free_row(state);
+    // The rows of a group are linked, each to the next, so they are no range.
     let mut row = lowest;
-    while row < count {
+    while row < pairs.len() / PAIR_WIDTH {
         let leaf = impl_node(pairs, row);
         let at = leaf_bit(pair_at(pairs, row));
         n = append_bank(nodes, edges, plan, leaf, at, state, n);

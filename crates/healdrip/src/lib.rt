@@ -4,7 +4,7 @@
 ghost use Rattle.model.specs.TextCheck.{coded};
 ghost use Rattle.textcheck.specs.Promises.{TextPromise};
 
-use model::Written;
+use refusals::Refusal;
 
 // Checks a map file and writes the report: its length, or -(number * 100,000,000 + table * 10,000,000 + row) of the refusal, on which the
 // buffer is untouched.
@@ -12,9 +12,8 @@ use model::Written;
 pub extern "C" fn healdrip_text_check(text: &[u8], report: &mut [u8]) -> i64
     ensures { TextPromise coded text.now report.old report.new result }
 {
-    let written = textcheck::text_check(text, report);
-    match written {
-        Written::Count(n) => n as i64,
-        Written::Refused(reason) => refusals::negative_code(refusals::refusal_numbers(reason)),
+    match textcheck::text_check(text, report) {
+        Ok(n) => n as i64,
+        Err(reason) => refusals::negative_code(Refusal::from(reason)),
     }
 }

@@ -1,8 +1,8 @@
 -- What is held of a group is there, and of the others what was held before.
-use mathlib.Core.Path.{◌≡◌, refl, sym, ap, ◌∙◌}
+use mathlib.Core.Path.{◌≡◌, ap, ◌∙◌}
 use mathlib.Core.List.{List}
 use mathlib.Core.Logic.{◌≢◌}
-use Prim.Native.Nat.{ℕ, ◌+◌, ◌*◌, ◌≤◌, ◌<◌, ◌^◌}
+use Prim.Native.Nat.{ℕ, ◌+◌, ◌*◌, ◌≤◌}
 use native.Mathlib.Omega.{arith}
 use lib.IntN.{ℤ, pos, nat_abs}
 use lib.ListN.{length, get_or, set, length-set}
@@ -11,8 +11,6 @@ use mir.Val.{SFits, to_z, of_z}
 use mir.Facts.{to_z-of_z}
 use lib.Seq.{get_or-set_same, get_or-set_other}
 use Rattle.model.specs.Answers.{verdict_number}
-use Rattle.model.specs.declared.Verdict.{Verdict}
-use Rattle.model.specs.declared.Verdict.TheVariants as verdicts
 use Rattle.totals.specs.declared.Found.{Found}
 use Rattle.holding.specs.Held.{held_width, held_with, HeldAt}
 
@@ -69,34 +67,6 @@ held-own t group r room =
 -- the list has the length that it had
 pub held_length : (t : List ℤ) (group : ℕ) (r : Found) → length (held_with t group r) ≡ length t
 held_length t group r = simp length-set
-
--- verdicts with one number are the same
-pub verdict-same : (v w : Verdict) → verdict_number v ≡ verdict_number w → v ≡ w
-verdict-same verdicts.Equal verdicts.Equal e = refl
-verdict-same verdicts.Equal verdicts.Partial e = absurd (omega arith)
-verdict-same verdicts.Equal verdicts.Different e = absurd (omega arith)
-verdict-same verdicts.Partial verdicts.Equal e = absurd (omega arith)
-verdict-same verdicts.Partial verdicts.Partial e = refl
-verdict-same verdicts.Partial verdicts.Different e = absurd (omega arith)
-verdict-same verdicts.Different verdicts.Equal e = absurd (omega arith)
-verdict-same verdicts.Different verdicts.Partial e = absurd (omega arith)
-verdict-same verdicts.Different verdicts.Different e = refl
-
--- a verdict whose number is neither 0 nor 1 is the last
-pub last-verdict : (v : Verdict) → verdict_number v ≢ 0 → verdict_number v ≢ 1 → 2 ≡ verdict_number v
-last-verdict verdicts.Equal n m = absurd (n refl)
-last-verdict verdicts.Partial n m = absurd (m refl)
-last-verdict verdicts.Different n m = refl
-
--- ---- a number by its bits
-
--- bits that are those of n are the number n
-pub bits-number : {z : ℤ} {n v : ℕ} → SFits w64 z → n < 2 ^ 63 → of_z w64 z ≡ n → z ≡ pos v → n ≡ v
-bits-number f h e q = sym e ∙ ap (of_z w64) q
-
--- bits that are not those of n are another number
-pub bits_not : {z : ℤ} {n v : ℕ} → SFits w64 z → n < 2 ^ 63 → (of_z w64 z ≡ n → ⊥) → z ≡ pos v → v ≢ n
-bits_not f h e q = λ p. e (ap (of_z w64) q ∙ p)
 
 -- a number that is not negative, cast and taken back
 pub cast_back : {z : ℤ} {n : ℕ} → SFits w64 z → z ≡ pos n → nat_abs (to_z w64 (of_z w64 z)) ≡ n

@@ -23,27 +23,21 @@ pub fn hold(held: &mut [i64], group: usize, found: Found)
     requires { (held_width * group + held_width ≤ length held.old) × SmallLengths found.lengths }
     ensures { held.new ≡ held_with held.old group found }
 {
-    let verdict = found.verdict;
-    let lengths = found.lengths;
-    let address = found.address;
-    let judged = verdict_number(verdict);
-    held[HELD_WIDTH * group] = judged as i64;
-    held[HELD_WIDTH * group + 1] = lengths.spec as i64;
-    held[HELD_WIDTH * group + 2] = lengths.implementation as i64;
-    held[HELD_WIDTH * group + 3] = address;
+    held[HELD_WIDTH * group] = verdict_number(found.verdict) as i64;
+    held[HELD_WIDTH * group + 1] = found.lengths.spec as i64;
+    held[HELD_WIDTH * group + 2] = found.lengths.implementation as i64;
+    held[HELD_WIDTH * group + 3] = found.address;
 }
 
-// The verdict with this number.
+// The verdict with this number. What is held is numbers, of which no other than these three is held, so this cannot fail as TryFrom can.
 fn verdict_with(number: i64) -> Verdict
     ensures { (v : declared.Verdict) → number ≡ pos (verdict_number v) → result ≡ v }
 {
-    if number == 0 {
-        return Verdict::Equal;
+    match number {
+        0 => Verdict::Equal,
+        1 => Verdict::Partial,
+        _ => Verdict::Different,
     }
-    if number == 1 {
-        return Verdict::Partial;
-    }
-    Verdict::Different
 }
 
 // What is held of a group.
@@ -61,7 +55,7 @@ pub fn held_at(held: &[i64], group: usize) -> Found
     };
     Found {
         verdict: verdict_with(judged),
-        lengths: lengths,
-        address: address,
+        lengths,
+        address,
     }
 }

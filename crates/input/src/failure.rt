@@ -20,32 +20,20 @@ struct Reason {
 
 impl Write for Reason {
     fn write_str(&mut self, s: &str) -> fmt::Result {
-        for b in s.as_bytes() {
-            let len = self.len;
-            if len < ROOM {
-                self.text[len] = *b;
-                self.len = len + 1;
-            }
-        }
+        let n = s.len().min(ROOM - self.len);
+        self.text[self.len..self.len + n].copy_from_slice(&s.as_bytes()[..n]);
+        self.len += n;
         Ok(())
     }
-}
-
-// Whether the number of an error begins at this place.
-fn is_number(text: &[u8], at: usize) -> bool {
-    text.get(at..).is_some_and(|rest| rest.starts_with(NUMBER))
 }
 
 // How many bytes stand before the number of an error: all, where there is none.
 fn before_number(text: &[u8]) -> usize
     ensures { result ≤ length text.now }
 {
-    for at in 0..text.len() {
-        if is_number(text, at) {
-            return at;
-        }
-    }
-    text.len()
+    text.windows(NUMBER.len())
+        .position(|part| part == NUMBER)
+        .unwrap_or(text.len())
 }
 
 // Prints a line: which stream failed, a colon and the reason. Where that fails too, nothing more can be said.

@@ -3,9 +3,9 @@
 
 mod failure;
 
-ghost use Rattle.std.specs.Prelude.{◌≡◌, suc, length};
+ghost use Rattle.std.specs.Prelude.{◌≡◌, suc, length, IfOk};
 ghost use Rattle.model.specs.Limits.{max_text};
-ghost use Rattle.input.specs.Reading.{InputWithin};
+ghost use Rattle.input.specs.Reading.{ReadInto};
 
 pub use failure::say_failed;
 use std::io;
@@ -14,31 +14,21 @@ use std::io::Read;
 // One byte more than a text may have, so that a longer one is seen to be longer.
 pub const TEXT_ROOM: usize = 65537;
 
-// What was read of standard input: so many bytes up to its end, as many as the buffer has, or a read failed.
-#[derive(Clone, Copy)]
-pub enum Input {
-    Bytes(usize),
-    Full(usize),
-    Failed(io::Error),
-}
-
-// Reads standard input, which the reader is, into the buffer, which has a byte more than the longest text, until the buffer is full or the input ends.
-pub fn read_input<R: Read>(reader: &mut R, text: &mut [u8]) -> Input
+// Reads standard input, which the reader is, into the buffer, which has a byte more than the longest text, until the buffer is full or the input ends, and
+// returns how many bytes were read. A read that fails ends it.
+pub fn read_input<R: Read>(reader: &mut R, text: &mut [u8]) -> io::Result<usize>
     requires { length text.old ≡ suc max_text }
-    ensures { InputWithin (length text.new) result }
+    ensures { IfOk result (ReadInto (R.remaining reader.old) (R.remaining reader.new) text.new) }
 {
-    let mut at: usize = 0;
+    let mut at = 0;
     while at < text.len() {
-        let n = match reader.read(&mut text[at..]) {
-            Ok(n) => n,
-            Err(error) => return Input::Failed(error),
-        };
+        let n = reader.read(&mut text[at..])?;
         if n == 0 {
-            return Input::Bytes(at);
+            break;
         }
         at += n;
     }
-    Input::Full(at)
+    Ok(at)
 }
 
 #[cfg(test)]
@@ -70,7 +60,7 @@ mod tests {
     fn reads_to_the_end_of_the_input(rt: HostRuntime) -> Result<(), Fail> {
         let mut text = [0u8; TEXT_ROOM];
         let mut reader: &[u8] = b"a text";
-        assert!(rt; matches!(read_input(&mut reader, &mut text), Input::Bytes(6)));
+        assert!(rt; matches!(read_input(&mut reader, &mut text), Ok(6)));
         assert_eq!(rt; &text[..7], b"a text\0".as_slice());
         Ok(())
     }
@@ -78,16 +68,11 @@ mod tests {
     #[test]
     fn tells_a_read_that_fails_after_others(rt: HostRuntime) -> Result<(), Fail> {
         let mut text = [0u8; TEXT_ROOM];
-        assert!(rt;
-            matches!(
-                read_input(&mut Breaking { left: 3 }, &mut text),
-                Input::Failed(_)
-            )
-        );
+        assert!(rt; matches!(read_input(&mut Breaking { left: 3 }, &mut text), Err(_)));
         assert!(rt;
             matches!(
                 read_input(&mut Breaking { left: TEXT_ROOM }, &mut text),
-                Input::Full(65537)
+                Ok(65537)
             )
         );
         Ok(())

@@ -2,7 +2,7 @@
 // numbers of a flat slice: displacement, first, last.
 #![tactic(auto)]
 
-ghost use Rattle.std.specs.Prelude.{◌≡◌, true, ◌≢◌, ◌*◌, ◌≤◌, length};
+ghost use Rattle.std.specs.Prelude.{◌≡◌, true, ◌*◌, ◌≤◌, length};
 ghost use Rattle.model.specs.Verdicts.{verdict, lowest};
 ghost use Rattle.model.specs.Answers.{verdict_number};
 ghost use Rattle.sorting.specs.Rows.{row_width};
@@ -10,7 +10,8 @@ ghost use Rattle.judging.specs.Judging.{OfLists, SmallRows, IsJudged};
 
 use model::Verdict;
 
-// What is judged of two lists: the verdict, and the lowest address at which they differ, -1 where that is not looked for.
+// What is judged of two lists: the verdict, and the lowest address at which they differ, -1 where that is not looked for or they differ nowhere,
+// as in the report.
 #[derive(Clone, Copy)]
 pub struct Judged {
     pub verdict: Verdict,
@@ -52,7 +53,7 @@ fn lowest_of_rows(
     if !asked {
         return -1;
     }
-    if let Verdict::Equal = given {
+    if given == Verdict::Equal {
         return -1;
     }
     let s = normalisation::normalise(spec, ns, spare);
@@ -75,7 +76,7 @@ pub fn judge(
 {
     let verdict = verdict_of_rows(spec, ns, imp, ni);
     Judged {
-        verdict: verdict,
+        verdict,
         address: lowest_of_rows(spec, ns, imp, ni, spare, verdict, asked),
     }
 }

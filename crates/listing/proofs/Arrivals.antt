@@ -9,26 +9,17 @@ use native.Mathlib.Omega.{arith}
 use lib.IntN.{ℤ, ◌-ℤ◌}
 use lib.ListN.{length, length-append, length-map}
 use Rattle.integers.specs.Integers.{eq_z}
+use Rattle.model.specs.Limits.{max_chain}
 use Rattle.model.specs.declared.WalkKind.{WalkKind}
 use Rattle.model.specs.Rows.{Edge}
-use Rattle.model.specs.Graph.{Graph, node, bit_offset}
+use Rattle.model.specs.Graph.{Graph, node, first_bit, bit_offset}
 use Rattle.model.specs.Runs.{leaving, paths_within}
-use Rattle.model.specs.Calls.{stands_on, arrivals}
+use Rattle.model.specs.Calls.{stands_on, arrivals, ascending, leaf_bits}
 use Rattle.model.proofs.Paths.{Fit, onward}
-use Rattle.sorting.specs.declared.Row.{Row}
 use Rattle.reach.specs.Counting.{path_count}
 use Rattle.reach.proofs.Reaching.{within_none}
-use Rattle.listing.specs.Listing.{arrival_row, arrival_rows}
+use Rattle.listing.specs.Listing.{arrival_row, arrival_rows, arrivals_over}
 use Rattle.listing.proofs.Runs.{eq_z-same, eq_z-other, map_flat_map}
-
--- what an edge gives for walks of this kind: the rows from the node entered
-abbrev pub arrivals_over : WalkKind → ℕ → Graph → ℤ → ℤ → Edge → List Row
-arrivals_over kind k g l a e = arrival_rows kind k g e.to l (a -ℤ bit_offset g e)
-
--- the node entered and the address there, as they were computed
-pub arrivals-over : (kind : WalkKind) (k : ℕ) (g : Graph) (l a : ℤ) (e : Edge) {to b : ℤ} → to ≡ e.to → b ≡ a -ℤ bit_offset g e
-    → arrival_rows kind k g to l b ≡ arrivals_over kind k g l a e
-arrivals-over kind k g l a e p q = rw (p, q) refl
 
 -- ---- no more than paths
 
@@ -80,6 +71,17 @@ pub arrivals-over_dead : (kind : WalkKind) {g : Graph} {l : ℤ} → Fit g l →
 arrivals-over_dead kind {g} f k a e z = arrivals_dead kind f k e.to (a -ℤ bit_offset g e) z
 
 module _ (kind : WalkKind) (g : Graph) (v l a : ℤ) where
+  -- where no walk may stand there is no arrival
+  arrivals-none : (k : ℕ) → stands_on kind (node g v) a ≡ false → arrivals kind k g v l a ≡ []
+  unfolding arrivals
+  arrivals-none zero e = rw e refl
+  arrivals-none (suc k) e = rw e refl
+
+  -- so no leaf bit is reached
+  pub leaf_bits-none : stands_on kind (node g v) a ≡ false → leaf_bits kind g v l a ≡ []
+  unfolding leaf_bits ascending
+  leaf_bits-none e = ap (λ (s : List ℤ). ascending (map (λ b. b -ℤ first_bit (node g l)) s)) (arrivals-none max_chain e)
+
   -- where no walk may stand there is none
   pub arrivals-outside : (k : ℕ) → stands_on kind (node g v) a ≡ false → arrival_rows kind k g v l a ≡ []
   unfolding arrival_rows arrivals

@@ -5,3 +5,4 @@ pub mod Arrivals
 pub mod Bits
 pub mod Small
 pub mod Pairs
+pub mod Walkers

@@ -24,11 +24,7 @@ use Rattle.reach.specs.Counting.{path_count}
 use Rattle.reach.proofs.Reaching.{within_none}
 use Rattle.runs.specs.Clipping.{living}
 use Rattle.runs.proofs.Runs.{living-none, living-some}
-use Rattle.listing.specs.Listing.{run_row, run_rows}
-
--- what an edge gives for walks of this kind: nothing where no bit of the run enters, else the rows from the node entered
-abbrev pub runs_over : WalkKind → ℕ → Graph → ℤ → Run → Edge → List Row
-runs_over kind k g l r e = cond (empty (across kind g e r)) [] (run_rows kind k g e.to l (across kind g e r))
+use Rattle.listing.specs.Listing.{run_row, run_rows, runs_over}
 
 -- the test of two numbers that are the same
 pub eq_z-same : {a b : ℤ} → a ≡ b → eq_z a b ≡ true

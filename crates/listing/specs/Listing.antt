@@ -1,20 +1,22 @@
 -- What the walk of one bit address and the listing of runs write: rows behind rows, along the links of the edges that can still reach the leaf.
 -- Assumes nothing.
-use Rattle.std.specs.Prelude.{◌≡◌, not, List, ◌++◌, map, ℕ, ◌+◌, ◌*◌, ◌≤◌, ℤ, pos, ◌-ℤ◌, length, take, drop}
+use Rattle.std.specs.Prelude as std
+use Rattle.std.specs.Prelude.{◌≡◌, not, cond, List, [], ◌∷◌, ◌++◌, map, ℕ, ◌+◌, ◌-◌, ◌*◌, ◌≤◌, ℤ, pos, ◌-ℤ◌, length, take, drop}
+use mathlib.Core.List.{flat_map}
 use Rattle.lists.specs.Lists.{keep}
 use Rattle.model.specs.declared.WalkKind.{WalkKind}
 use Rattle.model.specs.Limits.{max_paths}
-use Rattle.model.specs.Rows.{Node}
-use Rattle.model.specs.Graph.{Graph, graph_of, NodeRow, node, first_bit}
+use Rattle.model.specs.Rows.{Node, Edge}
+use Rattle.model.specs.Graph.{Graph, graph_of, NodeRow, node, first_bit, bit_offset}
 use Rattle.model.specs.Paths.{Leaf}
 use Rattle.model.specs.Bitmapping.{Record}
-use Rattle.model.specs.Runs.{Run, empty, along, paths_within, paths, record_of}
-use Rattle.model.specs.Taken.{TakenTables}
+use Rattle.model.specs.Runs.{Run, empty, across, along, leaving, paths_within, paths, record_of}
+use Rattle.model.specs.Taken.{Taken, TakenTables}
 use Rattle.model.specs.Calls.{arrivals}
 use Rattle.sorting.specs.declared.Row.{Row}
 use Rattle.sorting.specs.Rows.{row_width, numbers_of}
 use Rattle.normalisation.specs.Merging.{by_displacement}
-use Rattle.reach.specs.Counting.{counts_over}
+use Rattle.reach.specs.Counting.{path_count, counts_over}
 use Rattle.reach.specs.Links.{Linked}
 
 -- ---- links
@@ -56,6 +58,10 @@ run_row leaf r = by_displacement (record_of leaf r)
 unfoldable pub run_rows : WalkKind → ℕ → Graph → ℤ → ℤ → Run → List Row
 run_rows kind k g v l r = map (run_row (node g l)) (keep (λ s. not (empty s)) (map (λ p. along kind g p r) (paths_within k g v l)))
 
+-- what an edge gives for walks of this kind: nothing where no bit of the run enters, else the rows from the node entered
+abbrev pub runs_over : WalkKind → ℕ → Graph → ℤ → Run → Edge → List Row
+runs_over kind k g l r e = cond (empty (across kind g e r)) [] (run_rows kind k g e.to l (across kind g e r))
+
 -- the record of bit 0 alone, with a displacement: a list of such records is a list of distinct numbers, ascending
 abbrev pub bit_record : ℤ → Record
 bit_record b = record { first = pos 0; last = pos 0; displacement = b }
@@ -67,3 +73,27 @@ arrival_row leaf a = by_displacement (bit_record (a -ℤ first_bit leaf))
 -- the rows of the bit addresses at the leaf l that a at node v becomes by walks of this kind, over at most k edges
 unfoldable pub arrival_rows : WalkKind → ℕ → Graph → ℤ → ℤ → ℤ → List Row
 arrival_rows kind k g v l a = map (arrival_row (node g l)) (arrivals kind k g v l a)
+
+-- what an edge gives for walks of this kind: the rows from the node entered
+abbrev pub arrivals_over : WalkKind → ℕ → Graph → ℤ → ℤ → Edge → List Row
+arrivals_over kind k g l a e = arrival_rows kind k g e.to l (a -ℤ bit_offset g e)
+
+-- ---- walkers
+
+module _ {X : Type 0} (MayStand : WalkKind → Node → X → Type 0) (rows : WalkKind → ℕ → Graph → ℤ → ℤ → X → List Row) (rows_over : WalkKind → ℕ → Graph → ℤ → X → Edge → List Row) where
+  -- over an edge a walker ends, and the edge gives no row; or it becomes one that may stand on the node entered, and the edge gives the rows from there
+  abbrev pub Crossed : WalkKind → Graph → Edge → X → std.Option X → Type 0
+  Crossed kind g e x std.None = (k : ℕ) (l : ℤ) → rows_over kind k g l x e ≡ []
+  Crossed kind g e x (std.Some y) = MayStand kind (node g e.to) y × ((k : ℕ) (l : ℤ) → rows kind k g e.to l y ≡ rows_over kind k g l x e)
+
+-- what stands on a node is small; at the leaf it gives its row, elsewhere none over no edge, and over some edge the rows of the edges that leave the node; an edge
+-- that enters a node with no path to the leaf gives no row
+pub record WalkerLaws {X : Type 0} (IsSmall : X → Type 0) (MayStand : WalkKind → Node → X → Type 0) (row_of : Node → X → Row)
+    (rows : WalkKind → ℕ → Graph → ℤ → ℤ → X → List Row) (rows_over : WalkKind → ℕ → Graph → ℤ → X → Edge → List Row)
+    : Type 0 where
+  pub small : (kind : WalkKind) (n : Node) (x : X) → MayStand kind n x → IsSmall x
+  pub at_leaf : (kind : WalkKind) (k : ℕ) (g : Graph) (v l : ℤ) (x : X) → MayStand kind (node g v) x → v ≡ l → rows kind k g v l x ≡ row_of (node g l) x ∷ []
+  pub at_end : (kind : WalkKind) (k : ℕ) (g : Graph) (v l : ℤ) (x : X) → MayStand kind (node g v) x → (v ≡ l → ⊥) → k ≡ 0 → rows kind k g v l x ≡ []
+  pub onward : (kind : WalkKind) (k : ℕ) (g : Graph) (v l : ℤ) (x : X) → MayStand kind (node g v) x → (v ≡ l → ⊥) → (k ≡ 0 → ⊥)
+      → rows kind k g v l x ≡ flat_map (rows_over kind (k - 1) g l x) (leaving g v)
+  pub dead : (kind : WalkKind) (k : ℕ) (g : Graph) (l : ℤ) (x : X) (e : Edge) → Taken g → Leaf g l → path_count g e.to l ≡ 0 → rows_over kind k g l x e ≡ []

@@ -6,8 +6,7 @@ ghost use Rattle.model.specs.Limits.{report_room};
 ghost use Rattle.model.specs.TextCheck.{printed};
 ghost use Rattle.report.specs.Put.{Put};
 
-use input::{Input, TEXT_ROOM};
-use model::Written;
+use input::TEXT_ROOM;
 
 // Bytes of the report buffer.
 const REPORT_ROOM: usize = 65536;
@@ -17,15 +16,14 @@ fn put_printed(text: &[u8], out: &mut [u8]) -> usize
     requires { length out.old ≡ report_room }
     ensures { Put (printed text.now) out.old out.new result }
 {
-    let written = textcheck::text_check(text, out);
-    match written {
-        Written::Count(n) => n,
-        Written::Refused(reason) => refusals::put_reason(out, reason),
+    match textcheck::text_check(text, out) {
+        Ok(n) => n,
+        Err(reason) => refusals::put_reason(out, reason),
     }
 }
 
-// Writes what it is lent, which is what is printed for a text, to standard output. The contract alone names the text. Where that cannot be written, it
-// says so on standard error.
+// Writes what it is lent, which is what is printed for a text, to standard output. The contract alone names the text, and so differs
+// from that in sheetgraph. Where that cannot be written, it says so on standard error.
 fn write_printed(rt: &(impl Print + Eprint), text: &[u8], out: &[u8])
     requires { out.now ≡ printed text.now }
 {
@@ -45,16 +43,8 @@ fn print_text(rt: &(impl Print + Eprint), text: &[u8], n: usize)
 
 fn main(rt: HostRuntime) {
     let mut text = [0u8; TEXT_ROOM];
-    let input = input::read_input(&mut rt.stdin(), &mut text);
-    match input {
-        Input::Bytes(n) => {
-            print_text(&rt, &text, n);
-        }
-        Input::Full(n) => {
-            print_text(&rt, &text, n);
-        }
-        Input::Failed(error) => {
-            input::say_failed(&rt, "standard input", error);
-        }
+    match input::read_input(&mut rt.stdin(), &mut text) {
+        Ok(n) => print_text(&rt, &text, n),
+        Err(error) => input::say_failed(&rt, "standard input", error),
     }
 }

@@ -24,8 +24,8 @@ use Rattle.cursor.specs.Given.{InText, Stands}
 use Rattle.cursor.proofs.Parts.{lines-first}
 use Rattle.cursor.proofs.Lines.{later_behind}
 use Rattle.columns.specs.declared.Columns.{Columns}
-use Rattle.columns.specs.Given.{max_names, layout_in, is_complete, ColumnsGiven, GoodColumns}
-use Rattle.columns.proofs.ColumnLists.{columns_laid, columns-good}
+use Rattle.columns.specs.Given.{max_names, layout_in, LaidOut, GoodColumns}
+use Rattle.columns.proofs.ColumnLists.{laid-good}
 use Rattle.sides.specs.Given.{Roomy}
 use Rattle.mapfile.specs.declared.FileTable.{FileTable}
 use Rattle.mapfile.specs.declared.FileTable.TheVariants as fileTable
@@ -82,38 +82,38 @@ module _ (last : Bool) (check : RowCheck) {t : Table} (regular : Regular t) (sev
       ap (read_table last check t n) (lines-first c u)
       ∙ ap (λ (o : Option Layout). elim o [ none ↦ stop 13 n | some y ↦ read_values last check y (suc n) [] (lines (later_lines (c ∷ u))) ]) e
 
-module _ {t : Table} {text : Bytes} {from : Cursor} {cs : Columns} (regular : Regular t) (several : 2 ≤ length t.names) (in_text : InText text from)
-    (g : ColumnsGiven t (first_line (drop from.at text)) cs) where
-  -- the names line is wrong
-  pub table_wrong : (last : Bool) (check : RowCheck) → is_complete cs ≡ false → read_table last check t from.line (lines (drop from.at text)) ≡ stopped (numbered 13 6 from.line)
+module _ {t : Table} {text : Bytes} {from : Cursor} (regular : Regular t) (several : 2 ≤ length t.names) (in_text : InText text from) where
+  -- the line at the cursor is no names line
+  pub line_wrong : (last : Bool) (check : RowCheck) → columns t (first_line (drop from.at text)) ≡ none
+      → read_table last check t from.line (lines (drop from.at text)) ≡ stopped (numbered 13 6 from.line)
   unfolding stop
-  table_wrong last check e = table-lines last check regular several from.line (drop from.at text) {o = none} (sym g.names ∙ rw e refl)
+  line_wrong last check e = table-lines last check regular several from.line (drop from.at text) {o = none} e
 
-  module _ (all : is_complete cs ≡ true) {next : Cursor} (s : Stands text (later_lines (drop from.at text)) (suc from.line) next) where
-    -- the columns are good
-    pub table-good : length (all_names t) ≤ max_names → GoodColumns cs
-    table-good few = columns-good g all regular several few
+  module _ {cs : Columns} (g : LaidOut t (first_line (drop from.at text)) cs) {next : Cursor} (s : Stands text (later_lines (drop from.at text)) (suc from.line) next) where
+    -- it is one, and its columns are good
+    pub line-good : length (all_names t) ≤ max_names → GoodColumns cs
+    line-good few = laid-good g regular several few
 
-    table-there : from.at < length text
+    line-there : from.at < length text
     unfolding first_line
-    table-there = go (drop from.at text) (length-drop from.at text) (columns_laid g all)
+    line-there = go (drop from.at text) (length-drop from.at text) g.names
       where
         go : (u : Bytes) → length u ≡ length text - from.at → columns t (first_line u) ≡ some (layout_in cs) → from.at < length text
         go [] e q = absurd (none-some (sym (columns-empty regular several) ∙ q))
         go (c ∷ u) e q = omega (arith, e)
 
     -- the value lines follow
-    pub table_in_text : InText text next
-    table_in_text = record { within = s.within; low = omega (arith, s.line, in_text.low, later_behind text from.at table-there s) }
+    pub line_in_text : InText text next
+    line_in_text = record { within = s.within; low = omega (arith, s.line, in_text.low, later_behind text from.at line-there s) }
 
     -- and make up the table
-    pub table-values : (last : Bool) (check : RowCheck) → read_table last check t from.line (lines (drop from.at text))
+    pub line-values : (last : Bool) (check : RowCheck) → read_table last check t from.line (lines (drop from.at text))
         ≡ read_values last check (layout_in cs) next.line [] (lines (drop next.at text))
-    table-values last check = rw (s.line, s.before) (table-lines last check regular several from.line (drop from.at text) (columns_laid g all))
+    line-values last check = rw (s.line, s.before) (table-lines last check regular several from.line (drop from.at text) g.names)
 
     -- a room of whole rows
-    pub table-room : {room : ℕ} → (most : ℕ) × (room ≡ (length (all_names t) - 1) * most) → Roomy cs room
-    table-room w = (w.0, rw g.count w.1)
+    pub line-room : {room : ℕ} → (most : ℕ) × (room ≡ (length (all_names t) - 1) * most) → Roomy cs room
+    line-room w = (w.0, rw g.count w.1)
 
 -- ---- the map file
 

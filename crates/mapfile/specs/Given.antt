@@ -1,4 +1,5 @@
 -- What reading a map file gives: its tables in lent slices. Assumes nothing.
+use Rattle.std.specs.Prelude.{Err, Ok, Result}
 use Rattle.std.specs.Prelude.{◌≡◌, Bool, true, false, List, ℕ, ◌≤◌, ℤ, length, take}
 use Rattle.model.specs.Bytes.{Bytes}
 use Rattle.model.specs.MapFile.{Table, node_table, edge_table, pair_table}
@@ -8,10 +9,9 @@ use Rattle.model.specs.Answers.{refusal_of}
 use Rattle.model.specs.Reader.{read_map}
 use Rattle.mapfile.specs.declared.FileTable.{FileTable}
 use Rattle.mapfile.specs.declared.Sizes.{Sizes}
-use Rattle.mapfile.specs.declared.Read.{Read}
 use Rattle.mapfile.specs.declared.FileTable.TheVariants as fileTable
-use Rattle.mapfile.specs.declared.Read.TheVariants as read
 use Rattle.mapfile.specs.Tables.{node_room, edge_room, pair_room, Stored}
+use Rattle.model.specs.declared.Reason.{Reason}
 
 -- ---- the tables of the file
 
@@ -67,6 +67,6 @@ pub record TablesRead (text : Bytes) (before after : Tables) (z : Sizes) : Type 
   pub leaf_pairs : Stored (take pair_room tables.leaf_pairs) before.leaf_pairs after.leaf_pairs z.leaf_pairs
 
 -- what reading a map file gives
-abbrev pub ReadGiven : Bytes → Tables → Tables → Read → Type 0
-ReadGiven text before after (read.Tables z) = TablesRead text before after z
-ReadGiven text before after (read.Refused r) = read_map text ≡ refused (refusal_of r)
+abbrev pub ReadGiven : Bytes → Tables → Tables → (Result Sizes Reason) → Type 0
+ReadGiven text before after (Ok z) = TablesRead text before after z
+ReadGiven text before after (Err r) = read_map text ≡ refused (refusal_of r)

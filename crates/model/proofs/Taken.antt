@@ -201,11 +201,11 @@ bounds_address {n} {a} b s =
 pub taken-address : {kind : WalkKind} {g : Graph} {v a : ℤ} → Taken g → NodeRow g v → StandsOn kind (node g v) a → (pos 0 ≤ℤ a) × (a ≤ℤ last_address)
 taken-address k r s = bounds_address (taken_bounds k r) (record { above = s.above; below = s.below })
 
--- every offset of a taken graph lies within ±maxUnits
+-- every offset of a taken graph lies within ±max_units
 pub taken_units : {g : Graph} {e : Edge} → Taken g → e ∈ g.edges → GoodOffset g e
 taken_units {g} {e} k m = test_stable (offset? g e) (⊎_elim (k.offsets e m).0 (k.offsets e m).1)
 
--- every bit offset of a taken graph lies within ±maxBits
+-- every bit offset of a taken graph lies within ±max_bits
 pub taken-offset : {g : Graph} {e : Edge} → Taken g → e ∈ g.edges → (neg_ℤ (pos max_bits) ≤ℤ bit_offset g e) × (bit_offset g e ≤ℤ pos max_bits)
 unfolding bit_offset
 taken-offset {g} {e} k m =

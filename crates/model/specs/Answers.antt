@@ -1,22 +1,16 @@
 -- The number and the values that documents 01 and 02 give for each case of an answer. Every contract uses these; that of batch has its values in crate batches. Assumes nothing.
-use Rattle.std.specs.Prelude.{ℕ}
+use Rattle.std.specs.Prelude.{ℕ, Ok, Err}
+use Rattle.std.specs.Prelude as std
 use Rattle.model.specs.declared.Reason.{Reason}
 use Rattle.model.specs.declared.Reason.TheVariants as reason
 use Rattle.model.specs.declared.Verdict.{Verdict}
 use Rattle.model.specs.declared.Verdict.TheVariants as verdicts
-use Rattle.model.specs.declared.Checked.{Checked}
-use Rattle.model.specs.declared.Checked.TheVariants as checked
-use Rattle.model.specs.declared.Written.{Written}
-use Rattle.model.specs.declared.Written.TheVariants as written
 use Rattle.model.specs.declared.Comparison.{Comparison}
-use Rattle.model.specs.declared.Compared.{Compared}
-use Rattle.model.specs.declared.Compared.TheVariants as compared
-use Rattle.model.specs.declared.SheetRead.{SheetRead}
-use Rattle.model.specs.declared.SheetRead.TheVariants as sheetRead
 use Rattle.model.specs.Compare.{Result}
 use Rattle.model.specs.Refusals.{Refusal}
 use Rattle.model.specs.Calls.{Answer, refused, full}
 use Rattle.model.specs.SheetCall.{TableLengths}
+use Rattle.model.specs.declared.SheetSizes.{SheetSizes}
 
 -- a refusal by its number, table and row
 abbrev pub numbered : ℕ → ℕ → ℕ → Refusal
@@ -51,14 +45,14 @@ verdict_number verdicts.Partial = 1
 verdict_number verdicts.Different = 2
 
 -- taken, or refused
-abbrev pub checked_answer : Checked → Answer (Unit {0})
-checked_answer checked.Taken = full tt
-checked_answer (checked.Refused r) = refused (refusal_of r)
+abbrev pub checked_answer : std.Result (Unit {0}) Reason → Answer (Unit {0})
+checked_answer (Ok _) = full tt
+checked_answer (Err r) = refused (refusal_of r)
 
 -- how many were written, or refused
-abbrev pub written_answer : Written → Answer ℕ
-written_answer (written.Count n) = full n
-written_answer (written.Refused r) = refused (refusal_of r)
+abbrev pub written_answer : std.Result ℕ Reason → Answer ℕ
+written_answer (Ok n) = full n
+written_answer (Err r) = refused (refusal_of r)
 
 -- counts, whole verdict and place of a comparison
 abbrev pub comparison_result : Comparison → Result
@@ -66,11 +60,11 @@ comparison_result c =
     record { equal = c.equal; partial = c.partial; different = c.different; verdict = verdict_number c.verdict; place = record { root = c.root; leaf = c.leaf; address = c.address } }
 
 -- the full result, or refused
-abbrev pub compared_answer : Compared → Answer Result
-compared_answer (compared.Result c) = full (comparison_result c)
-compared_answer (compared.Refused r) = refused (refusal_of r)
+abbrev pub compared_answer : std.Result Comparison Reason → Answer Result
+compared_answer (Ok c) = full (comparison_result c)
+compared_answer (Err r) = refused (refusal_of r)
 
 -- how many numbers the two tables of a sheet have, or refused
-abbrev pub sheet_read_answer : SheetRead → Answer TableLengths
-sheet_read_answer (sheetRead.Tables z) = full (record { nodes = z.nodes; edges = z.edges })
-sheet_read_answer (sheetRead.Refused r) = refused (refusal_of r)
+abbrev pub sheet_read_answer : std.Result SheetSizes Reason → Answer TableLengths
+sheet_read_answer (Ok z) = full (record { nodes = z.nodes; edges = z.edges })
+sheet_read_answer (Err r) = refused (refusal_of r)

@@ -1,5 +1,5 @@
 -- What is asked of numbers that the code adds, scales and moves, so that the results are numbers of 64 bits. Assumes nothing.
--- The limits of a taken graph lie far inside: bit addresses up to last_address, bit offsets within ±maxBits.
+-- The limits of a taken graph lie far inside: bit addresses up to last_address, bit offsets within ±max_bits.
 use Rattle.std.specs.Prelude.{◌^◌, ℤ, pos, neg_ℤ, ◌+ℤ◌, ◌-ℤ◌, ◌*ℤ◌, ◌≤ℤ◌, ◌<ℤ◌}
 use Rattle.model.specs.Limits.{address_room}
 

@@ -62,7 +62,7 @@ pub const CALLERS: usize = 16;
 
 pub const COUNT_KINDS: usize = 4;
 
-// Tables, by the numbers that refusals give.
+// Tables, by the numbers that refusals give. Numbers and no enum: the clauses of the checks, as of `tables::check_shape`, speak of a table of any number.
 pub const SPEC_NODES: usize = 0;
 
 pub const SPEC_EDGES: usize = 1;
@@ -79,14 +79,14 @@ pub const TEXT: usize = 6;
 
 pub const OUTPUT: usize = 7;
 
-// Kinds of nodes.
+// Kinds of nodes. Numbers, as a row has them, where any other may stand: `tables::is_kind` tells the three.
 pub const SPACE: i64 = 0;
 
 pub const SEGMENT: i64 = 1;
 
 pub const BLOCK: i64 = 2;
 
-// Access of nodes: read and write, read only, write only.
+// Access of nodes: read and write, read only, write only. Numbers, as a row has them, where any other may stand: `tables::is_access` tells the three.
 pub const READ_WRITE: i64 = 0;
 
 pub const READ_ONLY: i64 = 1;
@@ -94,18 +94,18 @@ pub const READ_ONLY: i64 = 1;
 pub const WRITE_ONLY: i64 = 2;
 
 // The kinds of walks: those that read, and those that write.
-#[derive(Clone, Copy)]
+#[derive(Clone, Copy, PartialEq, Eq)]
 pub enum WalkKind {
     Reading,
     Writing,
 }
 
 // A count of address units.
-#[derive(Clone, Copy)]
+#[derive(Clone, Copy, PartialEq, Eq, PartialOrd, Ord)]
 pub struct Units(pub i64);
 
 // A bit address, or a difference of two.
-#[derive(Clone, Copy)]
+#[derive(Clone, Copy, PartialEq, Eq, PartialOrd, Ord)]
 pub struct Bits(pub i64);
 
 impl Units {
@@ -177,14 +177,14 @@ impl Bits {
     pub fn lower(self, other: Bits) -> Bits
         ensures { result.0 ≡ min_z self.0 other.0 }
     {
-        if self.0 <= other.0 { self } else { other }
+        self.min(other)
     }
 
     // The higher of two bit addresses.
     pub fn higher(self, other: Bits) -> Bits
         ensures { result.0 ≡ max_z self.0 other.0 }
     {
-        if self.0 <= other.0 { other } else { self }
+        self.max(other)
     }
 }
 
@@ -213,7 +213,7 @@ pub enum Reason {
 }
 
 // The verdict on a pair, or on two graphs.
-#[derive(Clone, Copy)]
+#[derive(Clone, Copy, PartialEq, Eq, PartialOrd, Ord)]
 pub enum Verdict {
     Equal,
     Partial,
@@ -224,25 +224,7 @@ pub enum Verdict {
 pub fn verdict_number(v: Verdict) -> usize
     ensures { (result ≡ verdict_number v) × (result ≤ 2) }
 {
-    match v {
-        Verdict::Equal => 0,
-        Verdict::Partial => 1,
-        Verdict::Different => 2,
-    }
-}
-
-// The answer of the check of one graph.
-#[derive(Clone, Copy)]
-pub enum Checked {
-    Taken,
-    Refused(Reason),
-}
-
-// The answer of a call that writes into a lent buffer: how many leaf bits, records or bytes it wrote.
-#[derive(Clone, Copy)]
-pub enum Written {
-    Count(usize),
-    Refused(Reason),
+    v as usize
 }
 
 // The full result of a comparison. Where the verdict is equal, root, leaf and address are -1.
@@ -257,13 +239,6 @@ pub struct Comparison {
     pub address: i64,
 }
 
-// The answer of the comparison of two graphs.
-#[derive(Clone, Copy)]
-pub enum Compared {
-    Result(Comparison),
-    Refused(Reason),
-}
-
 // How many numbers the two tables of a sheet have.
 #[derive(Clone, Copy)]
 pub struct SheetSizes {
@@ -271,23 +246,9 @@ pub struct SheetSizes {
     pub edges: usize,
 }
 
-// The answer of the call that reads a sheet.
-#[derive(Clone, Copy)]
-pub enum SheetRead {
-    Tables(SheetSizes),
-    Refused(Reason),
-}
-
 // How many rows a batch of addresses gives, and how many records of the list were read for them.
 #[derive(Clone, Copy)]
 pub struct BatchCounts {
     pub rows: usize,
     pub records: usize,
-}
-
-// The answer of the call that walks many addresses together.
-#[derive(Clone, Copy)]
-pub enum Batched {
-    Counts(BatchCounts),
-    Refused(Reason),
 }

@@ -11,48 +11,41 @@ ghost use Rattle.model.specs.Checks.{is_root, is_leaf, check_named};
 ghost use Rattle.named.specs.Naming.{kind_of, Nameable, Counted};
 
 use model::{
-    BLOCK, Checked, EDGE_WIDTH, LEAF_PAIRS, MAX_PATHS, NODE_WIDTH, ROOT_PAIRS, Reason, SEGMENT,
-    SPACE, SPEC_EDGES,
+    BLOCK, EDGE_WIDTH, LEAF_PAIRS, MAX_PATHS, NODE_WIDTH, ROOT_PAIRS, Reason, SEGMENT, SPACE,
+    SPEC_EDGES,
 };
-
-// The kind of what is no node row.
-const NO_KIND: i64 = -1;
 
 // Whether some edge of the table enters v.
 fn entered(edges: &[i64], v: i64) -> bool
     ensures { result ≡ any (λ e. eq_z e.to v) (edge_rows edges.now) }
 {
-    let mut e: usize = 0;
-    while EDGE_WIDTH * e + EDGE_WIDTH <= edges.len() {
-        let to = edges[EDGE_WIDTH * e + 1];
-        if to == v {
+    for e in 0..edges.len() / EDGE_WIDTH {
+        if edges[EDGE_WIDTH * e + 1] == v {
             return true;
         }
-        e += 1;
     }
     false
 }
 
-// The kind of node v, or NO_KIND where v is no node row.
-fn kind_at(nodes: &[i64], v: i64) -> i64
+// The kind of node v, or none where v is no node row.
+fn kind_at(nodes: &[i64], v: i64) -> Option<i64>
     ensures { (es : List ℤ) → result ≡ kind_of (graph_of nodes.now es) v }
 {
-    if tables::is_row(v, nodes.len() / NODE_WIDTH) {
-        let row = v as usize;
-        return nodes[NODE_WIDTH * row];
+    if !tables::is_row(v, nodes.len() / NODE_WIDTH) {
+        return None;
     }
-    NO_KIND
+    Some(nodes[NODE_WIDTH * v as usize])
 }
 
 // Whether v is the row of a root: a space or segment that no edge enters.
 fn is_root(nodes: &[i64], edges: &[i64], v: i64) -> bool
     ensures { result ≡ is_root (graph_of nodes.now edges.now) v }
 {
-    let kind = kind_at(nodes, v);
-    if kind != SPACE {
-        if kind != SEGMENT {
-            return false;
-        }
+    let Some(kind) = kind_at(nodes, v) else {
+        return false;
+    };
+    if kind != SPACE && kind != SEGMENT {
+        return false;
     }
     !entered(edges, v)
 }
@@ -61,8 +54,7 @@ fn is_root(nodes: &[i64], edges: &[i64], v: i64) -> bool
 fn is_leaf(nodes: &[i64], v: i64) -> bool
     ensures { (es : List ℤ) → result ≡ is_leaf (graph_of nodes.now es) v }
 {
-    let kind = kind_at(nodes, v);
-    kind == BLOCK
+    kind_at(nodes, v) == Some(BLOCK)
 }
 
 // Refusals 7 and 10 of a root and a leaf of a graph that is taken. Counts the paths to the leaf.
@@ -73,31 +65,30 @@ pub fn check_named(
     root: i64,
     leaf: i64,
     counts: &mut [usize],
-) -> Checked
+) -> Result<(), Reason>
     requires { Nameable nodes.now edges.now order.now counts.old }
     ensures { Counted (check_named (graph_of nodes.now edges.now) root leaf)
         nodes.now edges.now leaf counts.old result counts.new }
 {
     if !is_root(nodes, edges, root) {
-        return Checked::Refused(Reason::NotRootOrLeaf {
+        return Err(Reason::NotRootOrLeaf {
             table: ROOT_PAIRS,
             row: 0,
         });
     }
     if !is_leaf(nodes, leaf) {
-        return Checked::Refused(Reason::NotRootOrLeaf {
+        return Err(Reason::NotRootOrLeaf {
             table: LEAF_PAIRS,
             row: 0,
         });
     }
     reach::count_paths(nodes, edges, order, leaf as usize, counts);
-    let from = root as usize;
-    let paths = counts[from];
+    let paths = counts[root as usize];
     if paths > MAX_PATHS {
-        return Checked::Refused(Reason::ManyPaths {
+        return Err(Reason::ManyPaths {
             table: SPEC_EDGES,
             row: 0,
         });
     }
-    Checked::Taken
+    Ok(())
 }

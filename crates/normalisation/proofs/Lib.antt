@@ -5,3 +5,4 @@ pub mod Touching
 pub mod Turns
 pub mod Normalising
 pub mod Displaced
+pub mod Bounds

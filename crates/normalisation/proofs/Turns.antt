@@ -17,7 +17,7 @@ use Rattle.lists.specs.Lists.{◌∈◌}
 use Rattle.lists.proofs.Membership.{map_in}
 use Rattle.sorting.specs.declared.Row.{Row}
 use Rattle.sorting.specs.Rows.{row_width, row_at, rows_of, rows_from, numbers_of}
-use Rattle.sorting.proofs.Tables.{rows_of_length, rows_of_add, numbers_of_rows_of, row_at_drop, rows_from_more, rows_from_none, rows_from_start, front_length, front-behind, front-more}
+use Rattle.sorting.proofs.Tables.{rows_of_length, rows_of_add, numbers_of_rows_of, row_at_drop, rows_from_more, rows_from_none, rows_from_start, front-behind, front-more}
 use Rattle.model.specs.Bitmapping.{Record}
 use Rattle.model.specs.Runs.{touch, hull}
 use Rattle.model.specs.Calls as calls
@@ -115,10 +115,6 @@ module _ {f : Record → Row} {t : List ℤ} {n : ℕ} {old out : List ℤ} {cur
   -- how many rows the written records are
   written-rows : length (map f m.written) ≡ k
   written-rows = length-map m.written f ∙ m.size
-
-  -- the list keeps its length
-  pub pass_length : row_width * n ≤ length old → length out ≡ length old
-  pass_length h = ap length m.front ∙ front_length (map f m.written) old k written-rows (omega (arith, m.read, m.fewer))
 
   -- the current record is written
   pass_stored : stored out k (f (of_displacement current))
@@ -232,10 +228,6 @@ module _ {t : List ℤ} {n : ℕ} {old out : List ℤ} {i : ℕ} (m : Listed t n
   -- how many rows they are
   listed-rows : length (map listed_row (rows_of t i)) ≡ i
   listed-rows = length-map (rows_of t i) listed_row ∙ rows_of_length t i
-
-  -- the list keeps its length
-  pub listed_length : row_width * n ≤ length old → length out ≡ length old
-  listed_length h = ap length m.front ∙ front_length (map listed_row (rows_of t i)) old i listed-rows (omega (arith, m.read))
 
   -- one row more
   pub listed_more : i < n → Listed t n old (stored out i (listed_row (row_at t i))) (i + 1)

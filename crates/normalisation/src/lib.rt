@@ -4,7 +4,6 @@
 
 ghost use Rattle.std.specs.Prelude.{◌≡◌, ◌++◌, map, ◌+◌, ◌*◌, ◌≤◌, ◌<◌, pos, ◌+ℤ◌, ◌<ℤ◌, length, take, drop};
 ghost use Rattle.std.specs.Int.Signed.{le_z};
-ghost use Rattle.integers.specs.Integers.{min_z, max_z};
 ghost use Rattle.sorting.specs.Rows.{row_width, rows_of};
 ghost use Rattle.sorting.specs.Rows as rows;
 ghost use Rattle.model.specs.Limits.{address_room};
@@ -13,20 +12,6 @@ ghost use Rattle.model.specs.Calls.{numbers_of};
 ghost use Rattle.normalisation.specs.Merging.{by_displacement, of_displacement, by_first, of_first, as_listed, displaced_of, SmallLast, AllSmallLast, merged, sorted_by_displacement, Apart};
 
 use sorting::Row;
-
-// The lower of two.
-fn lower(a: i64, b: i64) -> i64
-    ensures { result ≡ min_z a b }
-{
-    if a <= b { a } else { b }
-}
-
-// The higher of two.
-fn higher(a: i64, b: i64) -> i64
-    ensures { result ≡ max_z a b }
-{
-    if a <= b { b } else { a }
-}
 
 // Whether no bit lies between a last bit and a first bit: the first bit lies at most one above.
 fn meets(last: i64, first: i64) -> bool
@@ -44,10 +29,7 @@ fn touches(r: Row, s: Row) -> bool
     if r.first != s.first {
         return false;
     }
-    if meets(r.third, s.second) {
-        return meets(s.third, r.second);
-    }
-    false
+    meets(r.third, s.second) && meets(s.third, r.second)
 }
 
 // One record for two that touch. Each is a row by displacement.
@@ -56,8 +38,8 @@ fn hull_of(r: Row, s: Row) -> Row
 {
     Row {
         first: r.first,
-        second: lower(r.second, s.second),
-        third: higher(r.third, s.third),
+        second: r.second.min(s.second),
+        third: r.third.max(s.third),
     }
 }
 
@@ -84,7 +66,7 @@ fn listed(r: Row) -> Row
 }
 
 // Merges n records, rows by displacement: each is joined with those that follow it while they touch. Writes them to the front of out as
-// rows by first, and returns how many they are.
+// rows by first, and returns how many they are. join_touching writes to the list that it reads: a list cannot be lent for both at once.
 fn merge_touching(t: &[i64], n: usize, out: &mut [i64]) -> usize
     requires { (row_width * n ≤ length t.now) × (row_width * n ≤ length out.old) × AllSmallLast (displaced_of t.now n) }
     ensures value { result ≡ length (merged (displaced_of t.now n)) }
@@ -94,11 +76,9 @@ fn merge_touching(t: &[i64], n: usize, out: &mut [i64]) -> usize
         return 0;
     }
     let mut current = sorting::row_at(t, 0);
-    let mut i: usize = 1;
-    let mut k: usize = 0;
-    while i < n {
+    let mut k = 0;
+    for i in 1..n {
         let next = sorting::row_at(t, i);
-        i += 1;
         if touches(current, next) {
             current = hull_of(current, next);
         } else {
@@ -116,10 +96,8 @@ fn write_records(t: &[i64], n: usize, out: &mut [i64])
     requires { (row_width * n ≤ length t.now) × (row_width * n ≤ length out.old) }
     ensures { out.new ≡ numbers_of (map of_first (rows_of t.now n)) ++ drop (row_width * n) out.old }
 {
-    let mut i: usize = 0;
-    while i < n {
+    for i in 0..n {
         sorting::put_row(out, i, listed(sorting::row_at(t, i)));
-        i += 1;
     }
 }
 
@@ -144,16 +122,14 @@ fn rows_apart(t: &[i64], n: usize) -> usize
     ensures { Apart t.now n result }
 {
     let mut current = sorting::row_at(t, 0);
-    let mut i: usize = 0;
-    while i + 1 < n {
+    for i in 0..n - 1 {
         let next = sorting::row_at(t, i + 1);
         if touches(current, next) {
             return i;
         }
         current = next;
-        i += 1;
     }
-    i
+    n - 1
 }
 
 // Merges n records, rows by displacement, where they stand: from row `from` on each is joined with those that follow it while they touch. Returns how
@@ -164,11 +140,9 @@ fn join_touching(t: &mut [i64], n: usize, from: usize) -> usize
     ensures t_after { t.new ≡ rows.numbers_of (map by_displacement (merged (displaced_of t.old n))) ++ drop (row_width * result) t.old }
 {
     let mut current = sorting::row_at(t, from);
-    let mut i = from + 1;
     let mut done = from;
-    while i < n {
+    for i in from + 1..n {
         let next = sorting::row_at(t, i);
-        i += 1;
         if touches(current, next) {
             current = hull_of(current, next);
         } else {

@@ -20,11 +20,11 @@ use Rattle.paircheck.specs.Pairing.{check_sizes, check_classified, check_pairing
 use Rattle.paircheck.proofs.Classes.{class_root, class_leaf}
 
 -- there is no row exactly where there are fewer numbers than in one
-pub pairs-none : (ps : List ℤ) → ltb (length ps) pair_width ≡ is_nil (pair_rows ps)
+pub none_rows : (ps : List ℤ) → is_nil (pair_rows ps) ≡ ltb (length ps) pair_width
 unfolding is_nil
-pairs-none ps = go (ltb (length ps) pair_width) (ltb? (length ps) pair_width)
+none_rows ps = go (ltb (length ps) pair_width) (ltb? (length ps) pair_width)
   where
-    go : (t : Bool) → Test (length ps < pair_width) (pair_width ≤ length ps) t → t ≡ is_nil (pair_rows ps)
+    go : (t : Bool) → Test (length ps < pair_width) (pair_width ≤ length ps) t → is_nil (pair_rows ps) ≡ t
     go true (passed h) = rw (pairs_end ps 0 (omega arith))
     go false (failed h) = rw (pairs-rest ps 0 (omega arith))
 

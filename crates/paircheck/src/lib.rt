@@ -13,69 +13,62 @@ ghost use Rattle.paircheck.specs.Classes.{Classifiable, classes_over, kind_class
 ghost use Rattle.paircheck.specs.Pairing.{check_some, check_sizes, check_classified, check_pairing_rows};
 
 use model::{
-    BLOCK, Checked, EDGE_WIDTH, LAST_AT, LEAF_PAIRS, MAX_NODES, MAX_PAIRS, NODE_WIDTH, PAIR_WIDTH,
+    BLOCK, EDGE_WIDTH, LAST_AT, LEAF_PAIRS, MAX_NODES, MAX_PAIRS, NODE_WIDTH, PAIR_WIDTH,
     ROOT_PAIRS, Reason,
 };
-use pairing::check_pairs;
+use pairing::{Class, check_pairs};
 use tables::{check_shape, edge_to};
-
-// Classes of nodes.
-const OTHER: usize = 0;
-
-const ROOT: usize = 1;
-
-const LEAF: usize = 2;
 
 // The only `at` of a root row.
 const ROOT_AT: i64 = 0;
 
 // The class of a node of this kind that no edge enters.
-fn kind_class(kind: i64) -> usize
+#[tactic(auto, using(tables::proofs::Cells::cells), unfolding(crate::specs::Classes::kind_class))]
+fn kind_class(kind: i64) -> Class
     ensures { result ≡ kind_class kind }
 {
     if kind == BLOCK {
-        return LEAF;
+        Class::Leaf
+    } else {
+        Class::Root
     }
-    ROOT
 }
 
 // The class of a node that an edge enters, which had this class.
-fn entered_class(class: usize) -> usize
+#[tactic(auto, unfolding(crate::specs::Classes::entered_class))]
+fn entered_class(class: Class) -> Class
     ensures { result ≡ entered_class class }
 {
-    if class == ROOT {
-        return OTHER;
+    if class == Class::Root {
+        Class::Other
+    } else {
+        class
     }
-    class
 }
 
 // Sets class[v], for each node v, to the class of a node of its kind that no edge enters.
-fn classify_kinds(nodes: &[i64], class: &mut [usize])
+fn classify_kinds(nodes: &[i64], class: &mut [Class])
     requires { length (node_rows nodes.now) ≤ length class.old }
     ensures { class.new ≡ kinds_over nodes.now class.old }
 {
-    let mut v: usize = 0;
-    while NODE_WIDTH * v + NODE_WIDTH <= nodes.len() {
+    for v in 0..nodes.len() / NODE_WIDTH {
         class[v] = kind_class(nodes[NODE_WIDTH * v]);
-        v += 1;
     }
 }
 
-// Sets class[v] to OTHER for each root v that an edge enters.
-fn enter_edges(edges: &[i64], class: &mut [usize])
+// Sets class[v] to Other for each root v that an edge enters.
+fn enter_edges(edges: &[i64], class: &mut [Class])
     requires { EntersWithin edges.now class.old }
     ensures { class.new ≡ entered_by (edge_rows edges.now) class.old }
 {
-    let mut e: usize = 0;
-    while EDGE_WIDTH * e + EDGE_WIDTH <= edges.len() {
+    for e in 0..edges.len() / EDGE_WIDTH {
         let to = edge_to(edges, e);
         class[to] = entered_class(class[to]);
-        e += 1;
     }
 }
 
-// Sets class[v], for each node v, to ROOT, LEAF or OTHER. One pass over the nodes and one over the edges.
-pub fn classify(nodes: &[i64], edges: &[i64], class: &mut [usize])
+// Sets class[v], for each node v, to Root, Leaf or Other. One pass over the nodes and one over the edges.
+pub fn classify(nodes: &[i64], edges: &[i64], class: &mut [Class])
     requires { Classifiable nodes.now edges.now class.old }
     ensures { class.new ≡ classes_over (graph_of nodes.now edges.now) class.old }
 {
@@ -84,31 +77,23 @@ pub fn classify(nodes: &[i64], edges: &[i64], class: &mut [usize])
 }
 
 // Refusal 9: the pair table has no row.
-fn check_some(pairs: &[i64], table: usize) -> Checked
+#[tactic(auto, using(tables::proofs::Cells::cells, crate::proofs::Pairing::none_rows), unfolding(model::specs::Calls::answer, model::specs::Checks::when))]
+fn check_some(pairs: &[i64], table: usize) -> Result<(), Reason>
     ensures { checked_answer result ≡ answer (check_some table pairs.now) tt }
 {
     if pairs.len() < PAIR_WIDTH {
-        return Checked::Refused(Reason::NoPair { table: table });
+        return Err(Reason::NoPair { table });
     }
-    Checked::Taken
+    Ok(())
 }
 
 // Refusals 1 and 9 of the two pair tables.
-fn check_sizes(root_pairs: &[i64], leaf_pairs: &[i64]) -> Checked
+fn check_sizes(root_pairs: &[i64], leaf_pairs: &[i64]) -> Result<(), Reason>
     ensures { checked_answer result ≡ answer (check_sizes root_pairs.now leaf_pairs.now) tt }
 {
-    let c = check_shape(root_pairs, PAIR_WIDTH, MAX_PAIRS, ROOT_PAIRS);
-    if let Checked::Refused(r) = c {
-        return Checked::Refused(r);
-    }
-    let c = check_shape(leaf_pairs, PAIR_WIDTH, MAX_PAIRS, LEAF_PAIRS);
-    if let Checked::Refused(r) = c {
-        return Checked::Refused(r);
-    }
-    let c = check_some(root_pairs, ROOT_PAIRS);
-    if let Checked::Refused(r) = c {
-        return Checked::Refused(r);
-    }
+    check_shape(root_pairs, PAIR_WIDTH, MAX_PAIRS, ROOT_PAIRS)?;
+    check_shape(leaf_pairs, PAIR_WIDTH, MAX_PAIRS, LEAF_PAIRS)?;
+    check_some(root_pairs, ROOT_PAIRS)?;
     check_some(leaf_pairs, LEAF_PAIRS)
 }
 
@@ -116,21 +101,30 @@ fn check_sizes(root_pairs: &[i64], leaf_pairs: &[i64]) -> Checked
 fn check_classified(
     root_pairs: &[i64],
     leaf_pairs: &[i64],
-    spec_class: &[usize],
-    impl_class: &[usize],
-) -> Checked
+    spec_class: &[Class],
+    impl_class: &[Class],
+) -> Result<(), Reason>
     requires { (length spec_class.now ≤ max_nodes) × (length impl_class.now ≤ max_nodes) }
     ensures { checked_answer result
         ≡ answer (check_classified spec_class.now impl_class.now root_pairs.now leaf_pairs.now) tt }
 {
-    let c = check_pairs(
-        root_pairs, ROOT_PAIRS, spec_class, impl_class, ROOT, ROOT_AT, true,
-    );
-    if let Checked::Refused(r) = c {
-        return Checked::Refused(r);
-    }
     check_pairs(
-        leaf_pairs, LEAF_PAIRS, spec_class, impl_class, LEAF, LAST_AT, false,
+        root_pairs,
+        ROOT_PAIRS,
+        spec_class,
+        impl_class,
+        Class::Root,
+        ROOT_AT,
+        true,
+    )?;
+    check_pairs(
+        leaf_pairs,
+        LEAF_PAIRS,
+        spec_class,
+        impl_class,
+        Class::Leaf,
+        LAST_AT,
+        false,
     )
 }
 
@@ -142,25 +136,20 @@ pub fn check_pairing(
     impl_edges: &[i64],
     root_pairs: &[i64],
     leaf_pairs: &[i64],
-) -> Checked
+) -> Result<(), Reason>
     requires { TakenTables spec_nodes.now spec_edges.now × TakenTables impl_nodes.now impl_edges.now }
     ensures { checked_answer result
         ≡ answer (check_pairing_rows (tables_of spec_nodes.now spec_edges.now impl_nodes.now impl_edges.now root_pairs.now leaf_pairs.now)) tt }
 {
-    let c = check_sizes(root_pairs, leaf_pairs);
-    if let Checked::Refused(r) = c {
-        return Checked::Refused(r);
-    }
-    let mut spec_class = [OTHER; MAX_NODES];
-    let mut impl_class = [OTHER; MAX_NODES];
+    check_sizes(root_pairs, leaf_pairs)?;
+    let mut spec_class = [Class::Other; MAX_NODES];
+    let mut impl_class = [Class::Other; MAX_NODES];
     classify(spec_nodes, spec_edges, &mut spec_class);
     classify(impl_nodes, impl_edges, &mut impl_class);
-    let specs = spec_nodes.len() / NODE_WIDTH;
-    let impls = impl_nodes.len() / NODE_WIDTH;
     check_classified(
         root_pairs,
         leaf_pairs,
-        &spec_class[..specs],
-        &impl_class[..impls],
+        &spec_class[..spec_nodes.len() / NODE_WIDTH],
+        &impl_class[..impl_nodes.len() / NODE_WIDTH],
     )
 }

@@ -1,13 +1,12 @@
 -- Marks of the nodes that earlier rows of a pair table have, and the check of the rows one by one with them.
 use mathlib.Core.Path.{◌≡◌, refl, sym, ap, subst, ◌∙◌}
-use mathlib.Core.Bool.{Bool, true, false, not, ◌&&◌, ◌||◌}
+use mathlib.Core.Bool.{Bool, true, false, ◌&&◌, ◌||◌}
 use mathlib.Core.Logic.{◌≢◌, ◌⊎◌, inl, inr, ⊎_elim}
 use mathlib.Core.List.{List}
 use mathlib.Core.Option.{Option}
 use Prim.Native.Nat.{ℕ, suc, ◌+◌, ◌*◌, ◌≤◌, ◌<◌}
 use native.Mathlib.Numerals.{add-one}
 use native.Mathlib.Omega.{arith}
-use borrow.Author.Tests.{eq-eqb}
 use lib.Dec.{T, eqb}
 use lib.IntN.{ℤ, pos}
 use lib.Signed.{◌≤ℤ◌, ◌<ℤ◌}
@@ -28,8 +27,9 @@ use Rattle.tables.specs.Tables.{pair_at}
 use Rattle.tables.proofs.Limits.{decides_same}
 use Rattle.tables.proofs.Checks.{checked, Left, left_none, left_on, left_stops}
 use Rattle.tables.proofs.Rows.{pairs-rest, pairs_end, pair_member, pair_own}
+use Rattle.pairing.specs.declared.Class.{Class}
 use Rattle.pairing.specs.Classes.{has_class}
-use Rattle.pairing.specs.Pairs.{same_by, check_pairs, is_marked, mark_of, Unmarked, check_at, check_row}
+use Rattle.pairing.specs.Pairs.{same_by, check_pairs, Unmarked, check_at, check_row}
 use Rattle.pairing.proofs.Classes.{class_index}
 use Rattle.pairing.proofs.Pairs.{pair_refused, pair_classed}
 
@@ -39,36 +39,36 @@ use Rattle.pairing.proofs.Pairs.{pair_refused, pair_classed}
 abbrev pub Among : (ℕ → ℤ) → ℕ → ℤ → Type 0
 Among node_of k v = (q : ℕ) × (q < k) × (node_of q ≡ v)
 
--- marks that are all 0 are not set
-pub unmarked_zeros : (n : ℕ) {count : ℕ} → count ≤ n → Unmarked count (replicate n 0)
-unmarked_zeros n h = record { room = omega (arith, length-replicate {A = ℕ} n 0); unset = λ v k. get_or-replicate n v 0 0 (omega (arith, k)) }
+-- marks that are all false are not set
+pub unmarked_zeros : (n : ℕ) {count : ℕ} → count ≤ n → Unmarked count (replicate n false)
+unmarked_zeros n h = record { room = omega (arith, length-replicate {A = Bool} n false); unset = λ v k. get_or-replicate n v false false (omega (arith, k)) }
 
 -- the mark of a node that a row has decides whether it may stand once
-mark_told : {P : Type 0} (once : Bool) → P → Decides (T once × P) (is_marked (mark_of once))
+mark_told : {P : Type 0} (once : Bool) → P → Decides (T once × P) once
 mark_told true p = passed (tt, p)
 mark_told false p = failed (λ w. w.0)
 
 -- of so many nodes exactly those of the first k rows are marked where a node may stand once, and else none
-pub record Marked (once : Bool) (node_of : ℕ → ℤ) (count k : ℕ) (marks : List ℕ) : Type 0 where
+pub record Marked (once : Bool) (node_of : ℕ → ℤ) (count k : ℕ) (marks : List Bool) : Type 0 where
   pub room : count ≤ length marks
-  pub each : (v : ℕ) → v < count → Decides (T once × Among node_of k (pos v)) (is_marked (get_or marks v 0))
+  pub each : (v : ℕ) → v < count → Decides (T once × Among node_of k (pos v)) (get_or marks v false)
 
 module _ {once : Bool} {node_of : ℕ → ℤ} {count : ℕ} where
   -- before the first row no node is marked
-  marked-none : {marks : List ℕ} → Unmarked count marks → Marked once node_of count 0 marks
+  marked-none : {marks : List Bool} → Unmarked count marks → Marked once node_of count 0 marks
   marked-none {marks} u =
       record {
         room = u.room;
         each = λ v h.
-            subst (λ (t : Bool). Decides (T once × Among node_of 0 (pos v)) (not t)) (sym (eq-eqb (get_or marks v 0) 0 (u.unset v h)))
+            subst (λ (t : Bool). Decides (T once × Among node_of 0 (pos v)) t) (sym (u.unset v h))
             (failed (λ w. omega (arith, w.1.1)));
       }
 
   -- the node of the next row gets its mark
-  marked_more : {k : ℕ} {marks : List ℕ} (i : ℕ) → pos i ≡ node_of k → i < count → Marked once node_of count k marks
-      → Marked once node_of count (suc k) (set marks i (mark_of once))
+  marked_more : {k : ℕ} {marks : List Bool} (i : ℕ) → pos i ≡ node_of k → i < count → Marked once node_of count k marks
+      → Marked once node_of count (suc k) (set marks i once)
   marked_more {k} {marks} i e h m =
-      record { room = omega (arith, m.room, length-set marks i (mark_of once)); each = λ v j. go v (eqb i v) (eq? i v) (m.each v j) }
+      record { room = omega (arith, m.room, length-set marks i once); each = λ v j. go v (eqb i v) (eq? i v) (m.each v j) }
     where
       earlier : (v : ℕ) → i ≢ v → Among node_of (suc k) (pos v) → Among node_of k (pos v)
       earlier v n w = go (eqb w.0 k) (eq? w.0 k)
@@ -77,14 +77,14 @@ module _ {once : Bool} {node_of : ℕ → ℤ} {count : ℕ} where
           go true (passed q) = absurd (n (let r : pos i ≡ pos v = e ∙ ap node_of (sym q) ∙ w.2 in omega (arith, ints, r)))
           go false (failed q) = (w.0, omega (arith, w.1, q), w.2)
 
-      go : (v : ℕ) (t : Bool) → Test (i ≡ v) (i ≢ v) t → Decides (T once × Among node_of k (pos v)) (is_marked (get_or marks v 0))
-          → Decides (T once × Among node_of (suc k) (pos v)) (is_marked (get_or (set marks i (mark_of once)) v 0))
+      go : (v : ℕ) (t : Bool) → Test (i ≡ v) (i ≢ v) t → Decides (T once × Among node_of k (pos v)) (get_or marks v false)
+          → Decides (T once × Among node_of (suc k) (pos v)) (get_or (set marks i once) v false)
       go v true (passed q) d =
-          subst (λ (c : ℕ). Decides (T once × Among node_of (suc k) (pos v)) (not (eqb c 0)))
-          (sym (ap (λ j. get_or (set marks i (mark_of once)) j 0) (sym q) ∙ get_or-set_same marks i (mark_of once) 0 (omega (arith, h, m.room))))
+          subst (λ (c : Bool). Decides (T once × Among node_of (suc k) (pos v)) c)
+          (sym (ap (λ j. get_or (set marks i once) j false) (sym q) ∙ get_or-set_same marks i once false (omega (arith, h, m.room))))
           (mark_told once (k, omega arith, sym e ∙ ap pos q))
       go v false (failed n) d =
-          subst (λ (c : ℕ). Decides (T once × Among node_of (suc k) (pos v)) (not (eqb c 0))) (sym (get_or-set_other marks i v (mark_of once) 0 (λ q. n (sym q))))
+          subst (λ (c : Bool). Decides (T once × Among node_of (suc k) (pos v)) c) (sym (get_or-set_other marks i v once false (λ q. n (sym q))))
           (decides_as (λ w. (w.0, (w.1.0, omega (arith, w.1.1), w.1.2)), λ w. (w.0, earlier v n w.1)) d)
 
 -- ---- both sides
@@ -107,10 +107,10 @@ module _ (ps : List ℤ) where
   impl_at k = (pair_at ps k).impl
 
   -- an earlier row is the same as row k exactly where one of its two nodes is marked
-  before-marked : {specOnce : Bool} {specs impls k : ℕ} {specMarks implMarks : List ℕ} → Marked specOnce spec_at specs k specMarks
+  before-marked : {specOnce : Bool} {specs impls k : ℕ} {specMarks implMarks : List Bool} → Marked specOnce spec_at specs k specMarks
       → Marked true impl_at impls k implMarks
       → pair_width * k + pair_width ≤ length ps → (s i : ℕ) → pos s ≡ spec_at k → pos i ≡ impl_at k → s < specs → i < impls
-      → any (clashes (same_by specOnce) (pair_at ps k)) (pair_rows ps) ≡ is_marked (get_or specMarks s 0) || is_marked (get_or implMarks i 0)
+      → any (clashes (same_by specOnce) (pair_at ps k)) (pair_rows ps) ≡ (get_or specMarks s false) || (get_or implMarks i false)
   before-marked {specOnce} {k} m n there s i q r h j =
       decides_same (paired_before? (same_by? specOnce) (pair_rows ps) (pair_at ps k))
       (decides_as (λ c. ⊎_elim spec_row impl_row c, marks) (decides_or (m.each s h) (n.each i j)))
@@ -134,28 +134,26 @@ module _ (ps : List ℤ) where
 
 -- ---- the rows, one by one
 
-module _ (ps : List ℤ) (t wanted : ℕ) (most : ℤ) (specOnce : Bool) (specClass implClass : List ℕ) where
+module _ (ps : List ℤ) (t : ℕ) (wanted : Class) (most : ℤ) (specOnce : Bool) (specClass implClass : List Class) where
   -- the check of a row
   abbrev check_of : Pair → Option Refusal
   check_of = check_pair t (has_class specClass wanted) (has_class implClass wanted) most (same_by specOnce) (pair_rows ps)
 
   -- the state between two turns: the first k rows are not refused, and their nodes have their marks
-  pub record Passed (specMarks₀ implMarks₀ specMarks implMarks : List ℕ) (k : ℕ) : Type 0 where
+  pub record Passed (specMarks implMarks : List Bool) (k : ℕ) : Type 0 where
     pub within : pair_width * k ≤ length ps
     pub left : Left check_of (pair_rows ps) (pairs_from k (drop (pair_width * k) ps))
     pub specs : Marked specOnce (spec_at ps) (length specClass) k specMarks
     pub impls : Marked true (impl_at ps) (length implClass) k implMarks
-    pub spec_size : length specMarks ≡ length specMarks₀
-    pub impl_size : length implMarks ≡ length implMarks₀
 
   -- before the first turn
-  pub passed_start : {specMarks implMarks : List ℕ} → Unmarked (length specClass) specMarks → Unmarked (length implClass) implMarks
-      → Passed specMarks implMarks specMarks implMarks 0
+  pub passed_start : {specMarks implMarks : List Bool} → Unmarked (length specClass) specMarks → Unmarked (length implClass) implMarks
+      → Passed specMarks implMarks 0
   passed_start u w =
-      record { within = omega arith; left = refl; specs = marked-none u; impls = marked-none w; spec_size = refl; impl_size = refl }
+      record { within = omega arith; left = refl; specs = marked-none u; impls = marked-none w }
 
-module _ {ps : List ℤ} {t wanted : ℕ} {most : ℤ} {specOnce : Bool} {specClass implClass specMarks₀ implMarks₀ specMarks implMarks : List ℕ} {k : ℕ}
-    (p : Passed ps t wanted most specOnce specClass implClass specMarks₀ implMarks₀ specMarks implMarks k)
+module _ {ps : List ℤ} {t : ℕ} {wanted : Class} {most : ℤ} {specOnce : Bool} {specClass implClass : List Class} {specMarks implMarks : List Bool} {k : ℕ}
+    (p : Passed ps t wanted most specOnce specClass implClass specMarks implMarks k)
   where
     -- the tests on the nodes of a row, and on those of row k
     abbrev spec_test : ℤ → Bool
@@ -201,7 +199,7 @@ module _ {ps : List ℤ} {t wanted : ℕ} {most : ℤ} {specOnce : Bool} {specCl
 
           -- what is left of the check of the row, by the marks of its nodes
           abbrev row_check : Option Refusal
-          row_check = check_row t most (get_or specMarks s 0) (get_or implMarks i 0) (pair_at ps k)
+          row_check = check_row t most (get_or specMarks s false) (get_or implMarks i false) (pair_at ps k)
 
           -- the marks tell whether an earlier row is the same
           row_left : check_pair t spec_test impl_test most (same_by specOnce) (pair_rows ps) (pair_at ps k) ≡ row_check
@@ -215,7 +213,7 @@ module _ {ps : List ℤ} {t wanted : ℕ} {most : ℤ} {specOnce : Bool} {specCl
 
           -- a row that is not refused is left behind, and its nodes get their marks
           pub passed-next : full tt ≡ checked row_check
-              → Passed ps t wanted most specOnce specClass implClass specMarks₀ implMarks₀ (set specMarks s (mark_of specOnce)) (set implMarks i 1) (k + 1)
+              → Passed ps t wanted most specOnce specClass implClass (set specMarks s specOnce) (set implMarks i true) (k + 1)
           passed-next e =
               rw add-one
               (record {
@@ -223,6 +221,4 @@ module _ {ps : List ℤ} {t wanted : ℕ} {most : ℤ} {specOnce : Bool} {specCl
                 left = left_on _ _ p.left (pairs-rest ps k there) (e ∙ ap checked (sym row_left));
                 specs = marked_more s q spec-below p.specs;
                 impls = marked_more i r impl-below p.impls;
-                spec_size = length-set specMarks s (mark_of specOnce) ∙ p.spec_size;
-                impl_size = length-set implMarks i 1 ∙ p.impl_size;
               })

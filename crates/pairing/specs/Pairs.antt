@@ -1,5 +1,5 @@
 -- The rows of a pair table, as the code reads them, and their checks. Assumes nothing.
-use Rattle.std.specs.Prelude.{◌≡◌, Bool, not, cond, ◌||◌, List, ℕ, ◌≤◌, ◌<◌, eqb, ℤ, length, get_or}
+use Rattle.std.specs.Prelude.{◌≡◌, Bool, false, not, cond, ◌||◌, List, ℕ, ◌≤◌, ◌<◌, eqb, ℤ, length, get_or}
 use Rattle.std.proofs.Math.Option.{Option}
 use Rattle.model.specs.Rows.{Pair, pair_rows}
 use Rattle.model.specs.Compare.{Tables}
@@ -28,18 +28,10 @@ tables_of sn se mn me rp lp = record { spec_nodes = sn; spec_edges = se; impl_no
 
 -- ---- marks of the nodes that earlier rows have
 
--- the mark of a node is set
-abbrev pub is_marked : ℕ → Bool
-is_marked mark = not (eqb mark 0)
-
--- the mark of a node that a row has: set where the node may stand once
-abbrev pub mark_of : Bool → ℕ
-mark_of once = cond once 1 0
-
 -- marks for so many nodes, none of them set
-pub record Unmarked (count : ℕ) (marks : List ℕ) : Type 0 where
+pub record Unmarked (count : ℕ) (marks : List Bool) : Type 0 where
   pub room : count ≤ length marks
-  pub unset : (v : ℕ) → v < count → get_or marks v 0 ≡ 0
+  pub unset : (v : ℕ) → v < count → get_or marks v false ≡ false
 
 -- ---- the checks of a row whose nodes pass their tests
 
@@ -48,9 +40,9 @@ abbrev pub check_at : ℕ → ℤ → Pair → Option Refusal
 check_at t most p = when (not (good_at most p)) 16 t p.row
 
 -- refusal 8 of row k, whose nodes have these marks
-abbrev pub check_marks : ℕ → ℕ → ℕ → ℕ → Option Refusal
-check_marks t k specMark implMark = when (is_marked specMark || is_marked implMark) 8 t k
+abbrev pub check_marks : ℕ → ℕ → Bool → Bool → Option Refusal
+check_marks t k specMark implMark = when (specMark || implMark) 8 t k
 
 -- refusal 16, then 8 of row p
-abbrev pub check_row : ℕ → ℤ → ℕ → ℕ → Pair → Option Refusal
+abbrev pub check_row : ℕ → ℤ → Bool → Bool → Pair → Option Refusal
 check_row t most specMark implMark p = check_at t most p then check_marks t p.row specMark implMark

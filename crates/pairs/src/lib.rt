@@ -57,7 +57,7 @@ pub fn pair_found(
     );
     let verdict = judged.verdict;
     Found {
-        verdict: verdict,
+        verdict,
         lengths: Lengths {
             spec: spec.count,
             implementation: implementation.count,

@@ -1,6 +1,6 @@
 -- The pass over the edges of a plan, each behind all edges that enter the node it leaves, counts the paths from a root, turn by turn, over the lists that
 -- the code has.
-use mathlib.Core.Path.{◌≡◌, refl, sym, ap, subst, ◌∙◌}
+use mathlib.Core.Path.{◌≡◌, refl, sym, ap, ◌∙◌}
 use mathlib.Core.List.Memᴰ
 use mathlib.Core.List.{List, [], ◌∷◌}
 use mathlib.Core.Logic.{⊎_elim}
@@ -22,7 +22,7 @@ use Rattle.reach.specs.Counting.{path_count, stopped}
 use Rattle.reach.proofs.Counting.{count-leaf}
 use Rattle.reach.proofs.Ends.{Ends, edge_ends, from-below, to_below, row_below}
 use Rattle.reach.proofs.Pass.{begun}
-use Rattle.reach.proofs.Sweep.{CutBy, cut-start, cut_on, Counts, Swept, swept_start, swept_stopped, swept_whole, swept_next, sum_over}
+use Rattle.reach.proofs.Sweep.{CutBy, cut-start, cut_on, Counts, Swept, swept_start, swept_stopped, swept_whole, swept_next}
 use Rattle.reach.proofs.Turns.{drop_head}
 use Rattle.entering.specs.Entering.{enters, entering}
 use Rattle.entering.proofs.Counts.{count-entering}
@@ -127,11 +127,6 @@ module _ (ns es : List ℤ) (plan : List ℕ) (root : ℕ) where
                         (to_below turn_ends to r) (from-below turn_ends from q) cut.ordered.0;
                     size = length-set counts to _ ∙ p.size;
                   }
-
-          -- a node without a path from the root adds nothing
-          pub pass_over : get_or counts from 0 ≡ 0 → Passed start counts (i + 1)
-          pass_over z =
-              subst (λ (t : List ℕ). Passed start t (i + 1)) (sum_over counts to from (turn_stopped to (to_below turn_ends to r)) z) pass_next
 
       -- behind the last turn
       pub pass_end : planned_count plan ≤ i → Counted ns es plan root counts

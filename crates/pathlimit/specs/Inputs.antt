@@ -1,6 +1,6 @@
 -- What a comparison of checked tables starts from: two taken graphs with a pairing of their roots and leaves, each planned for its paired leaves, the groups of
 -- leaf pairs linked, and few paths between paired nodes. Assumes nothing.
-use Rattle.std.specs.Prelude.{List, ℕ, ◌≤◌, ℤ, pos, ◌≤ℤ◌, length}
+use Rattle.std.specs.Prelude.{List, ℕ, ◌≤◌, pos, ◌≤ℤ◌, length}
 use Rattle.lists.specs.Lists.{◌∈◌}
 use Rattle.model.specs.Limits.{pair_width, max_pairs, last_at, max_paths}
 use Rattle.model.specs.Rows.{Pair}

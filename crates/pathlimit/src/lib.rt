@@ -16,52 +16,43 @@ ghost use Rattle.pathlimit.specs.Checks.{check_paths, check_row, check_counts, c
 
 use forward::{planned_count, planned_row};
 use grouping::{group_count, group_row, group_total};
-use model::{
-    Checked, IMPL_EDGES, MAX_PATHS, NODE_WIDTH, PAIR_WIDTH, ROOT_STRIDE, Reason, SPEC_EDGES,
-};
+use model::{IMPL_EDGES, MAX_PATHS, NODE_WIDTH, PAIR_WIDTH, ROOT_STRIDE, Reason, SPEC_EDGES};
 use pairing::{impl_node, spec_node};
 use reach::{add_paths, start_counts};
 use tables::{edge_from, edge_to};
 
 // Sets counts[v], for each node v whose entering edges the plan has, to the number of paths from the root to v, or to MAX_PATHS + 1 where there are
 // more than MAX_PATHS. One pass over the edges of the plan, each behind all edges that enter the node it leaves. An edge from a node without a path
-// adds none: it is passed over.
+// adds none.
 fn count_from(nodes: &[i64], edges: &[i64], plan: &[usize], root: usize, counts: &mut [usize])
     requires { Countable nodes.now edges.now plan.now root counts.old }
     ensures { Counted nodes.now edges.now plan.now root counts.new }
 {
     start_counts(counts, nodes.len() / NODE_WIDTH, root);
-    let count = planned_count(plan);
-    let mut i = 0;
-    while i < count {
+    for i in 0..planned_count(plan) {
         let e = planned_row(plan, i);
-        i += 1;
-        let from = edge_from(edges, e);
-        let to = edge_to(edges, e);
-        let more = counts[from];
-        if more != 0 {
-            add_paths(counts, to, more);
-        }
+        let more = counts[edge_from(edges, e)];
+        add_paths(counts, edge_to(edges, e), more);
     }
 }
 
 // Refusal 10 of a pair at this place in visiting order, by the counts of its paths. The specification comes first.
-fn check_counts(place: usize, spec_count: usize, impl_count: usize) -> Checked
+fn check_counts(place: usize, spec_count: usize, impl_count: usize) -> Result<(), Reason>
     ensures { checked_answer result ≡ answer (check_counts place spec_count impl_count) tt }
 {
     if spec_count > MAX_PATHS {
-        return Checked::Refused(Reason::ManyPaths {
+        return Err(Reason::ManyPaths {
             table: SPEC_EDGES,
             row: place,
         });
     }
     if impl_count > MAX_PATHS {
-        return Checked::Refused(Reason::ManyPaths {
+        return Err(Reason::ManyPaths {
             table: IMPL_EDGES,
             row: place,
         });
     }
-    Checked::Taken
+    Ok(())
 }
 
 // Refusal 10 of a root row with the groups one after the other, by the counts of the paths from its roots: at the specification leaf of a group, and at its banks
@@ -72,26 +63,20 @@ fn check_groups(
     root_row: usize,
     spec_counts: &[usize],
     impl_counts: &[usize],
-) -> Checked
+) -> Result<(), Reason>
     requires { GroupsCounted leaf_pairs.now links.now root_row spec_counts.now impl_counts.now }
     ensures { checked_answer result
         ≡ answer (first_refusal (check_group (pair_rows leaf_pairs.now) spec_counts.now impl_counts.now root_row)
         (lowest_rows (pair_rows leaf_pairs.now))) tt }
 {
-    let count = group_count(links);
-    let mut k: usize = 0;
-    while k < count {
+    for k in 0..group_count(links) {
         let leaf_row = group_row(links, k);
         let spec_leaf = spec_node(leaf_pairs, leaf_row);
         let place = root_row * ROOT_STRIDE + leaf_row;
         let impl_count = group_total(leaf_pairs, links, leaf_row, impl_counts);
-        let c = check_counts(place, spec_counts[spec_leaf], impl_count);
-        if let Checked::Refused(r) = c {
-            return Checked::Refused(r);
-        }
-        k += 1;
+        check_counts(place, spec_counts[spec_leaf], impl_count)?;
     }
-    Checked::Taken
+    Ok(())
 }
 
 // Refusal 10 of a root row: the paths from its two roots are counted, then the groups are checked.
@@ -108,7 +93,7 @@ fn check_row(
     root_row: usize,
     spec_counts: &mut [usize],
     impl_counts: &mut [usize],
-) -> Checked
+) -> Result<(), Reason>
     requires { Plans (tables_of spec_nodes.now spec_edges.now impl_nodes.now impl_edges.now root_pairs.now leaf_pairs.now)
         spec_plan.now impl_plan.now links.now
         × (max_nodes ≤ length spec_counts.old) × (max_nodes ≤ length impl_counts.old) × (root_row < length root_pairs.now / pair_width) }
@@ -139,7 +124,7 @@ pub fn check_paths(
     links: &[usize],
     spec_counts: &mut [usize],
     impl_counts: &mut [usize],
-) -> Checked
+) -> Result<(), Reason>
     requires { Plans (tables_of spec_nodes.now spec_edges.now impl_nodes.now impl_edges.now root_pairs.now leaf_pairs.now)
         spec_plan.now impl_plan.now links.now
         × (max_nodes ≤ length spec_counts.old) × (max_nodes ≤ length impl_counts.old) }
@@ -149,12 +134,10 @@ pub fn check_paths(
         root_pairs.now leaf_pairs.now)) tt }
 {
     if planned_count(spec_plan) + planned_count(impl_plan) == 0 {
-        return Checked::Taken;
+        return Ok(());
     }
-    let count = root_pairs.len() / PAIR_WIDTH;
-    let mut root_row: usize = 0;
-    while root_row < count {
-        let c = check_row(
+    for root_row in 0..root_pairs.len() / PAIR_WIDTH {
+        check_row(
             spec_nodes,
             spec_edges,
             impl_nodes,
@@ -167,11 +150,7 @@ pub fn check_paths(
             root_row,
             spec_counts,
             impl_counts,
-        );
-        if let Checked::Refused(r) = c {
-            return Checked::Refused(r);
-        }
-        root_row += 1;
+        )?;
     }
-    Checked::Taken
+    Ok(())
 }

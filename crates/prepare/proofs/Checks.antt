@@ -1,4 +1,5 @@
 -- The checks of a comparison one after the other: what is left of them, and what they leave.
+use Rattle.std.specs.Prelude.{Err, Ok, Result}
 use mathlib.Core.Path.{◌≡◌, refl, sym, ap, subst, ◌∙◌}
 use mathlib.Core.List.{List, map}
 use mathlib.Core.Option.{Option, none, some}
@@ -15,11 +16,9 @@ use Rattle.model.specs.Taken.{TakenTables}
 use Rattle.model.specs.Compare.{Tables, spec_graph, impl_graph, leaf_rows}
 use Rattle.model.specs.Refusals.{Refusal}
 use Rattle.model.specs.Checks.{◌then◌, check_graph, check_tables}
-use Rattle.model.specs.Calls.{full, answer}
+use Rattle.model.specs.Calls.{refused, full, answer}
 use Rattle.model.specs.Answers.{refusal_of, checked_answer}
 use Rattle.model.specs.declared.Reason.{Reason}
-use Rattle.model.specs.declared.Checked.{Checked}
-use Rattle.model.specs.declared.Checked.TheVariants.{Taken, Refused}
 use Rattle.model.proofs.Checks.{then-none, answer-some, answer-none}
 use Rattle.tables.proofs.Checks.{checked, then_on, then_stops}
 use Rattle.tables.proofs.Rows.{graph-nodes_length}
@@ -40,15 +39,15 @@ use Rattle.prepare.proofs.Inputs.{pairing_inputs, paths-few}
 -- ---- one check after the other
 
 -- an answer that takes is that of no refusal
-pub taken_none : {given : Checked} (a : Option Refusal) → given ≡ Taken → checked_answer given ≡ checked a → a ≡ none
+pub taken_none : {given : Result (Unit {0}) Reason} (a : Option Refusal) → given ≡ Ok tt → checked_answer given ≡ checked a → a ≡ none
 taken_none a g e = (answer-none tt a).0 (sym e ∙ ap checked_answer g)
 
 -- what the checks say of the tables
-module _ {t : Tables} {given : Checked} {sp mp links : List ℕ} (p : Prepared t given sp mp links) where
-  pub prepared_none : given ≡ Taken → check_tables t ≡ none
+module _ {t : Tables} {given : Result (Unit {0}) Reason} {sp mp links : List ℕ} (p : Prepared t given sp mp links) where
+  pub prepared_none : given ≡ Ok tt → check_tables t ≡ none
   prepared_none g = taken_none (check_tables t) g p.answers
 
-  pub prepared_some : {reason : Reason} → given ≡ Refused reason → check_tables t ≡ some (refusal_of reason)
+  pub prepared_some : {reason : Reason} → given ≡ Err reason → check_tables t ≡ some (refusal_of reason)
   prepared_some g = (answer-some tt (check_tables t)).0 (sym p.answers ∙ ap checked_answer g)
 
 module _ (t : Tables) where
@@ -61,30 +60,30 @@ module _ (t : Tables) where
   unfolding check_tables
   rest_all = rw (check-pairing-rows t) refl
 
-  module _ (a b : Option Refusal) {given : Checked} (r : Rest (a then b)) (p : checked_answer given ≡ checked a) where
+  module _ (a b : Option Refusal) (r : Rest (a then b)) where
     -- a check that takes leaves the answer to those behind it
-    pub rest_on : given ≡ Taken → Rest b
-    rest_on g = r ∙ then_on a b (ap checked_answer (sym g) ∙ p)
+    pub rest_on : full tt ≡ checked a → Rest b
+    rest_on p = r ∙ then_on a b p
 
     -- a check that refuses gives it
-    pub rest-refused : {reason : Reason} {sp mp links : List ℕ} → given ≡ Refused reason → Prepared t (Refused reason) sp mp links
-    rest-refused g =
+    pub rest-refused : {reason : Reason} {sp mp links : List ℕ} → refused (refusal_of reason) ≡ checked a → Prepared t (Err reason) sp mp links
+    rest-refused p =
         record {
-          answers = then_stops a b (ap checked_answer (sym g) ∙ p) ∙ sym r;
+          answers = then_stops a b p ∙ sym r;
           ready = λ e. let q = ap checked_answer e in let z : ◌≡◌ {A = ℕ} 0 1 = cc in absurd (omega arith);
         }
 
   -- behind the plans the check of the paths is left
-  pub rest-paths : {given : Checked} {sp mp links : List ℕ} → Plans t sp mp links → checked_answer given ≡ checked (check_paths t) → Rest (check_paths t)
+  pub rest-paths : {given : Result (Unit {0}) Reason} {sp mp links : List ℕ} → Plans t sp mp links → checked_answer given ≡ checked (check_paths t) → Rest (check_paths t)
       → Prepared t given sp mp links
   rest-paths k p r = record { answers = p ∙ sym r; ready = λ g. record { plans = k; few = paths-few t (taken_none (check_paths t) g p) } }
 
 -- ---- a graph that is taken
 
-module _ {table : ℕ} {ns es : List ℤ} {buffer order : List ℕ} {given : Checked} (p : GraphChecked table ns es buffer given order) (g : given ≡ Taken) where
+module _ {table : ℕ} {ns es : List ℤ} {buffer order : List ℕ} (p : GraphChecked table ns es buffer (Ok tt) order) where
   -- its check gives no refusal
   graph-full : full tt ≡ checked (check_graph table ns es)
-  graph-full = ap checked_answer (sym g) ∙ p.answers
+  graph-full = p.answers
 
   -- its tables are taken
   pub graph-taken : TakenTables ns es

@@ -18,7 +18,7 @@ use Rattle.model.specs.Groups.{group_paths}
 use Rattle.model.specs.Taken.{TakenTables, PairTaken}
 use Rattle.model.specs.Compare.{Tables, spec_graph, impl_graph, root_rows, banks, groups, visits}
 use Rattle.model.specs.Refusals.{pair_conditions}
-use Rattle.model.specs.Checks.{when, ◌then◌, check_shape, is_root, same_root, many_paths, check_visit}
+use Rattle.model.specs.Checks.{when, check_shape, is_root, same_root, many_paths, check_visit}
 use Rattle.model.proofs.Checks.{then-none, first-each}
 use Rattle.model.proofs.Settled.{Settled}
 use Rattle.model.proofs.GraphChecks.{is_root?, is_leaf?}

@@ -10,7 +10,7 @@ ghost use Rattle.prepare.specs.Prepared.{Prepared};
 use depth::check_graph_with;
 use forward::plan_graph;
 use grouping::link_banks;
-use model::{Checked, IMPL_NODES, MAX_EDGES, SPEC_NODES};
+use model::{IMPL_NODES, MAX_EDGES, Reason, SPEC_NODES};
 use paircheck::check_pairing;
 use pairing::{IMPL_COLUMN, SPEC_COLUMN};
 use pathlimit::check_paths;
@@ -28,7 +28,7 @@ pub fn prepare(
     spec_plan: &mut [usize],
     impl_plan: &mut [usize],
     links: &mut [usize],
-) -> Checked
+) -> Result<(), Reason>
     requires { (length spec_plan.old ≡ plan_room) × (length impl_plan.old ≡ plan_room) × (length links.old ≡ link_room) }
     ensures { Prepared
         (tables_of spec_nodes.now spec_edges.now impl_nodes.now impl_edges.now
@@ -37,20 +37,11 @@ pub fn prepare(
 {
     let mut first = [0usize; MAX_EDGES];
     let mut second = [0usize; MAX_EDGES];
-    let c = check_graph_with(spec_nodes, spec_edges, SPEC_NODES, spec_plan, &mut first);
-    if let Checked::Refused(reason) = c {
-        return Checked::Refused(reason);
-    }
-    let c = check_graph_with(impl_nodes, impl_edges, IMPL_NODES, impl_plan, &mut second);
-    if let Checked::Refused(reason) = c {
-        return Checked::Refused(reason);
-    }
-    let c = check_pairing(
+    check_graph_with(spec_nodes, spec_edges, SPEC_NODES, spec_plan, &mut first)?;
+    check_graph_with(impl_nodes, impl_edges, IMPL_NODES, impl_plan, &mut second)?;
+    check_pairing(
         spec_nodes, spec_edges, impl_nodes, impl_edges, root_pairs, leaf_pairs,
-    );
-    if let Checked::Refused(reason) = c {
-        return Checked::Refused(reason);
-    }
+    )?;
     plan_graph(
         spec_nodes,
         spec_edges,

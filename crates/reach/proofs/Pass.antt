@@ -1,12 +1,12 @@
 -- The pass over the edges of taken tables in backward order, turn by turn, over the lists that the code has.
-use mathlib.Core.Path.{◌≡◌, refl, sym, ap, subst, ◌∙◌}
+use mathlib.Core.Path.{◌≡◌, refl, sym, ap, ◌∙◌}
 use mathlib.Core.List.Memᴰ
 use mathlib.Core.List.{List, ◌++◌}
 use mathlib.Core.Logic.{⊎_elim}
 use Prim.Native.Nat.{ℕ, ◌+◌, ◌/◌, ◌≤◌, ◌<◌}
 use native.Mathlib.Omega.{arith}
 use lib.IntN.{ℤ, pos}
-use lib.ListN.{length, get_or, drop, set, replicate, length-set, length-replicate}
+use lib.ListN.{length, get_or, take, drop, set, replicate, length-set, length-replicate}
 use lib.Seq.{drop-set-lt, drop_at}
 use Rattle.integers.proofs.Linear.{ints}
 use Rattle.model.specs.Limits.{node_width, edge_width, max_paths}
@@ -19,7 +19,7 @@ use Rattle.model.proofs.Taken.{taken-fit}
 use Rattle.tables.specs.Tables.{edge_at}
 use Rattle.tables.proofs.Rows.{nodes_length}
 use Rattle.reach.specs.Counting.{path_count, stopped, counts_of, counts_over, Countable}
-use Rattle.reach.proofs.Sweep.{Counts, Swept, swept_start, swept_stopped, swept_whole, swept_next, sum_over}
+use Rattle.reach.proofs.Sweep.{Counts, Swept, swept_start, swept_stopped, swept_whole, swept_next}
 use Rattle.reach.proofs.Counting.{count-leaf, count-step}
 use Rattle.reach.proofs.Values.{values-front}
 use Rattle.reach.proofs.Turns.{Between, between_start, between_next, between_end, turn, turn_ends, turn_from, turn_to}
@@ -73,34 +73,33 @@ module _ (ns es : List ℤ) (order : List ℕ) (leaf : ℕ) where
         let fit = taken-fit p.at.tables.graph p.block in
         record { once = edges-distinct es; one = count-leaf (graph_of ns es) (pos leaf); bare = fit.ends; step = λ v n. count-step fit n }
 
-    module _ (from to : ℕ) (h : i < length es / edge_width) (q : pos from ≡ (edge_at es (get_or order i 0)).from) (r : pos to ≡ (edge_at es (get_or order i 0)).to) where
-      ends : Ends ns es (get_or order i 0)
-      ends = (turn_ends ns es order p.at h).1
+    module _ (from to : ℕ) (h : i < length (take (length es / edge_width) order))
+        (q : pos from ≡ (edge_at es (get_or (take (length es / edge_width) order) i 0)).from)
+        (r : pos to ≡ (edge_at es (get_or (take (length es / edge_width) order) i 0)).to)
+      where
+        ends : Ends ns es (get_or (take (length es / edge_width) order) i 0)
+        ends = turn_ends ns es order p.at h
 
-      -- the count of the node that the edge enters is added to that of the node that it leaves
-      pub pass_next : Passed start (set counts from (stopped (get_or counts from 0 + get_or counts to 0))) (i + 1)
-      pass_next =
-          let sum = stopped (get_or counts from 0 + get_or counts to 0) in
-          let f = from-below ends from q in
-          let t = turn ns es order p.at h in
-          let c = t.cut in
-          record {
-            block = p.block;
-            at = between_next ns es order p.at h;
-            swept =
-                swept_next (λ e. e.from) (λ e. e.to) paths_from leaf (length ns / node_width) counts-leaving c.passed-once c.passed_in p.swept from to
-                (c.ahead_in t.edge (Memᴰ.head refl)) (turn_from ns es order p.at from h q) (turn_to ns es order p.at to h r) f
-                (to_below ends to r) c.ordered.0;
-            size = length-set counts from sum ∙ p.size;
-            kept = drop-set-lt (length ns / node_width) counts from sum f ∙ p.kept;
-          }
-
-      -- a node without a path to the leaf adds nothing
-      pub pass_over : get_or counts to 0 ≡ 0 → Passed start counts (i + 1)
-      pass_over z = subst (λ (t : List ℕ). Passed start t (i + 1)) (sum_over counts from to (turn_stopped from (from-below ends from q)) z) pass_next
+        -- the count of the node that the edge enters is added to that of the node that it leaves
+        pub pass_next : Passed start (set counts from (stopped (get_or counts from 0 + get_or counts to 0))) (i + 1)
+        pass_next =
+            let sum = stopped (get_or counts from 0 + get_or counts to 0) in
+            let f = from-below ends from q in
+            let t = turn ns es order p.at h in
+            let c = t.cut in
+            record {
+              block = p.block;
+              at = between_next ns es order p.at h;
+              swept =
+                  swept_next (λ e. e.from) (λ e. e.to) paths_from leaf (length ns / node_width) counts-leaving c.passed-once c.passed_in p.swept from to
+                  (c.ahead_in t.edge (Memᴰ.head refl)) (turn_from ns es order p.at from h q) (turn_to ns es order p.at to h r) f
+                  (to_below ends to r) c.ordered.0;
+              size = length-set counts from sum ∙ p.size;
+              kept = drop-set-lt (length ns / node_width) counts from sum f ∙ p.kept;
+            }
 
     -- behind the last turn
-    pub pass_end : (old : List ℕ) → length es / edge_width ≤ i → start ≡ begun (length ns / node_width) leaf old → counts ≡ counts_over (graph_of ns es) (pos leaf) old
+    pub pass_end : (old : List ℕ) → length (take (length es / edge_width) order) ≤ i → start ≡ begun (length ns / node_width) leaf old → counts ≡ counts_over (graph_of ns es) (pos leaf) old
     unfolding graph_of counts_over counts_of
     pass_end old h e =
         let n = length ns / node_width in

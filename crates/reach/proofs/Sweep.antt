@@ -12,7 +12,7 @@ use native.Mathlib.Omega.{arith}
 use lib.Dec.{eqb}
 use lib.IntN.{ℤ, pos}
 use lib.ListN.{length, get_or, set, replicate, length-set, length-replicate, length-append, get_or-replicate, get_or-append}
-use lib.Seq.{get_or-set_same, get_or-set_other, set-get_or}
+use lib.Seq.{get_or-set_same, get_or-set_other}
 use Rattle.integers.specs.Integers.{eq_z}
 use Rattle.integers.proofs.Linear.{ints}
 use Rattle.integers.proofs.Tests.{Test, passed, failed, eq_z?, eq?, test_of}
@@ -206,8 +206,3 @@ module _ (near far : Edge → ℤ) (count : ℤ → ℕ) (start n : ℕ) where
               at v j false (failed r) =
                   get_or-set_other counts a v sum 0 r ∙ s.each v j
                   ∙ ap stopped (sym (so_far_other near far count (pos start) before e (pos v) (λ z. let y : pos a ≡ pos v = p ∙ z in r (omega (arith, ints, y)))))
-
--- a far end that has none adds nothing
-pub sum_over : (counts : List ℕ) (a b : ℕ) → get_or counts a 0 ≤ max_paths + 1 → get_or counts b 0 ≡ 0 → set counts a (stopped (get_or counts a 0 + get_or counts b 0)) ≡ counts
-sum_over counts a b h z =
-    let same : stopped (get_or counts a 0 + get_or counts b 0) ≡ get_or counts a 0 = omega (arith, z, h) in ap (set counts a) same ∙ set-get_or counts a 0

@@ -10,67 +10,37 @@ ghost use Rattle.reach.specs.Links.{Linkable, Linked};
 use model::{EDGE_WIDTH, MAX_PATHS, NODE_WIDTH};
 use tables::{edge_from, edge_to};
 
-// The sum of two stopped counts, stopped.
-fn stopped_sum(a: usize, b: usize) -> usize
-    requires { (a ≤ max_paths + 1) × (b ≤ max_paths + 1) }
-    ensures { result ≡ stopped (a + b) }
-{
-    let sum = a + b;
-    if sum > MAX_PATHS {
-        return MAX_PATHS + 1;
-    }
-    sum
-}
-
-// Sets the first `count` elements to `value`.
-fn fill(out: &mut [usize], count: usize, value: usize)
-    requires { count ≤ length out.old }
-    ensures { out.new ≡ replicate count value ++ drop count out.old }
-{
-    let mut i = 0;
-    while i < count {
-        out[i] = value;
-        i += 1;
-    }
-}
-
 // Sets the counts of the first `count` nodes to what they are before a pass: 1 at the node from which paths are counted, 0 at the others.
 pub fn start_counts(counts: &mut [usize], count: usize, node: usize)
     requires { (node < count) × (count ≤ length counts.old) }
     ensures { counts.new ≡ set (replicate count 0 ++ drop count counts.old) node 1 }
 {
-    fill(counts, count, 0);
+    counts[..count].fill(0);
     counts[node] = 1;
 }
 
-// Adds `more` to the count of node v, which stops one past the limit.
+// Adds `more` to the count of node v, which stops one past the limit. Where `more` is 0 nothing is written.
 pub fn add_paths(counts: &mut [usize], v: usize, more: usize)
     requires { (v < length counts.old) × (get_or counts.old v 0 ≤ max_paths + 1) × (more ≤ max_paths + 1) }
     ensures { counts.new ≡ set counts.old v (stopped (get_or counts.old v 0 + more)) }
 {
-    counts[v] = stopped_sum(counts[v], more);
+    if more != 0 {
+        counts[v] = (counts[v] + more).min(MAX_PATHS + 1);
+    }
 }
 
 // Sets counts[v], for each node v, to the number of paths from v to the leaf, or to MAX_PATHS + 1 where there are more than MAX_PATHS.
 // One pass over the edges in an order that has each edge behind all edges that leave the node it enters. An edge into a node without a path adds
-// none: it is passed over.
+// none.
 pub fn count_paths(nodes: &[i64], edges: &[i64], order: &[usize], leaf: usize, counts: &mut [usize])
     requires { Countable nodes.now edges.now order.now leaf counts.old }
     ensures { counts.new
         ≡ counts_over (graph_of nodes.now edges.now) (pos leaf) counts.old }
 {
     start_counts(counts, nodes.len() / NODE_WIDTH, leaf);
-    let count = edges.len() / EDGE_WIDTH;
-    let mut i = 0;
-    while i < count {
-        let e = order[i];
-        i += 1;
-        let from = edge_from(edges, e);
-        let to = edge_to(edges, e);
-        let more = counts[to];
-        if more != 0 {
-            add_paths(counts, from, more);
-        }
+    for &e in &order[..edges.len() / EDGE_WIDTH] {
+        let more = counts[edge_to(edges, e)];
+        add_paths(counts, edge_from(edges, e), more);
     }
 }
 
@@ -87,10 +57,8 @@ pub fn link_edges(
     ensures { Linked counts.now (graph_of nodes.now edges.now) head.old next.old head.new next.new }
 {
     let count = edges.len() / EDGE_WIDTH;
-    fill(head, nodes.len() / NODE_WIDTH, count);
-    let mut e = count;
-    while 0 < e {
-        e -= 1;
+    head[..nodes.len() / NODE_WIDTH].fill(count);
+    for e in (0..count).rev() {
         let from = edge_from(edges, e);
         let to = edge_to(edges, e);
         next[e] = head[from];

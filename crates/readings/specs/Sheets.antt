@@ -1,6 +1,6 @@
 -- Readings of the global address sheet (document 02, item 4), and its limits at both edges, as lists of cases. Assumes nothing.
 -- Sheets of 2,600 and 2,601 lines take too long to compute: the tests of the host have them. The length of a text is judged as that of a map file is
--- (Readings.codeReadings).
+-- (Readings.code_readings).
 use Rattle.std.specs.Prelude.{◌≡◌, List, [], ◌∷◌, ◌++◌, ℕ, ℤ, pos}
 use Prim.Native.String.{String}
 use Rattle.model.specs.Calls.{Answer, full}

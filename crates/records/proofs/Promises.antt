@@ -1,9 +1,10 @@
 -- What list_records promises, from what list leaves in the work buffer.
+use Rattle.std.specs.Prelude.{Err, Ok, Result}
 use mathlib.Core.Path.{◌≡◌, refl, sym, ap, ◌∙◌}
 use mathlib.Core.Bool.{Bool, true, false, cond}
 use mathlib.Core.List.{List, ◌++◌, map-append, append_assoc}
 use mathlib.Core.Option.{Option, none, some}
-use Prim.Native.Nat.{ℕ, ◌*◌, ◌≤◌, ◌<◌}
+use Prim.Native.Nat.{min, ℕ, ◌*◌, ◌≤◌, ◌<◌}
 use native.Mathlib.Omega.{arith}
 use lib.Dec.{ltb}
 use lib.IntN.{ℤ}
@@ -19,8 +20,6 @@ use Rattle.model.specs.Refusals.{Refusal}
 use Rattle.model.specs.Calls.{Answer, refused, full, answer, length_of, buffer_after, numbers_of, list_answer, numbers_answer, list_gives, list_after}
 use Rattle.model.specs.Calls.{records_gives, records_after}
 use Rattle.model.specs.Answers.{written_answer}
-use Rattle.model.specs.declared.Written.{Written}
-use Rattle.model.specs.declared.Written.TheVariants as written
 use Rattle.tables.proofs.Checks.{checked}
 use Rattle.asked.specs.Asking.{check_asked}
 use Rattle.asked.proofs.Listed.{list-few}
@@ -32,6 +31,7 @@ use Rattle.sorting.specs.Rows.{rows_of}
 use Rattle.records.specs.Promises.{stored_record, stored_records, lent_numbers, work_after, RecordsStand, RecordsPromise}
 use Rattle.records.specs.Putting.{records_in, count_of, Listed}
 use Rattle.records.proofs.Putting.{records_in-numbers, stored_records_drop}
+use Rattle.model.specs.declared.Reason.{Reason}
 
 -- ---- the numbers that are lent
 
@@ -60,6 +60,14 @@ lent-within room = go (ltb room max_paths) (ltb? room max_paths)
     go : (t : Bool) → Test (room < max_paths) (max_paths ≤ room) t → (lent_numbers room ≤ record_width * max_paths) × (lent_numbers room ≤ record_width * room)
     go true (passed k) = (omega (arith, lent-few k), omega (arith, lent-few k))
     go false (failed k) = (omega (arith, lent-many k), omega (arith, lent-many k))
+
+-- that is three for each record, of which there are at most so many
+pub lent-min : (room : ℕ) → record_width * min room max_paths ≡ lent_numbers room
+lent-min room = go (ltb room max_paths) (ltb? room max_paths)
+  where
+    go : (t : Bool) → Test (room < max_paths) (max_paths ≤ room) t → record_width * min room max_paths ≡ lent_numbers room
+    go true (passed k) = omega (arith, lent-few k)
+    go false (failed k) = let many = lent-many k in omega (arith, many)
 
 -- ---- the answer
 
@@ -109,18 +117,18 @@ module _ (kind : WalkKind) (ns es : List ℤ) (r l : ℤ) where
 -- ---- how many records are written
 
 -- a refusal tells of none
-count-refused : (given : Written) {x : Refusal} → written_answer given ≡ refused x → count_of given ≡ 0
-count-refused (written.Count n) e = let z : ◌≡◌ {A = ℕ} 0 1 = cc in absurd (omega arith)
-count-refused (written.Refused reason) e = refl
+count-refused : (given : Result ℕ Reason) {x : Refusal} → written_answer given ≡ refused x → count_of given ≡ 0
+count-refused (Ok n) e = let z : ◌≡◌ {A = ℕ} 0 1 = cc in absurd (omega arith)
+count-refused (Err reason) e = refl
 
 -- a count tells of as many
-count-full : (given : Written) {n : ℕ} → written_answer given ≡ full n → count_of given ≡ n
-count-full (written.Count n) e = cc
-count-full (written.Refused reason) e = let z : ◌≡◌ {A = ℕ} 0 1 = cc in absurd (omega arith)
+count-full : (given : Result ℕ Reason) {n : ℕ} → written_answer given ≡ full n → count_of given ≡ n
+count-full (Ok n) e = cc
+count-full (Err reason) e = let z : ◌≡◌ {A = ℕ} 0 1 = cc in absurd (omega arith)
 
 module _ (kind : WalkKind) (ns es : List ℤ) (r l : ℤ) (room : ℕ) where
   -- no more than a list can have, and than there is room for
-  count-fit : (given : Written) → written_answer given ≡ length_of (list_answer kind ns es r l (record_width * room)) → (count_of given ≤ max_paths) × (count_of given ≤ room)
+  count-fit : (given : Result ℕ Reason) → written_answer given ≡ length_of (list_answer kind ns es r l (record_width * room)) → (count_of given ≤ max_paths) × (count_of given ≤ room)
   unfolding length_of
   count-fit given e = go (list_answer kind ns es r l (record_width * room)) refl
     where
@@ -132,7 +140,7 @@ module _ (kind : WalkKind) (ns es : List ℤ) (r l : ℤ) (room : ℕ) where
           (omega (arith, fit.0), omega (arith, fit.1))
 
   -- list was lent the front of the work buffer
-  pub front-listed : (work worked : List ℤ) (given : Written) → length work ≡ record_width * max_paths
+  pub front-listed : (work worked : List ℤ) (given : Result ℕ Reason) → length work ≡ record_width * max_paths
       → written_answer given ≡ list_gives kind ns es r l (take (lent_numbers room) work)
       → worked ≡ list_after kind ns es r l (take (lent_numbers room) work) ++ drop (lent_numbers room) work → Listed kind ns es r l room work given worked
   unfolding work_after list_gives
@@ -144,7 +152,7 @@ module _ (kind : WalkKind) (ns es : List ℤ) (r l : ℤ) (room : ℕ) where
 
 -- ---- what the slice of structs then holds
 
-module _ (kind : WalkKind) (ns es : List ℤ) (r l : ℤ) (old : List Stored) (work : List ℤ) {given : Written} {worked : List ℤ}
+module _ (kind : WalkKind) (ns es : List ℤ) (r l : ℤ) (old : List Stored) (work : List ℤ) {given : Result ℕ Reason} {worked : List ℤ}
     (p : Listed kind ns es r l (length old) work given worked)
   where
     -- the answer of list, as the promise has it

@@ -1,4 +1,5 @@
 -- What the call list_records promises, whatever it is given. Assumes nothing.
+use Rattle.std.specs.Prelude.{Result}
 use Rattle.std.specs.Prelude.{◌≡◌, cond, List, ◌++◌, map, ℕ, ◌*◌, ltb, ℤ, length, take, drop}
 use Rattle.model.specs.declared.WalkKind.{WalkKind}
 use Rattle.model.specs.Limits.{record_width, max_paths}
@@ -6,8 +7,8 @@ use Rattle.model.specs.Graph.{Graph, graph_of}
 use Rattle.model.specs.Bitmapping.{Record, IsBitmappingList}
 use Rattle.model.specs.Calls.{full, list_after, records_gives, records_after}
 use Rattle.model.specs.Answers.{written_answer}
-use Rattle.model.specs.declared.Written.{Written}
 use Rattle.records.specs.declared.Record.{Record as Stored}
+use Rattle.model.specs.declared.Reason.{Reason}
 
 -- the record that a struct stores
 abbrev pub stored_record : Stored → Record
@@ -34,7 +35,7 @@ pub record RecordsStand (kind : WalkKind) (g : Graph) (root leaf : ℤ) (n : ℕ
 
 -- list_records, for walks of this kind, of a root and a leaf of the graph of two tables, into a slice that held `old`, with a work buffer that held `work`: what it
 -- returns, and what the slice and the work buffer then hold
-pub record RecordsPromise (kind : WalkKind) (ns es : List ℤ) (root leaf : ℤ) (old : List Stored) (work : List ℤ) (given : Written) (new : List Stored)
+pub record RecordsPromise (kind : WalkKind) (ns es : List ℤ) (root leaf : ℤ) (old : List Stored) (work : List ℤ) (given : Result ℕ Reason) (new : List Stored)
     (worked : List ℤ) : Type 0 where
   -- how many records, or a refusal
   pub answer : written_answer given ≡ records_gives kind ns es root leaf (stored_records old)

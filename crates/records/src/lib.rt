@@ -6,9 +6,9 @@ ghost use Rattle.model.specs.Limits.{max_paths};
 ghost use Rattle.model.specs.Calls.{list_gives, list_after};
 ghost use Rattle.model.specs.Answers.{written_answer};
 ghost use Rattle.records.specs.Promises.{RecordsPromise};
-ghost use Rattle.records.specs.Putting.{record_at, records_in, count_of, Listed};
+ghost use Rattle.records.specs.Putting.{record_at, records_in, Listed};
 
-use model::{MAX_NUMBERS, MAX_PATHS, RECORD_WIDTH, WalkKind, Written};
+use model::{MAX_NUMBERS, MAX_PATHS, RECORD_WIDTH, Reason, WalkKind};
 
 // Places of the last bit and of the displacement in a record, behind its first bit.
 const LAST: usize = 1;
@@ -40,10 +40,8 @@ fn put_records(numbers: &[i64; MAX_NUMBERS], n: usize, out: &mut [Record])
     requires { (n ≤ max_paths) × (n ≤ length out.old) }
     ensures { out.new ≡ records_in numbers.now n ++ drop n out.old }
 {
-    let mut i: usize = 0;
-    while i < n {
-        out[i] = record_at(numbers, i);
-        i += 1;
+    for (i, record) in out[..n].iter_mut().enumerate() {
+        *record = record_at(numbers, i);
     }
 }
 
@@ -56,7 +54,7 @@ fn list_front(
     kind: WalkKind,
     numbers: usize,
     work: &mut [i64],
-) -> Written
+) -> Result<usize, Reason>
     requires { numbers ≤ length work.old }
     ensures { (written_answer result ≡ list_gives kind nodes.now edges.now root leaf (take numbers work.old))
         × (work.new
@@ -74,24 +72,11 @@ fn list_within(
     kind: WalkKind,
     room: usize,
     work: &mut [i64; MAX_NUMBERS],
-) -> Written
+) -> Result<usize, Reason>
     ensures { Listed kind nodes.now edges.now root leaf room work.old result work.new }
 {
-    let mut records = MAX_PATHS;
-    if room < MAX_PATHS {
-        records = room;
-    }
+    let records = room.min(MAX_PATHS);
     list_front(nodes, edges, root, leaf, kind, RECORD_WIDTH * records, work)
-}
-
-// How many records an answer tells of: none where it is a refusal.
-fn count_of(given: Written) -> usize
-    ensures { result ≡ count_of given }
-{
-    match given {
-        Written::Count(n) => n,
-        Written::Refused(_) => 0,
-    }
 }
 
 // The bitmapping list of a root and a leaf for walks of this kind: its records in order in the front of `out`, and how many they are. Where the tables,
@@ -104,12 +89,11 @@ pub fn list_records(
     kind: WalkKind,
     out: &mut [Record],
     work: &mut [i64; MAX_NUMBERS],
-) -> Written
+) -> Result<usize, Reason>
     ensures { RecordsPromise kind nodes.now edges.now root leaf out.old work.old
         result out.new work.new }
 {
-    let given = list_within(nodes, edges, root, leaf, kind, out.len(), work);
-    let n = count_of(given);
+    let n = list_within(nodes, edges, root, leaf, kind, out.len(), work)?;
     put_records(work, n, out);
-    given
+    Ok(n)
 }

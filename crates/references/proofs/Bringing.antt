@@ -1,4 +1,8 @@
 -- What a reference takes of a record, as runs; what it brings: over an edge, shifted, and all that arrives at a node; and where a reference lies.
+use Rattle.std.specs.Cmp.{signed_Decides}
+use Rattle.std.specs.Ordering.{int_eq}
+use Rattle.std.specs.Prelude.{Option}
+use Rattle.std.proofs.lemmas.Bool.Decides.{same_from_decides}
 use mathlib.Core.Path.{◌≡◌, refl, ap, subst, ◌∙◌}
 use mathlib.Core.Bool.{not, ◌&&◌}
 use mathlib.Core.List.{List}
@@ -6,12 +10,12 @@ use mathlib.Core.Logic.{◌↔◌}
 use mathlib.Core.Option.{none, some}
 use Prim.Native.Nat.{◌^◌}
 use native.Mathlib.Omega.{arith}
-use lib.Dec.{T, T_not}
+use lib.Dec.{T, T_not, eqb}
 use lib.IntN.{ℤ, pos, ◌+ℤ◌, ◌-ℤ◌}
 use lib.Signed.{◌≤ℤ◌}
 use Rattle.integers.specs.Integers.{eq_z}
 use Rattle.integers.proofs.Linear.{ints, sum, diff, neg}
-use Rattle.integers.proofs.Tests.{is_true, is_false, and_in, and_out, eq_z→eq, eq_z_refl}
+use Rattle.integers.proofs.Tests.{T_true, is_true, is_false, and_in, and_out, eq_z→eq, eq_z_refl}
 use Rattle.model.specs.declared.WalkKind.{WalkKind}
 use Rattle.model.specs.Rows.{Node}
 use Rattle.model.specs.Graph.{Graph, graph_of, NodeRow, node, first_bit, last_bit}
@@ -20,12 +24,13 @@ use Rattle.model.specs.Runs.{Run, InRun, Joins, Between, empty, shift, clip}
 use Rattle.model.specs.Taken.{TakenTables}
 use Rattle.model.proofs.Walks.{walk_end}
 use Rattle.model.proofs.Steps.{empty-none, shift-joins, shift-empty, shift-full, full-shift, clip-joins}
-use Rattle.runs.specs.declared.Clipped.{Clipped}
 use Rattle.runs.specs.Clipping.{living, living_of, SmallRun, SmallOffset, SmallExtent}
 use Rattle.runs.proofs.Runs.{living-none, living-some, left_exact, shift_clippable, shift-last, clip-read, clip-small, clip-inside, clip-roots}
 use Rattle.extents.specs.Extents.{bits_of}
 use Rattle.extents.proofs.Bounds.{bits_small}
-use Rattle.references.specs.References.{Reference, own, Brings, last_root, through, narrowed, NarrowedBy, shifted, is_none, unless_none, InOwner, same_reference}
+use Rattle.references.specs.References.{Reference, reference_of, own, Brings, last_root, through, narrowed, NarrowedBy, shifted, is_none, unless_none, InOwner, same_reference}
+use Rattle.references.specs.declared.Reference.{Reference as HeldReference}
+use Rattle.runs.specs.declared.Run.{Run as Held}
 
 -- ---- what a part takes of a run
 
@@ -65,7 +70,7 @@ narrowed-bits part r b = (
 )
 
 -- what is left of the run, shifted and then clipped at the part's ends, is what is left of what it takes: exactly the bits that it should, each with its root bit
-pub narrowed_returns : (part r : Run) (c : Clipped) (s : Run) (first last : ℤ) → living_of c ≡ living (clip first last s) → first ≡ part.low → last ≡ part.high
+pub narrowed_returns : (part r : Run) (c : Option Held) (s : Run) (first last : ℤ) → living_of c ≡ living (clip first last s) → first ≡ part.low → last ≡ part.high
     → s ≡ shift (part.root -ℤ part.low) r → (living_of c ≡ living (narrowed part r)) × NarrowedBy part r c
 unfolding narrowed
 narrowed_returns part r c s first last q f l p =
@@ -268,3 +273,15 @@ same-reference-is a b = (same, λ e. subst (λ (c : Reference). T (same_referenc
         let highs = eq_z a.run.high a.run.high in
         and_in (eq_z a.owner a.owner) (roots && (lows && highs)) (eq_z_refl a.owner)
         (and_in roots (lows && highs) (eq_z_refl a.run.root) (and_in lows highs (eq_z_refl a.run.low) (eq_z_refl a.run.high)))
+
+-- the library's test of two numbers is that of the definitions
+int_eq-eq_z : (a b : ℤ) → int_eq a b ≡ eq_z a b
+int_eq-eq_z a b =
+    same_from_decides (int_eq a b) (eq_z a b) (signed_Decides a b) (λ t. eq_z→eq a b (T_true (eq_z a b) t), λ e. is_true (eq_z a b) (rw e (eq_z_refl b)))
+
+-- and so is the derived test of two references
+pub same_reference-derived : (a b : HeldReference)
+    → eqb a.owner b.owner && (int_eq a.run.root.0 b.run.root.0 && (int_eq a.run.low.0 b.run.low.0 && int_eq a.run.high.0 b.run.high.0))
+    ≡ same_reference (reference_of a) (reference_of b)
+same_reference-derived a b =
+    rw (int_eq-eq_z a.run.root.0 b.run.root.0, int_eq-eq_z a.run.low.0 b.run.low.0, int_eq-eq_z a.run.high.0 b.run.high.0) refl

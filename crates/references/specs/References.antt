@@ -1,4 +1,5 @@
 -- References: what arrives at a node from a root, as a part of what arrives at another node. Assumes nothing.
+use Rattle.std.specs.Prelude as std
 use Rattle.std.specs.Prelude.{Bool, cond, ◌&&◌, ℕ, ◌+◌, ◌*◌, ◌≤◌, ◌<◌, ℤ, pos, ◌+ℤ◌, ◌-ℤ◌, ◌≤ℤ◌, ◌<ℤ◌, length, drop}
 use mathlib.Core.List.{List, [], ◌∷◌, map, flat_map}
 use Rattle.std.proofs.Math.Option.{Option, none, some}
@@ -13,12 +14,10 @@ use Rattle.model.specs.Runs.{Run, InRun, Joins, empty, shift, clip}
 use Rattle.sorting.specs.declared.Row.{Row}
 use Rattle.sorting.specs.Rows.{row_width, row_at, Ascending}
 use Rattle.normalisation.specs.Merging.{by_displacement, displaced_of}
-use Rattle.runs.specs.declared.Clipped.{Clipped}
 use Rattle.runs.specs.Clipping.{run_of, ExactlyOrNone, SmallRun}
 use Rattle.extents.specs.Extents.{SmallAddress, bits_of}
 use Rattle.references.specs.declared.Reference.{Reference as Held}
-use Rattle.references.specs.declared.Brought.{Brought}
-use Rattle.references.specs.declared.Brought.TheVariants.{Left, Nothing}
+use Rattle.runs.specs.declared.Run.{Run as HeldRun}
 
 -- a run from the owner in place of the root: what it has as root bits are bit addresses of the owner
 pub record Reference : Type 0 where
@@ -55,7 +54,7 @@ unfoldable pub narrowed : Run → Run → Run
 narrowed part r = clip part.low part.high (shift (part.root -ℤ part.low) r)
 
 -- bit by bit: the bits that the reference's run joins to bits of the record's, each with the root bit that the record joins to those; or nothing
-abbrev pub NarrowedBy : Run → Run → Clipped → Type 0
+abbrev pub NarrowedBy : Run → Run → std.Option HeldRun → Type 0
 NarrowedBy part r = ExactlyOrNone (λ b. (y : ℤ) × InRun r y × Joins part y b) (λ x b. (y : ℤ) × Joins r x y × Joins part y b)
 
 -- every bit address less o
@@ -71,9 +70,9 @@ abbrev pub unless_none : Reference → Option Reference
 unless_none f = cond (is_none f) none (some f)
 
 -- what the code says is brought
-abbrev pub brought_of : Brought → Option Reference
-brought_of (Left f) = some (reference_of f)
-brought_of Nothing = none
+abbrev pub brought_of : std.Option Held → Option Reference
+brought_of (std.Some f) = some (reference_of f)
+brought_of std.None = none
 
 -- the owner is a node row, the run has bits, all below 2^62, and they stand for bit addresses of the owner
 pub record InOwner (g : Graph) (f : Reference) : Type 0 where

@@ -11,25 +11,18 @@ ghost use Rattle.tables.specs.Tables.{edge_at};
 ghost use Rattle.runs.specs.Clipping.{run_of, living, living_of, SmallRun, SmallOffset};
 ghost use Rattle.extents.specs.Extents.{GoodRow, SmallAddress};
 ghost use Rattle.listing.specs.Listing.{Appended};
-ghost use Rattle.references.specs.References.{reference_of, own, shifted, through, narrowed, NarrowedBy, unless_none, brought_of, same_reference, record_run, run_record, cut_row, cut_rows, SmallRecord, records_at, Parted, least_of, past_of, Cuttable};
+ghost use Rattle.references.specs.References.{reference_of, last_root, own, shifted, through, narrowed, NarrowedBy, unless_none, brought_of, record_run, run_record, cut_row, cut_rows, SmallRecord, records_at, Parted, least_of, past_of, Cuttable};
 
 use listing::append_row;
 use model::Bits;
-use runs::{Clipped, Run, clip, shift};
+use runs::{Run, clip, shift};
 use sorting::{Row, row_at};
 
 // A run from the owner in place of the root: what it has as root bits are bit addresses of the owner.
-#[derive(Clone, Copy)]
+#[derive(Clone, Copy, PartialEq, Eq)]
 pub struct Reference {
     pub owner: usize,
     pub run: Run,
-}
-
-// What comes over an edge.
-#[derive(Clone, Copy)]
-pub enum Brought {
-    Left(Reference),
-    Nothing,
 }
 
 // The least of some displacements, and the least past all of them.
@@ -39,9 +32,23 @@ struct Displacements {
     past: Bits,
 }
 
+// The bit address of the owner that the highest bit of a run stands for.
+fn last_root(run: Run) -> Bits
+    requires { SmallRun (run_of run) }
+    ensures { result.0 ≡ last_root (run_of run) }
+{
+    run.root.plus(run.high.less(run.low))
+}
+
 // The step over edge e into the part of the node entered that f refers to, from u, a reference to what arrives at the node left: shift by the bit offset, then clip
 // at the first and the last bit of the node entered that f takes. What is left is shifted to the bit addresses that f has for them.
-pub fn step_into(nodes: &[i64], edges: &[i64], e: usize, f: Reference, u: Reference) -> Brought
+pub fn step_into(
+    nodes: &[i64],
+    edges: &[i64],
+    e: usize,
+    f: Reference,
+    u: Reference,
+) -> Option<Reference>
     requires { TakenTables nodes.now edges.now
         × (edge_width * e + edge_width ≤ length edges.now)
         × SmallRun (run_of f.run)
@@ -49,34 +56,23 @@ pub fn step_into(nodes: &[i64], edges: &[i64], e: usize, f: Reference, u: Refere
     ensures { brought_of result ≡ unless_none (through (bit_offset (graph_of nodes.now edges.now) (edge_at edges.now e)) (reference_of f) (reference_of u)) }
 {
     let part = f.run;
-    let first = part.root;
-    let low = part.low;
-    let high = part.high;
-    let last = first.plus(high.less(low));
-    let offset = first.less(low);
     let shifted = shift(u.run, extents::offset_of(nodes, edges, e));
-    let clipped = clip(shifted, first, last);
-    if let Clipped::Left(run) = clipped {
-        return Brought::Left(Reference {
-            owner: u.owner,
-            run: shift(run, offset),
-        });
-    }
-    Brought::Nothing
+    let run = clip(shifted, part.root, last_root(part))?;
+    let offset = part.root.less(part.low);
+    Some(Reference {
+        owner: u.owner,
+        run: shift(run, offset),
+    })
 }
 
 // What a reference has of a record of its owner, both as runs: shifted to the bit addresses that the reference has for them, then clipped at its ends.
-fn narrowed(part: Run, run: Run) -> Clipped
+fn narrowed(part: Run, run: Run) -> Option<Run>
     requires { SmallRun (run_of part) × SmallRun (run_of run) }
     ensures result_value { living_of result ≡ living (narrowed (run_of part) (run_of run)) }
     ensures narrowed_by { NarrowedBy (run_of part) (run_of run) result }
 {
-    let root = part.root;
-    let low = part.low;
-    let high = part.high;
-    let offset = root.less(low);
-    let shifted = shift(run, offset);
-    clip(shifted, low, high)
+    let shifted = shift(run, part.root.less(part.low));
+    clip(shifted, part.low, part.high)
 }
 
 // Every bit address less the offset.
@@ -88,30 +84,6 @@ pub fn shifted(f: Reference, offset: Bits) -> Reference
         owner: f.owner,
         run: shift(f.run, offset),
     }
-}
-
-// Whether two references are the same.
-pub fn same_reference(a: Reference, b: Reference) -> bool
-    ensures { result ≡ same_reference (reference_of a) (reference_of b) }
-{
-    let p = a.run;
-    let q = b.run;
-    let r = p.root;
-    let s = q.root;
-    let l = p.low;
-    let m = q.low;
-    let h = p.high;
-    let k = q.high;
-    if a.owner != b.owner {
-        return false;
-    }
-    if r.0 != s.0 {
-        return false;
-    }
-    if l.0 != m.0 {
-        return false;
-    }
-    h.0 == k.0
 }
 
 // The reference to all that arrives at node v.
@@ -145,15 +117,10 @@ fn run_record(run: Run) -> Row
     requires { SmallRun (run_of run) }
     ensures { result ≡ by_displacement (run_record (run_of run)) }
 {
-    let root = run.root;
-    let low = run.low;
-    let high = run.high;
-    let displacement = root.less(low);
-    let last = root.plus(high.less(low));
     Row {
-        first: displacement.0,
-        second: root.0,
-        third: last.0,
+        first: run.root.less(run.low).0,
+        second: run.root.0,
+        third: last_root(run).0,
     }
 }
 
@@ -162,15 +129,14 @@ fn append_cut(state: &mut [i64], p: usize, f: Reference, n: usize) -> usize
     requires { (p < n) × (row_width * n + row_width ≤ length state.old) × SmallRun (run_of f.run) × SmallRecord (of_displacement (row_at state.old p)) }
     ensures { Appended (cut_row (reference_of f) (of_displacement (row_at state.old p))) state.old state.new n result }
 {
-    let row = row_at(state, p);
-    let cut = narrowed(f.run, record_run(row));
-    if let Clipped::Left(run) = cut {
-        return append_row(state, n, run_record(run));
+    match narrowed(f.run, record_run(row_at(state, p))) {
+        Some(run) => append_row(state, n, run_record(run)),
+        None => n,
     }
-    n
 }
 
-// Of `count` rows from row `row` on, by displacement and sorted: how many have displacements below d.
+// Of `count` rows from row `row` on, by displacement and sorted: how many have displacements below d. A row is three numbers of the flat
+// state, and `partition_point` looks at single elements of a slice.
 fn rows_below(state: &[i64], row: usize, count: usize, d: Bits) -> usize
     requires { (row_width * (row + count) ≤ length state.now) × Ascending (map by_displacement (records_at state.now row count)) }
     ensures { Parted state.now row count d.0 result result }
@@ -194,14 +160,10 @@ fn reaching(f: Reference, first: Bits, last: Bits) -> Displacements
     requires { SmallRun (run_of f.run) × SmallAddress first.0 × SmallAddress last.0 }
     ensures { (result.least.0 ≡ least_of (reference_of f) first.0) × (result.past.0 ≡ past_of (reference_of f) last.0) }
 {
-    let run = f.run;
-    let root = run.root;
-    let low = run.low;
-    let high = run.high;
-    let end = root.plus(high.less(low));
+    let end = last_root(f.run);
     Displacements {
         least: first.less(end),
-        past: last.less(root.previous()),
+        past: last.less(f.run.root.previous()),
     }
 }
 
@@ -222,10 +184,8 @@ pub fn gather_list(
     let span = reaching(f, first, last);
     let end = rows_below(state, row, count, span.past);
     let mut m = n;
-    let mut i = rows_below(state, row, count, span.least);
-    while i < end {
+    for i in rows_below(state, row, count, span.least)..end {
         m = append_cut(state, row + i, f, m);
-        i += 1;
     }
     m
 }

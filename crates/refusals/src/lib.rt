@@ -29,10 +29,34 @@ pub struct Refusal {
 fn numbered(number: usize, table: usize, row: usize) -> Refusal
     ensures { refusal_numbers result ≡ model.numbered number table row }
 {
-    Refusal {
-        number: number,
-        table: table,
-        row: row,
+    Refusal { number, table, row }
+}
+
+impl From<Reason> for Refusal {
+    ghost from_gives = { λ reason refusal. refusal_numbers refusal ≡ refusal_of reason };
+
+    fn from(reason: Reason) -> Refusal {
+        match reason {
+            Reason::Shape { table } => numbered(1, table, 0),
+            Reason::Node { table, row } => numbered(2, table, row),
+            Reason::Edge { table, row } => numbered(3, table, row),
+            Reason::FromBlock { table, row } => numbered(4, table, row),
+            Reason::Cycle { table } => numbered(5, table, 0),
+            Reason::LongChain { table } => numbered(6, table, 0),
+            Reason::NotRootOrLeaf { table, row } => numbered(7, table, row),
+            Reason::PairedBefore { table, row } => numbered(8, table, row),
+            Reason::NoPair { table } => numbered(9, table, 0),
+            Reason::ManyPaths { table, row } => numbered(10, table, row),
+            Reason::LongOutput => numbered(11, OUTPUT, 0),
+            Reason::Characters { line } => numbered(12, TEXT, line),
+            Reason::Names { line } => numbered(13, TEXT, line),
+            Reason::Values { line } => numbered(14, TEXT, line),
+            Reason::NoCaller => numbered(15, OUTPUT, 0),
+            Reason::At { table, row } => numbered(16, table, row),
+            Reason::SheetRange { line } => numbered(17, TEXT, line),
+            Reason::OtherSize { line } => numbered(18, TEXT, line),
+            Reason::LongBatch => numbered(19, OUTPUT, 0),
+        }
     }
 }
 
@@ -40,27 +64,7 @@ fn numbered(number: usize, table: usize, row: usize) -> Refusal
 pub fn refusal_numbers(reason: Reason) -> Refusal
     ensures { refusal_numbers result ≡ refusal_of reason }
 {
-    match reason {
-        Reason::Shape { table } => numbered(1, table, 0),
-        Reason::Node { table, row } => numbered(2, table, row),
-        Reason::Edge { table, row } => numbered(3, table, row),
-        Reason::FromBlock { table, row } => numbered(4, table, row),
-        Reason::Cycle { table } => numbered(5, table, 0),
-        Reason::LongChain { table } => numbered(6, table, 0),
-        Reason::NotRootOrLeaf { table, row } => numbered(7, table, row),
-        Reason::PairedBefore { table, row } => numbered(8, table, row),
-        Reason::NoPair { table } => numbered(9, table, 0),
-        Reason::ManyPaths { table, row } => numbered(10, table, row),
-        Reason::LongOutput => numbered(11, OUTPUT, 0),
-        Reason::Characters { line } => numbered(12, TEXT, line),
-        Reason::Names { line } => numbered(13, TEXT, line),
-        Reason::Values { line } => numbered(14, TEXT, line),
-        Reason::NoCaller => numbered(15, OUTPUT, 0),
-        Reason::At { table, row } => numbered(16, table, row),
-        Reason::SheetRange { line } => numbered(17, TEXT, line),
-        Reason::OtherSize { line } => numbered(18, TEXT, line),
-        Reason::LongBatch => numbered(19, OUTPUT, 0),
-    }
+    Refusal::from(reason)
 }
 
 // Writes what is printed for a refusal.
@@ -68,10 +72,7 @@ pub fn put_reason(out: &mut [u8], reason: Reason) -> usize
     requires { (refusal_room ≤ length out.old) × SmallRefusal last_of_sheet (refusal_of reason) }
     ensures { Put (refusal_report (refusal_of reason)) out.old out.new result }
 {
-    let refusal = refusal_numbers(reason);
-    let number = refusal.number;
-    let table = refusal.table;
-    let row = refusal.row;
+    let Refusal { number, table, row } = Refusal::from(reason);
     report::put_refusal(out, number, table, row)
 }
 

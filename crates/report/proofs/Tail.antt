@@ -4,8 +4,8 @@ use mathlib.Core.List.{[], ◌∷◌, ◌++◌, append_assoc, append-nil}
 use Prim.Native.Nat.{ℕ, suc, ◌+◌, ◌-◌, ◌≤◌, ◌<◌}
 use native.Mathlib.Numerals.{add-one}
 use native.Mathlib.Omega.{arith}
-use lib.ListN.{length, take, drop, set, get_or, length-append, length-drop, drop_of_length-le}
-use lib.Seq.{take_at, take_all, take-length, take-append-le, take-suc, drop_at, drop-drop, drop-cons, set_at}
+use lib.ListN.{length, take, drop, set, length-append, length-drop, drop_of_length-le}
+use lib.Seq.{take_at, take_all, take-length, take-append-le, drop_at, drop-drop, drop-cons, set_at}
 use Rattle.model.specs.Bytes.{Bytes}
 use Rattle.report.specs.Put.{Put}
 
@@ -61,14 +61,6 @@ put_byte {done} {old} {out} {at} x p h = record { count = omega (arith, length-a
     standing =
         rw (p.stands, length-append done (x ∷ []), add-one (length done), drop-cons old (length done) 0 within)
         (set_at done _ _ x at (sym p.count) ∙ sym (append_assoc done (x ∷ []) (drop (suc (length done)) old)))
-
--- one byte more of a text
-pub put_next : (text : Bytes) {old out : Bytes} {at : ℕ} → Put (take at text) old out at → at < length text → at < length old
-    → Put (take (at + 1) text) old (set out at (get_or text at 0)) (at + 1)
-put_next text {old} {out} {at} p i h = rw (taken text at i) (put_byte (get_or text at 0) p h)
-  where
-    taken : (text : Bytes) (at : ℕ) → at < length text → take (at + 1) text ≡ take at text ++ (get_or text at 0 ∷ [])
-    taken text at i = rw (add-one at) (take-suc text at 0 i)
 
 -- a line written behind a first byte
 pub put_behind : {line out tail : Bytes} {n : ℕ} (x : ℕ) → 0 < length out → Put line (take (length (set out 0 x) - 1) (drop 1 (set out 0 x))) tail n

@@ -10,14 +10,11 @@ ghost use Rattle.report.specs.Put.{Put, field_at, max_fields, refusal_room};
 // A number of 64 bits has at most this many digits.
 const NUMBER_DIGITS: usize = 20;
 
-// The distance of v from 0. That of -2^63 fits no i64, but -1 - v, which is one below it, does.
+// The distance of v from 0.
 pub fn magnitude(v: i64) -> u64
     ensures { result ≡ nat_abs v }
 {
-    if v < 0 {
-        return (-1 - v) as u64 + 1;
-    }
-    v as u64
+    v.unsigned_abs()
 }
 
 // Writes the decimal digits of v, which has at most `left`: first those of its tenth.
@@ -42,12 +39,12 @@ fn digits_length(v: u64, left: usize) -> usize
     ensures { result ≡ length (digits left v) }
 {
     if left == 0 {
-        return 0;
+        0
+    } else if v < 10 {
+        1
+    } else {
+        digits_length(v / 10, left - 1) + 1
     }
-    if v >= 10 {
-        return digits_length(v / 10, left - 1) + 1;
-    }
-    1
 }
 
 // Writes a number in decimal.
@@ -67,12 +64,8 @@ pub fn put_number(out: &mut [u8], v: i64) -> usize
 pub fn number_length(v: i64) -> usize
     ensures { result ≡ length (shown v) }
 {
-    let m = magnitude(v);
-    let n = digits_length(m, NUMBER_DIGITS);
-    if v < 0 {
-        return n + 1;
-    }
-    n
+    let n = digits_length(magnitude(v), NUMBER_DIGITS);
+    if v < 0 { n + 1 } else { n }
 }
 
 // Writes the bytes of a text.
@@ -80,12 +73,8 @@ pub fn put_text(out: &mut [u8], text: &[u8]) -> usize
     requires { length text.now ≤ length out.old }
     ensures { Put text.now out.old out.new result }
 {
-    let mut at: usize = 0;
-    while at < text.len() {
-        out[at] = text[at];
-        at += 1;
-    }
-    at
+    out[..text.len()].copy_from_slice(text);
+    text.len()
 }
 
 // Writes the number at a place of a line, with a space before it unless it is the first.
@@ -105,10 +94,7 @@ fn field_length(v: i64, place: usize) -> usize
     ensures { result ≡ length (field_at place v) }
 {
     let n = number_length(v);
-    if place == 0 {
-        return n;
-    }
-    n + 1
+    if place == 0 { n } else { n + 1 }
 }
 
 // Writes a line of numbers: one space between them and a line feed. Each goes into what remains of the buffer.
@@ -116,12 +102,9 @@ pub fn put_numbers(out: &mut [u8], vs: &[i64]) -> usize
     requires { length (line_of vs.now) ≤ length out.old }
     ensures { Put (line_of vs.now) out.old out.new result }
 {
-    let mut at: usize = 0;
-    let mut i: usize = 0;
-    while i < vs.len() {
-        let v = vs[i];
-        at += put_field(&mut out[at..], v, i);
-        i += 1;
+    let mut at = 0;
+    for (i, v) in vs.iter().enumerate() {
+        at += put_field(&mut out[at..], *v, i);
     }
     out[at] = b'\n';
     at + 1
@@ -132,12 +115,9 @@ pub fn numbers_length(vs: &[i64]) -> usize
     requires { length vs.now ≤ max_fields }
     ensures { result ≡ length (line_of vs.now) }
 {
-    let mut n: usize = 0;
-    let mut i: usize = 0;
-    while i < vs.len() {
-        let v = vs[i];
-        n += field_length(v, i);
-        i += 1;
+    let mut n = 0;
+    for (i, v) in vs.iter().enumerate() {
+        n += field_length(*v, i);
     }
     n + 1
 }

@@ -100,12 +100,9 @@ pub fn put_lines(out: &mut [u8], lines: &[usize], n: usize) -> usize
     requires { (n ≤ length lines.now) × (length (lines_of (take n lines.now)) ≤ length out.old) }
     ensures { Put (lines_of (take n lines.now)) out.old out.new result }
 {
-    let mut at: usize = 0;
-    let mut i: usize = 0;
-    while i < n {
-        let number = lines[i];
-        at += put_line(&mut out[at..], number);
-        i += 1;
+    let mut at = 0;
+    for number in &lines[..n] {
+        at += put_line(&mut out[at..], *number);
     }
     at
 }
@@ -115,9 +112,8 @@ fn result_numbers(res: Comparison) -> [i64; 7]
     requires { SmallResult (comparison_result res) }
     ensures { result ≡ result_numbers (comparison_result res) }
 {
-    let verdict = res.verdict;
     [
-        verdict_number(verdict) as i64,
+        verdict_number(res.verdict) as i64,
         res.equal as i64,
         res.partial as i64,
         res.different as i64,

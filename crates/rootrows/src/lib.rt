@@ -24,15 +24,12 @@ fn keep_pairs(
     requires { RowKeepable root_row links.now reading.now writing.now lines.old kept }
     ensures { HeldKept root_row links.now reading.now writing.now lines.old kept lines.new result }
 {
-    let count = group_count(links);
     let mut kept = kept;
-    let mut group: usize = 0;
-    while group < count {
+    for group in 0..group_count(links) {
         let leaf_row = group_row(links, group);
         let read = held_at(reading, group);
         let written = held_at(writing, group);
         kept = with_pair(lines, kept, root_row, leaf_row, read, written);
-        group += 1;
     }
     kept
 }

@@ -9,7 +9,7 @@ ghost use Rattle.rowpairs.specs.RowPairs.{RowSweepable, RowSwept, HeldRow, RowHo
 use arrivals::sweep_root;
 use grouping::{group_count, group_row};
 use holding::hold;
-use model::{WalkKind, verdict_number};
+use model::{Verdict, WalkKind};
 use pairing::{impl_node, spec_node};
 use pairs::pair_found;
 use totals::Found;
@@ -50,11 +50,7 @@ fn sweep_row(
 fn still_asked(asked: bool, found: Found) -> bool
     ensures { result ≡ asked && eqb (verdict_number found.verdict) 0 }
 {
-    if !asked {
-        return false;
-    }
-    let verdict = found.verdict;
-    verdict_number(verdict) == 0
+    asked && found.verdict == Verdict::Equal
 }
 
 // Finds the pairs of a root row, group by group, once both graphs are swept for a kind of walk from its roots, and holds what is found of each. A group is told by its lowest
@@ -81,10 +77,8 @@ fn hold_pairs(
         leaf_pairs.now) spec_plan.now impl_plan.now links.now
         spec_state.old impl_state.old spare.old asked held.new }
 {
-    let count = group_count(links);
     let mut wanted = asked;
-    let mut group: usize = 0;
-    while group < count {
+    for group in 0..group_count(links) {
         let lowest = group_row(links, group);
         let found = pair_found(
             spec_nodes, spec_edges, impl_nodes, impl_edges, leaf_pairs, links, spec_plan,
@@ -92,7 +86,6 @@ fn hold_pairs(
         );
         hold(held, group, found);
         wanted = still_asked(wanted, found);
-        group += 1;
     }
 }
 

@@ -1,6 +1,10 @@
 -- Shift and clip of small runs compute with numbers of 64 bits, leave exactly the bits that they should, and a small run or nothing.
+use Rattle.std.specs.Prelude.{None, Option, Some}
+use Rattle.std.proofs.Common.{Ordering, Less, Equal, Greater, is_lt, int_cmp}
+use Rattle.std.specs.Ordering.{MatchOrdering}
+use Rattle.std.specs.Cmp.{int_ranks}
 use mathlib.Core.Path.{◌≡◌, sym, ap, ◌∙◌}
-use mathlib.Core.Bool.{Bool, true, false, not, cond}
+use mathlib.Core.Bool.{Bool, true, false, true≢false, not, cond}
 use mathlib.Core.Logic.{◌↔◌}
 use mathlib.Core.Option.{none, some}
 use Prim.Native.Nat.{ℕ, ◌^◌}
@@ -11,13 +15,30 @@ use lib.Signed.{◌≤ℤ◌, ◌<ℤ◌}
 use Rattle.integers.specs.Integers.{min_z, max_z}
 use Rattle.integers.proofs.Linear.{ints, sum, diff, neg}
 use Rattle.integers.proofs.Tests.{is_true, is_false, min_is, max_is}
-use Rattle.model.specs.Quantities.{Addable, Movable}
 use Rattle.model.specs.Runs.{Run, InRun, Joins, empty, shift, clip}
 use Rattle.model.proofs.Steps.{empty-none, empty_not, empty_in, shift-bits, shift-joins, clip-bits, clip-joins}
 use Rattle.runs.specs.declared.Run.{Run as Held}
-use Rattle.runs.specs.declared.Clipped.{Clipped}
-use Rattle.runs.specs.declared.Clipped.TheVariants.{Left, Nothing}
 use Rattle.runs.specs.Clipping.{run_of, living, living_of, ExactlyOrNone, Shifted, ClippedTo, SmallRun, SmallOffset, Clippable, SmallExtent}
+
+-- ---- the order of bit addresses
+
+-- a bit address that is tested to be lower than another is lower
+pub lower_true : (a b : ℤ) → is_lt (int_cmp a b) ≡ true → a <ℤ b
+lower_true a b e = go (int_cmp a b) (int_ranks a b) e
+  where
+    go : (o : Ordering) → MatchOrdering o (a <ℤ b) (a ≡ b) (b <ℤ a) → is_lt o ≡ true → a <ℤ b
+    go Less h e = h
+    go Equal h e = absurd (true≢false (sym e))
+    go Greater h e = absurd (true≢false (sym e))
+
+-- one that is tested not to be lower is as high or higher
+pub lower_false : (a b : ℤ) → is_lt (int_cmp a b) ≡ false → b ≤ℤ a
+lower_false a b e = go (int_cmp a b) (int_ranks a b) e
+  where
+    go : (o : Ordering) → MatchOrdering o (a <ℤ b) (a ≡ b) (b <ℤ a) → is_lt o ≡ false → b ≤ℤ a
+    go Less h e = absurd (true≢false e)
+    go Equal h e = omega (arith, ints, h)
+    go Greater h e = omega (arith, ints, h)
 
 -- ---- what is left of a run
 
@@ -50,28 +71,21 @@ living-some r s e = go (empty r) e
     go false e = (cc, tt)
 
 -- the same of what the code says is left
-pub left_living : (r : Run) {c : Clipped} {h : Held} → c ≡ Left h → living_of c ≡ living r → some (run_of h) ≡ living r
+pub left_living : (r : Run) {c : Option Held} {h : Held} → c ≡ Some h → living_of c ≡ living r → some (run_of h) ≡ living r
 left_living r e p = ap living_of (sym e) ∙ p
 
-pub nothing_living : (r : Run) {c : Clipped} → c ≡ Nothing → living_of c ≡ living r → none ≡ living r
+pub nothing_living : (r : Run) {c : Option Held} → c ≡ None → living_of c ≡ living r → none ≡ living r
 nothing_living r e p = ap living_of (sym e) ∙ p
 
 -- what is left of a run with certain bits, each with certain root bits, has exactly those, or there are none
-pub left_exact : {Bit : ℤ → Type 0} {Root : ℤ → ℤ → Type 0} (r : Run) (c : Clipped) → ((b : ℤ) → InRun r b ↔ Bit b) → ((x b : ℤ) → Joins r x b ↔ Root x b)
+pub left_exact : {Bit : ℤ → Type 0} {Root : ℤ → ℤ → Type 0} (r : Run) (c : Option Held) → ((b : ℤ) → InRun r b ↔ Bit b) → ((x b : ℤ) → Joins r x b ↔ Root x b)
     → living_of c ≡ living r → ExactlyOrNone Bit Root c
-left_exact r (Left s) bits roots e =
+left_exact r (Some s) bits roots e =
     let w = living-some r (run_of s) e in
     (rw w.0 (record { bits = bits; roots = roots }), (r.low, (bits r.low).0 (record { above = omega (arith, ints); below = empty_not r w.1 })))
-left_exact r Nothing bits roots e = λ b h. empty-none r b (living-none r e) ((bits b).1 h)
+left_exact r None bits roots e = λ b h. empty-none r b (living-none r e) ((bits b).1 h)
 
 -- ---- shift
-
--- the ends of a small run can be moved by a small offset
-pub run_movable : {r : Run} {o : ℤ} → SmallRun r → SmallOffset o → Movable r.low o × Movable r.high o
-run_movable s o = (
-  record { low = s.low; high = omega (arith, ints, s.full, s.high); offset_low = o.low; offset_high = o.high },
-  record { low = omega (arith, ints, s.low, s.full); high = s.high; offset_low = o.low; offset_high = o.high },
-)
 
 -- a small run that is shifted by a small offset can be clipped
 pub shift_clippable : {r : Run} {o : ℤ} → SmallRun r → SmallOffset o → Clippable (shift o r)
@@ -124,38 +138,8 @@ pub clip-ends : (first last : ℤ) (r : Run) {low high cut root : ℤ} → low �
 unfolding clip
 clip-ends first last r a b c d = cc
 
--- the numbers that clip computes, where bits are left
-module _ {r : Run} {first last low high : ℤ} (fits : Clippable r) (extent : SmallExtent first last)
-    (lowest : low ≡ max_z first r.low) (highest : high ≡ min_z last r.high) (left : low ≤ℤ high)
-  where
-    -- the new low end lies above the old one by a number of 64 bits
-    pub clip_movable : Movable low r.low
-    clip_movable =
-        let up = max_is first r.low in
-        let down = min_is last r.high in
-        record {
-          low = omega (arith, ints, extent.low, up.0);
-          high = omega (arith, ints, extent.high, down.0);
-          offset_low = fits.low;
-          offset_high = omega (arith, ints, extent.high, up.1, down.0);
-        }
-
-    -- and so does the new root bit above the old one
-    pub clip_addable : {cut : ℤ} → cut ≡ low -ℤ r.low → Addable r.root cut
-    clip_addable {cut} e =
-        let up = (max_is first r.low).1 in
-        let down = (min_is last r.high).1 in
-        let apart = diff low r.low in
-        let size = diff r.high r.low in
-        let sum-before = sum r.root (r.high -ℤ r.low) in
-        let sum-after = sum r.root cut in
-        record {
-          low = omega (arith, ints, fits.root, neg (pos (2 ^ 62)));
-          high = omega (arith, ints, fits.last);
-        }
-
 -- what is left has exactly the bits that lie there, each with its root bit
-pub clip-exact : (first last : ℤ) (r : Run) (c : Clipped) → living_of c ≡ living (clip first last r) → ClippedTo first last r c
+pub clip-exact : (first last : ℤ) (r : Run) (c : Option Held) → living_of c ≡ living (clip first last r) → ClippedTo first last r c
 clip-exact first last r c = left_exact (clip first last r) c (clip-bits first last r) (clip-joins first last r)
 
 -- a run clipped at a first and a last bit that were read

@@ -1,12 +1,11 @@
 -- Runs as the code holds them; what shift and clip leave of one, bit by bit; and what is asked of numbers, so that every sum is one of 64 bits. Assumes nothing.
 -- The limits of a taken graph lie far inside: they may grow to bit addresses below 2^62 and bit offsets within ±2^62.
+use Rattle.std.specs.Prelude as std
 use Rattle.std.specs.Prelude.{cond, ◌↔◌, ℤ, pos, neg_ℤ, ◌+ℤ◌, ◌-ℤ◌, ◌≤ℤ◌, ◌<ℤ◌}
 use Rattle.std.proofs.Math.Option.{Option, none, some}
 use Rattle.model.specs.Limits.{address_room}
 use Rattle.model.specs.Runs.{Run, InRun, Joins, Between, empty}
 use Rattle.runs.specs.declared.Run.{Run as Held}
-use Rattle.runs.specs.declared.Clipped.{Clipped}
-use Rattle.runs.specs.declared.Clipped.TheVariants.{Left, Nothing}
 
 -- a run as the code holds it
 abbrev pub run_of : Held → Run
@@ -17,9 +16,9 @@ unfoldable pub living : Run → Option Run
 living r = cond (empty r) none (some r)
 
 -- what the code says is left
-abbrev pub living_of : Clipped → Option Run
-living_of (Left r) = some (run_of r)
-living_of Nothing = none
+abbrev pub living_of : std.Option Held → Option Run
+living_of (std.Some r) = some (run_of r)
+living_of std.None = none
 
 -- ---- bit by bit
 
@@ -29,16 +28,16 @@ pub record Exactly (Bit : ℤ → Type 0) (Root : ℤ → ℤ → Type 0) (r : R
   pub roots : (x b : ℤ) → Joins r x b ↔ Root x b
 
 -- what is left has exactly these bits, each with exactly these root bits, and there are some; or nothing is left, and there are none
-abbrev pub ExactlyOrNone : (ℤ → Type 0) → (ℤ → ℤ → Type 0) → Clipped → Type 0
-ExactlyOrNone Bit Root (Left r) = Exactly Bit Root (run_of r) × ((b : ℤ) × Bit b)
-ExactlyOrNone Bit Root Nothing = (b : ℤ) → Bit b → ⊥
+abbrev pub ExactlyOrNone : (ℤ → Type 0) → (ℤ → ℤ → Type 0) → std.Option Held → Type 0
+ExactlyOrNone Bit Root (std.Some r) = Exactly Bit Root (run_of r) × ((b : ℤ) × Bit b)
+ExactlyOrNone Bit Root std.None = (b : ℤ) → Bit b → ⊥
 
 -- shifted by o: the run's bits less o, each with its root bit
 abbrev pub Shifted : ℤ → Run → Run → Type 0
 Shifted o before = Exactly (λ b. InRun before (b +ℤ o)) (λ x b. Joins before x (b +ℤ o))
 
 -- clipped at first and last: those bits of the run that lie there, each with its root bit, or nothing
-abbrev pub ClippedTo : ℤ → ℤ → Run → Clipped → Type 0
+abbrev pub ClippedTo : ℤ → ℤ → Run → std.Option Held → Type 0
 ClippedTo first last before = ExactlyOrNone (λ b. InRun before b × Between first last b) (λ x b. Joins before x b × Between first last b)
 
 -- ---- numbers of 64 bits

@@ -1,4 +1,5 @@
 -- What the call that reads a sheet promises follows from what reading its lines comes to, and from the tables that are made of them.
+use Rattle.std.specs.Prelude.{Result}
 use mathlib.Core.Path.{◌≡◌, refl, ap, ◌∙◌}
 use mathlib.Core.Bool.{true}
 use mathlib.Core.List.{List, []}
@@ -17,7 +18,6 @@ use Rattle.model.specs.Sheet.{SheetLine, size_of, sheet_nodes, sheet_edges}
 use Rattle.model.specs.SheetFile.{sheet_table, check_sheet_row, lines_read, read_sheet}
 use Rattle.model.specs.SheetCall.{made_conditions, made, made_of, lengths_of, table_in, sheet_answer, sheet_gives, sheet_nodes_after, sheet_edges_after}
 use Rattle.model.specs.Answers.{sheet_read_answer}
-use Rattle.model.specs.declared.SheetRead.{SheetRead}
 use Rattle.filerules.proofs.Sheets.{keeps_good}
 use Rattle.filerules.proofs.SheetCall.{sheet_full}
 use Rattle.sheetlaws.proofs.Taken.{sheet_checked}
@@ -28,6 +28,8 @@ use Rattle.sides.specs.Given.{Stored}
 use Rattle.sheettables.specs.Kept.{Sized}
 use Rattle.sheettables.specs.Made.{SheetMade}
 use Rattle.sheet.specs.Promises.{SheetPromise}
+use Rattle.model.specs.declared.SheetSizes.{SheetSizes}
+use Rattle.model.specs.declared.Reason.{Reason}
 
 -- no line has given a block its size
 pub sized_none : Sized [] (replicate sheet_numbers (pos 0))
@@ -57,7 +59,7 @@ module _ (text : Bytes) where
 -- ---- the promise
 
 -- a call whose answer and buffers are those defined keeps the promise
-promise : (text : Bytes) (nodes₀ edges₀ : List ℤ) {nodes₁ edges₁ : List ℤ} {given : SheetRead} → sheet_read_answer given ≡ sheet_gives text nodes₀ edges₀
+promise : (text : Bytes) (nodes₀ edges₀ : List ℤ) {nodes₁ edges₁ : List ℤ} {given : Result SheetSizes Reason} → sheet_read_answer given ≡ sheet_gives text nodes₀ edges₀
     → nodes₁ ≡ sheet_nodes_after text nodes₀ edges₀ → edges₁ ≡ sheet_edges_after text nodes₀ edges₀ → SheetPromise text nodes₀ nodes₁ edges₀ edges₁ given
 unfolding sheet_gives sheet_nodes_after sheet_edges_after lengths_of table_in buffer_after made_conditions
 promise text nodes₀ edges₀ e n d =
@@ -77,13 +79,13 @@ promise text nodes₀ edges₀ e n d =
 
 module _ (text : Bytes) (nodes₀ edges₀ : List ℤ) where
   -- a sheet that is refused: both buffers are untouched
-  pub promise_refused : {r : Refusal} {given : SheetRead} → sheet_read_answer given ≡ refused r → read_sheet text ≡ refused r
+  pub promise_refused : {r : Refusal} {given : Result SheetSizes Reason} → sheet_read_answer given ≡ refused r → read_sheet text ≡ refused r
       → SheetPromise text nodes₀ nodes₀ edges₀ edges₀ given
   unfolding sheet_gives sheet_nodes_after sheet_edges_after sheet_answer made_of lengths_of table_in buffer_after
   promise_refused e q = promise text nodes₀ edges₀ (rw q e) (rw q refl) (rw q refl)
 
   -- a sheet whose lines are read
-  pub promise_made : (ls : List SheetLine) {nodes₁ edges₁ : List ℤ} {given : SheetRead} → read_sheet text ≡ full ls
+  pub promise_made : (ls : List SheetLine) {nodes₁ edges₁ : List ℤ} {given : Result SheetSizes Reason} → read_sheet text ≡ full ls
       → SheetMade (made (length nodes₀) (length edges₀) ls) nodes₀ nodes₁ edges₀ edges₁ given → SheetPromise text nodes₀ nodes₁ edges₀ edges₁ given
   unfolding sheet_gives sheet_nodes_after sheet_edges_after sheet_answer made_of
   promise_made ls q m = promise text nodes₀ edges₀ (rw q m.answer) (rw q m.nodes) (rw q m.edges)

@@ -3,23 +3,17 @@
 
 ghost use Rattle.sheet.specs.Promises.{SheetPromise};
 
-use model::{Checked, SHEET_NUMBERS, SheetRead};
-use sheetlines::{LINE_ROOM, Lines};
+use model::{Reason, SHEET_NUMBERS, SheetSizes};
+use sheetlines::LINE_ROOM;
 
 // Reads a sheet into a node table and an edge table, each at the front of its buffer: how many numbers they have, or the refusal, on which both buffers are
 // untouched.
-pub fn read_sheet(text: &[u8], nodes: &mut [i64], edges: &mut [i64]) -> SheetRead
+pub fn read_sheet(text: &[u8], nodes: &mut [i64], edges: &mut [i64]) -> Result<SheetSizes, Reason>
     ensures { SheetPromise text.now nodes.old nodes.new edges.old edges.new result }
 {
-    let checked = characters::check_text(text);
-    if let Checked::Refused(reason) = checked {
-        return SheetRead::Refused(reason);
-    }
+    characters::check_text(text)?;
     let mut lines = [0i64; LINE_ROOM];
     let mut sizes = [0i64; SHEET_NUMBERS];
-    let read = sheetlines::read_lines(text, &mut lines, &mut sizes);
-    match read {
-        Lines::Refused(reason) => SheetRead::Refused(reason),
-        Lines::Ended(n) => sheettables::make_tables(&lines[..n], &sizes, nodes, edges),
-    }
+    let n = sheetlines::read_lines(text, &mut lines, &mut sizes)?;
+    sheettables::make_tables(&lines[..n], &sizes, nodes, edges)
 }

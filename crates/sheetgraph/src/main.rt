@@ -7,8 +7,8 @@ ghost use Rattle.report.specs.Put.{Put};
 ghost use Rattle.graphlines.specs.Rows.{print_room};
 
 use graphlines::PRINT_ROOM;
-use input::{Input, TEXT_ROOM};
-use model::{EDGE_WIDTH, MAX_EDGES, MAX_NODES, NODE_WIDTH, SheetRead, SheetSizes};
+use input::TEXT_ROOM;
+use model::{EDGE_WIDTH, MAX_EDGES, MAX_NODES, NODE_WIDTH, SheetSizes};
 
 // Numbers of the largest tables.
 const NODE_NUMBERS: usize = NODE_WIDTH * MAX_NODES;
@@ -21,9 +21,7 @@ fn put_tables(nodes: &[i64], edges: &[i64], sizes: SheetSizes, out: &mut [u8]) -
         × (length (graph_lines (take sizes.nodes nodes.now) (take sizes.edges edges.now)) ≤ length out.old) }
     ensures { Put (graph_lines (take sizes.nodes nodes.now) (take sizes.edges edges.now)) out.old out.new result }
 {
-    let node_count = sizes.nodes;
-    let edge_count = sizes.edges;
-    graphlines::put_graph(&nodes[..node_count], &edges[..edge_count], out)
+    graphlines::put_graph(&nodes[..sizes.nodes], &edges[..sizes.edges], out)
 }
 
 // Writes what is printed for a sheet, its tables or the refusal, and returns its length.
@@ -33,15 +31,14 @@ fn put_printed(text: &[u8], out: &mut [u8]) -> usize
 {
     let mut nodes = [0i64; NODE_NUMBERS];
     let mut edges = [0i64; EDGE_NUMBERS];
-    let read = sheet::read_sheet(text, &mut nodes, &mut edges);
-    match read {
-        SheetRead::Tables(sizes) => put_tables(&nodes, &edges, sizes, out),
-        SheetRead::Refused(reason) => refusals::put_reason(out, reason),
+    match sheet::read_sheet(text, &mut nodes, &mut edges) {
+        Ok(sizes) => put_tables(&nodes, &edges, sizes, out),
+        Err(reason) => refusals::put_reason(out, reason),
     }
 }
 
-// Writes what it is lent, which is what is printed for a sheet, to standard output. The contract alone names the sheet. Where that cannot be written, it
-// says so on standard error.
+// Writes what it is lent, which is what is printed for a sheet, to standard output. The contract alone names the sheet, and so differs
+// from that in mapcheck. Where that cannot be written, it says so on standard error.
 fn write_printed(rt: &(impl Print + Eprint), text: &[u8], out: &[u8])
     requires { out.now ≡ sheet_printed text.now }
 {
@@ -61,16 +58,8 @@ fn print_sheet(rt: &(impl Print + Eprint), text: &[u8], n: usize)
 
 fn main(rt: HostRuntime) {
     let mut text = [0u8; TEXT_ROOM];
-    let input = input::read_input(&mut rt.stdin(), &mut text);
-    match input {
-        Input::Bytes(n) => {
-            print_sheet(&rt, &text, n);
-        }
-        Input::Full(n) => {
-            print_sheet(&rt, &text, n);
-        }
-        Input::Failed(error) => {
-            input::say_failed(&rt, "standard input", error);
-        }
+    match input::read_input(&mut rt.stdin(), &mut text) {
+        Ok(n) => print_sheet(&rt, &text, n),
+        Err(error) => input::say_failed(&rt, "standard input", error),
     }
 }

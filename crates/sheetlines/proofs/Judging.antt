@@ -1,94 +1,37 @@
 -- 17 and 18 of a line of a sheet, as the code judges them.
 use mathlib.Core.Path.{◌≡◌, refl, sym, ap, subst, ◌∙◌}
-use mathlib.Core.Bool.{Bool, true, false, not, cond}
-use mathlib.Core.Logic.{inl, inr}
+use mathlib.Core.Bool.{Bool, true, false, cond}
 use mathlib.Core.List.{List, [], map}
 use mathlib.Core.Option.{Option, none, some}
-use Prim.Native.Nat.{ℕ, ◌≤◌, ◌<◌}
+use Prim.Native.Nat.{ℕ, ◌<◌}
 use native.Mathlib.Omega.{arith}
 use lib.Dec.{T}
-use lib.IntN.{ℤ, pos, negsuc, nat_abs, ◌+ℤ◌}
+use lib.IntN.{ℤ, pos, nat_abs}
 use lib.ListN.{get_or}
 use lib.Seq.{get_or-take}
-use lib.Signed.{le_z, lt_z, ◌≤ℤ◌}
+use lib.Signed.{◌≤ℤ◌}
 use mir.Syntax.{w64}
 use mir.Val.{SFits}
-use Rattle.integers.specs.Integers.{eq_z}
 use Rattle.integers.proofs.Linear.{ints, sum}
 use Rattle.integers.proofs.Range.{fits64}
-use Rattle.integers.proofs.Tests.{passed, failed, le?, is_true, of_test}
+use Rattle.integers.proofs.Tests.{passed, failed}
 use Rattle.lists.specs.Lists.{any}
-use Rattle.lists.proofs.Decisions.{Decides, test_map, test_stable}
+use Rattle.lists.proofs.Decisions.{Decides, test_stable}
 use Rattle.lists.proofs.Places.{map_at}
-use Rattle.model.specs.Limits.{sheet_numbers, sheet_bytes}
-use Rattle.model.specs.Sheet.{SheetLine, SheetNumber, BadLine, no_block, OtherSize}
-use Rattle.model.specs.SheetFile.{line_of_row, is_sheet_number, good_bytes, good_line, clashes_with, check_sheet_line, check_sheet_row}
+use Rattle.model.specs.Limits.{sheet_numbers}
+use Rattle.model.specs.Sheet.{SheetLine, BadLine, no_block, OtherSize}
+use Rattle.model.specs.SheetFile.{line_of_row, good_line, clashes_with, check_sheet_line, check_sheet_row}
 use Rattle.model.specs.Reader.{RowCheck, bad, good, judged}
 use Rattle.columns.specs.declared.Columns.{Columns}
-use Rattle.columns.specs.Given.{max_names, column_list, GoodColumns}
+use Rattle.columns.specs.Given.{column_list, GoodColumns}
 use Rattle.sides.specs.Given.{numbers_at}
+use Rattle.sheettables.proofs.Numbers.{number-below}
 use Rattle.sheetlines.specs.Given.{is_other, check_line_by}
-use Rattle.filerules.proofs.Sheets.{GoodBytes, BadBytes, number?, bytes?, bad?, other?}
+use Rattle.filerules.proofs.Sheets.{number?, bad?, other?}
 use Rattle.sheetlaws.proofs.Lines.{LineBounds, line_bounds}
 use Rattle.filerules.proofs.Options.{none-some}
 
-le_true : (x y : ℤ) → x ≤ℤ y → le_z x y ≡ true
-le_true x y h = is_true (le_z x y) (of_test (le? x y) (λ k. omega (arith, ints, h, k)))
-
--- a number that is not negative is held to the limit
-pub number_end : (n : ℤ) → pos 0 ≤ℤ n → lt_z n (pos sheet_numbers) ≡ is_sheet_number n
-unfolding is_sheet_number
-number_end n h = rw (le_true (pos 0) n h) refl
-
--- good_bytes decides whether base and size keep their limits
-pub bytes_decides : (s : SheetLine) → Decides (GoodBytes s) (good_bytes s)
-bytes_decides s = test_map (λ g. g) bad (bytes? s)
-  where
-    bad : BadBytes s → GoodBytes s → ⊥
-    bad (inl (inl h)) g = omega (arith, ints, h, g.0.0)
-    bad (inl (inr h)) g = omega (arith, ints, h, g.0.1)
-    bad (inr h) g = omega (arith, ints, h, g.1)
-
--- a base and a size that are not above the limit have a sum
-pub bytes_fit : (base size : ℤ) → pos 0 ≤ℤ base → pos 1 ≤ℤ size → base ≤ℤ pos sheet_bytes → size ≤ℤ pos sheet_bytes → SFits w64 (base +ℤ size)
-bytes_fit base size a b c d = fits64 (omega (arith, ints, sum base size, a, b, c, d), omega (arith, ints, sum base size, a, b, c, d))
-
--- which is held to the limit
-pub bytes_end : (s : SheetLine) → pos 0 ≤ℤ s.base → pos 1 ≤ℤ s.size → le_z (s.base +ℤ s.size) (pos sheet_bytes) ≡ good_bytes s
-unfolding good_bytes
-bytes_end s a b = rw (le_true (pos 0) s.base a, le_true (pos 1) s.size b) refl
-
--- ---- the line
-
--- 17 for its initiator, or for its block
-pub line_no_initiator : (s : SheetLine) → is_sheet_number s.initiator ≡ false → false ≡ good_line s
-unfolding good_line
-line_no_initiator s e = rw e refl
-
-pub line_no_block : (s : SheetLine) → is_sheet_number s.initiator ≡ true → is_sheet_number s.block ≡ false → false ≡ good_line s
-unfolding good_line
-line_no_block s e q = rw (e, q) refl
-
--- base and size decide, where both are numbers
-pub line-bytes : (s : SheetLine) → is_sheet_number s.initiator ≡ true → is_sheet_number s.block ≡ true → good_bytes s ≡ good_line s
-unfolding good_line
-line-bytes s e q = rw (e, q) refl
-
--- ---- 18
-
--- a block without a size has no other
-pub other_none : (known size : ℤ) → eq_z known (pos 0) ≡ true → false ≡ is_other known size
-other_none known size e = rw e refl
-
--- the size that it has decides
-pub other-known : (known size : ℤ) → eq_z known (pos 0) ≡ false → not (eq_z known size) ≡ is_other known size
-other-known known size e = rw e refl
-
 -- ---- a value line
-
--- the columns of a sheet's names lie within a row
-pub column_fits : {cs : Columns} → GoodColumns cs → cs.count ≡ 4 → (j : ℕ) → j < 4 → get_or cs.at j 0 ≤ max_names
-column_fits {cs} g e j h = omega (arith, g.within j (omega (arith, e)), g.few_fields)
 
 -- the line at the columns of a row
 pub line-columns : {cs : Columns} → GoodColumns cs → cs.count ≡ 4 → (row : List ℤ)
@@ -107,13 +50,9 @@ fails : {P : Type 0} {t : Bool} → Decides P t → t ≡ false → P → ⊥
 fails (passed p) e q = let z : T true = tt in subst T e z
 fails (failed n) e q = n q
 
-number-below : (n : ℤ) → SheetNumber n → nat_abs n < sheet_numbers
-number-below (pos n) h = omega (arith, ints, h.1)
-number-below (negsuc n) h = absurd (omega (arith, ints, h.0))
-
 -- the block of a good line has a place among the sizes
 pub block_index : (s : SheetLine) → good_line s ≡ true → (pos 0 ≤ℤ s.block) × (nat_abs s.block < sheet_numbers)
-block_index s e = let n = test_stable (number? s.block) (λ h. fails (bad? s) (rw e refl) (no_block h)) in (n.0, number-below s.block n)
+block_index s e = let n = test_stable (number? s.block) (λ h. fails (bad? s) (rw e refl) (no_block h)) in (n.0, number-below n)
 
 module _ (sizes : List ℤ) {s : SheetLine} (r : List ℤ) (is : s ≡ line_of_row r) where
   -- the check of the line gives 17
@@ -176,7 +115,7 @@ taken_bounds sizes o {r} e =
 
 -- its block has a place among the sizes
 pub block-below : {s : SheetLine} → LineBounds s → nat_abs s.block < sheet_numbers
-block-below {s} b = number-below s.block b.block
+block-below b = number-below b.block
 
 -- block and size are numbers of 64 bits
 pub block-fits : {s : SheetLine} → LineBounds s → SFits w64 s.block

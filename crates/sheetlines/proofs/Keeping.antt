@@ -7,11 +7,13 @@ use mathlib.Core.List.{List, [], ◌∷◌, ◌++◌, map}
 use mathlib.Core.Option.{Option, none, some}
 use Prim.Native.Nat.{ℕ, ◌+◌, ◌≤◌, ◌<◌}
 use native.Mathlib.Omega.{arith}
+use borrow.Rule.Slice.PartMut.{put_mid}
 use lib.Dec.{eqb}
 use lib.IntN.{ℤ, pos, nat_abs}
 use lib.Signed.{◌≤ℤ◌, yes_non_neg, pos-nat_abs}
-use lib.ListN.{length, set, get_or, length-set}
-use lib.Seq.{paste, paste-zero, get_or-set_same, get_or-set_other}
+use lib.ListN.{set, get_or, length-set}
+use lib.Seq.{get_or-set_same, get_or-set_other}
+use Rattle.std.proofs.lemmas.Slice.{put_mid-paste}
 use Rattle.integers.specs.Integers.{eq_z}
 use Rattle.integers.proofs.Linear.{ints}
 use Rattle.integers.proofs.Tests.{Test, passed, failed, eq_z?, eq_z→eq, eq?, is_false}
@@ -24,24 +26,16 @@ use Rattle.filerules.proofs.Sheets.{other?}
 use Rattle.tables.proofs.Limits.{decides_same}
 use Rattle.sheetlaws.proofs.Lines.{good-line, good-size}
 use Rattle.sides.specs.Given.{Appended}
-use Rattle.sides.proofs.RowLines.{append_all, append_next}
+use Rattle.sides.proofs.RowLines.{append_all}
 use Rattle.sheettables.specs.Kept.{line_room, line_numbers, Sized}
 use Rattle.sheetlines.specs.Given.{is_other, check_line_by}
 use Rattle.sheetlines.proofs.Judging.{block_index}
 
 -- the three numbers of a line are appended, where the room lasts for them
-pub line-appended : (kept : List ℤ) (n : ℕ) (s : SheetLine) → line_room ≤ length kept → n + 3 ≤ line_room
-    → Appended line_room (line_numbers s) kept (set (set (set kept n s.initiator) (n + 1) s.block) (n + 2) s.base) n (n + 3)
+pub line-appended : (kept : List ℤ) (n : ℕ) (s : SheetLine) {row : List ℤ} {width : ℕ} → n + 3 ≤ line_room → row ≡ s.initiator ∷ s.block ∷ s.base ∷ [] → width ≡ 3
+    → Appended line_room (line_numbers s) kept (put_mid n width kept row) n (n + 3)
 unfolding line_numbers
-line-appended kept n s room h =
-    let numbers = line_numbers s in
-    let first : set kept n s.initiator ≡ paste kept n numbers 1 =
-    ap (λ (t : List ℤ). set t n s.initiator) (paste-zero kept n numbers)
-    ∙ ap (λ (k : ℕ). set (paste kept n numbers 0) k s.initiator) (omega arith)
-    ∙ append_next kept numbers n 0 (omega arith) (omega arith) refl in
-    let second : set (paste kept n numbers 1) (n + 1) s.block ≡ paste kept n numbers 2 = append_next kept numbers n 1 (omega arith) (omega arith) refl in
-    let third : set (paste kept n numbers 2) (n + 2) s.base ≡ paste kept n numbers 3 = append_next kept numbers n 2 (omega arith) (omega arith) refl in
-    rw (first, second, third) (append_all line_room n numbers kept h)
+line-appended kept n s {row} {width} h e w = rw (put_mid-paste n width kept row (line_numbers s) 3 e (sym w) refl) (append_all line_room n (line_numbers s) kept h)
 
 -- ---- one line more
 

@@ -1,4 +1,5 @@
 -- What reading the lines of a sheet gives: what is kept of them, or a refusal. Assumes nothing.
+use Rattle.std.specs.Prelude.{Err, Ok, Result}
 use Rattle.std.specs.Prelude.{◌≡◌, Bool, not, cond, ◌&&◌, ℕ, suc, ℤ, pos, nat_abs, take, drop, get_or}
 use mathlib.Core.List.{List, [], map, flat_map}
 use Rattle.std.proofs.Math.Option.{none, some}
@@ -16,10 +17,7 @@ use Rattle.columns.specs.Given.{layout_in}
 use Rattle.sides.specs.Given.{Stored}
 use Rattle.sheettables.specs.Kept.{line_numbers, line_room, Kept}
 use Rattle.sheetlines.specs.declared.SheetRow.{SheetRow}
-use Rattle.sheetlines.specs.declared.Value.{Value}
-use Rattle.sheetlines.specs.declared.Value.TheVariants as value
-use Rattle.sheetlines.specs.declared.Lines.{Lines}
-use Rattle.sheetlines.specs.declared.Lines.TheVariants as lines
+use Rattle.model.specs.declared.Reason.{Reason}
 
 -- the line that a struct of the code holds
 abbrev pub line_in : SheetRow → SheetLine
@@ -40,10 +38,10 @@ abbrev pub line_at : Bytes → Cursor → Columns → List ℤ → ValueLine
 line_at text c cs sizes = judged (check_line_by sizes) [] (row_of (layout_in cs) (first_line (drop c.at text)))
 
 -- a line of the sheet, with the cursor before the next line, or why it is refused
-abbrev pub ValueGiven : Bytes → Cursor → Columns → List ℤ → Value → Type 0
-ValueGiven text c cs sizes (value.Line s d) =
+abbrev pub ValueGiven : Bytes → Cursor → Columns → List ℤ → (Result (SheetRow × Cursor) Reason) → Type 0
+ValueGiven text c cs sizes (Ok (s, d)) =
     (r : List ℤ) × (line_at text c cs sizes ≡ good r) × (line_of_row r ≡ line_in s) × Stands text (later_lines (drop c.at text)) (suc c.line) d
-ValueGiven text c cs sizes (value.Bad reason) = (number : ℕ) × (line_at text c cs sizes ≡ bad number) × (refusal_of reason ≡ numbered number 6 c.line)
+ValueGiven text c cs sizes (Err reason) = (number : ℕ) × (line_at text c cs sizes ≡ bad number) × (refusal_of reason ≡ numbered number 6 c.line)
 
 -- the lines of a sheet are read: n numbers of them are kept at the front of the lent slice, and the sizes of its blocks
 pub record LinesKept (reading : Reading) (before after sizes : List ℤ) (n : ℕ) : Type 0 where
@@ -54,6 +52,6 @@ pub record LinesKept (reading : Reading) (before after sizes : List ℤ) (n : �
   pub stands : Stored (take line_room (flat_map line_numbers (map line_of_row done))) before after n
 
 -- what reading the lines of a sheet gives
-abbrev pub LinesGiven : Reading → List ℤ → List ℤ → List ℤ → Lines → Type 0
-LinesGiven reading before after sizes (lines.Ended n) = LinesKept reading before after sizes n
-LinesGiven reading before after sizes (lines.Refused r) = reading ≡ stopped (refusal_of r)
+abbrev pub LinesGiven : Reading → List ℤ → List ℤ → List ℤ → (Result ℕ Reason) → Type 0
+LinesGiven reading before after sizes (Ok n) = LinesKept reading before after sizes n
+LinesGiven reading before after sizes (Err r) = reading ≡ stopped (refusal_of r)

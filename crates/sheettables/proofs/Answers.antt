@@ -1,15 +1,16 @@
 -- The answer: the refusals of a sheet, and both tables at the front of their buffers.
-use mathlib.Core.Path.{◌≡◌, refl, sym, ap, ◌∙◌}
-use mathlib.Core.Bool.{Bool, true, false, ◌||◌}
+use Rattle.std.specs.Prelude.{Err, Ok}
+use mathlib.Core.Path.{◌≡◌, refl, ap, ◌∙◌}
+use mathlib.Core.Bool.{Bool, true, false}
+use mathlib.Core.Logic.{◌⊎◌, inl, inr}
 use mathlib.Core.List.{List, ◌++◌}
 use Prim.Native.Nat.{ℕ, ◌+◌, ◌≤◌, ◌<◌}
 use native.Mathlib.Omega.{arith}
-use borrow.Author.Tests.{lt-ltb, le-ltb, ltb-false}
+use borrow.Author.Tests.{lt-ltb, le-ltb}
 use lib.Dec.{ltb}
 use lib.IntN.{ℤ}
 use lib.ListN.{length, drop}
 use lib.Seq.{sets, sets-eq}
-use Rattle.integers.proofs.Tests.{T_true}
 use Rattle.model.specs.Limits.{max_edges}
 use Rattle.model.specs.Calls.{Answer, refused, full, answer, buffer_after}
 use Rattle.model.specs.Checks.{when, ◌then◌, check_output}
@@ -18,7 +19,6 @@ use Rattle.model.specs.SheetCall.{check_made, made, lengths_of, table_in}
 use Rattle.model.specs.Answers.{numbered, refusal_of}
 use Rattle.model.specs.declared.Reason.{Reason}
 use Rattle.model.specs.declared.SheetSizes.{SheetSizes}
-use Rattle.model.specs.declared.SheetRead.TheVariants as sheetRead
 use Rattle.sheettables.specs.Made.{SheetMade}
 
 -- ---- which answer
@@ -29,39 +29,21 @@ module _ (ls : List SheetLine) (node_room edge_room : ℕ) where
   unfolding made check_made when ◌then◌ answer
   made-many h = rw (lt-ltb max_edges (length ls) h) refl
 
-  -- whether a table is longer than its buffer
-  abbrev pub is_long : Bool
-  is_long = ltb node_room (length (sheet_nodes ls)) || ltb edge_room (length (sheet_edges ls))
-
-  -- one is
-  pub made-long : length ls ≤ max_edges → is_long ≡ true → made node_room edge_room ls ≡ refused (numbered 11 7 0)
+  -- a table is longer than its buffer
+  pub made-long : length ls ≤ max_edges → (node_room < length (sheet_nodes ls)) ⊎ (edge_room < length (sheet_edges ls)) → made node_room edge_room ls ≡ refused (numbered 11 7 0)
   unfolding made check_made check_output when ◌then◌ answer
-  made-long few e = rw (le-ltb max_edges (length ls) few) (go (ltb node_room (length (sheet_nodes ls))) (ltb edge_room (length (sheet_edges ls))) e)
+  made-long few (inl h) = rw (le-ltb max_edges (length ls) few, lt-ltb node_room (length (sheet_nodes ls)) h) refl
+  made-long few (inr h) = rw (le-ltb max_edges (length ls) few, lt-ltb edge_room (length (sheet_edges ls)) h) (go (ltb node_room (length (sheet_nodes ls))))
     where
-      go : (a b : Bool) → (a || b) ≡ true → answer (when a 11 7 0 then when b 11 7 0) ls ≡ refused (numbered 11 7 0)
-      go true b e = refl
-      go false true e = refl
-      go false false e = absurd (T_true false e)
+      go : (a : Bool) → answer (when a 11 7 0 then when true 11 7 0) ls ≡ refused (numbered 11 7 0)
+      go true = refl
+      go false = refl
 
-  -- none is
-  pub made-full : length ls ≤ max_edges → is_long ≡ false → made node_room edge_room ls ≡ full ls
+  -- neither is
+  pub made-full : length ls ≤ max_edges → length (sheet_nodes ls) ≤ node_room → length (sheet_edges ls) ≤ edge_room → made node_room edge_room ls ≡ full ls
   unfolding made check_made check_output when ◌then◌ answer
-  made-full few e = rw (le-ltb max_edges (length ls) few) (go (ltb node_room (length (sheet_nodes ls))) (ltb edge_room (length (sheet_edges ls))) e)
-    where
-      go : (a b : Bool) → (a || b) ≡ false → answer (when a 11 7 0 then when b 11 7 0) ls ≡ full ls
-      go true b e = absurd (T_true false (sym e))
-      go false true e = absurd (T_true false (sym e))
-      go false false e = refl
-
-  -- and both have room
-  pub tables-fit : is_long ≡ false → (length (sheet_nodes ls) ≤ node_room) × (length (sheet_edges ls) ≤ edge_room)
-  tables-fit e =
-      let w = go (ltb node_room (length (sheet_nodes ls))) (ltb edge_room (length (sheet_edges ls))) e in
-      (ltb-false node_room (length (sheet_nodes ls)) w.0, ltb-false edge_room (length (sheet_edges ls)) w.1)
-    where
-      go : (a b : Bool) → (a || b) ≡ false → (a ≡ false) × (b ≡ false)
-      go true b e = absurd (T_true false (sym e))
-      go false b e = (refl, e)
+  made-full few h k =
+      rw (le-ltb max_edges (length ls) few, le-ltb node_room (length (sheet_nodes ls)) h, le-ltb edge_room (length (sheet_edges ls)) k) refl
 
 -- ---- what the call leaves
 
@@ -73,7 +55,7 @@ sets_buffer buffer table h =
 
 -- a refusal leaves both buffers
 pub refusal_left : {a : Answer (List SheetLine)} {reason : Reason} (nodes edges : List ℤ) → a ≡ refused (refusal_of reason)
-    → SheetMade a nodes nodes edges edges (sheetRead.Refused reason)
+    → SheetMade a nodes nodes edges edges (Err reason)
 unfolding lengths_of table_in buffer_after
 refusal_left nodes edges e = rw (e) record { answer = refl; nodes = refl; edges = refl }
 
@@ -81,7 +63,7 @@ refusal_left nodes edges e = rw (e) record { answer = refl; nodes = refl; edges 
 pub tables_left : {a : Answer (List SheetLine)} {ls : List SheetLine} {nodes₀ nodes₁ edges₀ edges₁ : List ℤ} {size : SheetSizes} → a ≡ full ls
     → size.nodes ≡ length (sheet_nodes ls) → size.edges ≡ length (sheet_edges ls)
     → length (sheet_nodes ls) ≤ length nodes₀ → length (sheet_edges ls) ≤ length edges₀
-    → nodes₁ ≡ sets nodes₀ 0 (sheet_nodes ls) → edges₁ ≡ sets edges₀ 0 (sheet_edges ls) → SheetMade a nodes₀ nodes₁ edges₀ edges₁ (sheetRead.Tables size)
+    → nodes₁ ≡ sets nodes₀ 0 (sheet_nodes ls) → edges₁ ≡ sets edges₀ 0 (sheet_edges ls) → SheetMade a nodes₀ nodes₁ edges₀ edges₁ (Ok size)
 unfolding lengths_of table_in buffer_after
 tables_left {ls = ls} {nodes₀} {edges₀ = edges₀} e n m h k nodes edges =
     rw (e) record { answer = cc; nodes = nodes ∙ sets_buffer nodes₀ (sheet_nodes ls) h; edges = edges ∙ sets_buffer edges₀ (sheet_edges ls) k }

@@ -8,11 +8,11 @@ use native.Mathlib.Omega.{arith}
 use lib.Dec.{ltb}
 use lib.IntN.{ℤ, pos}
 use lib.ListN.{length, get_or, set, length-append, length-set}
-use lib.Seq.{sets, length-sets, get_or-set_same, get_or-set_other}
+use lib.Seq.{sets, get_or-set_same, get_or-set_other}
 use Rattle.integers.proofs.Tests.{Test, passed, failed, ltb?}
 use Rattle.model.specs.Limits.{node_width, edge_width, sheet_numbers, sheet_bytes}
 use Rattle.model.specs.Sheet.{byte_node}
-use Rattle.sheettables.specs.Parts.{index_at, marked, is_present, present, row_from, Rowed, nodes_of, line_edge, edges_of}
+use Rattle.sheettables.specs.Parts.{index_at, marked, is_present, present, row_from, nodes_of, line_edge, edges_of}
 use Rattle.sheettables.proofs.Stores.{sets_behind}
 use Rattle.sheettables.proofs.Present.{present-more, present-same, present_grows, nodes-more, nodes-same, nodes_length}
 
@@ -28,7 +28,6 @@ marked_more lines old k = rw (add-one k)
 module _ (ranges : List ℤ) (first : ℕ) where
   -- the numbers below v have their rows, and `row` is the next
   pub record Rowing (rows : List ℕ) (row v : ℕ) : Type 0 where
-    pub within : v ≤ sheet_numbers
     pub whole : length rows ≡ sheet_numbers
     pub next : row ≡ row_from first ranges v
     pub each : (u : ℕ) → u < v → get_or rows u 0 ≡ row_from first ranges u
@@ -36,7 +35,7 @@ module _ (ranges : List ℤ) (first : ℕ) where
   -- before the first turn
   pub rowing_start : (rows : List ℕ) → length rows ≡ sheet_numbers → Rowing rows first 0
   unfolding present
-  rowing_start rows w = record { within = omega arith; whole = w; next = omega arith; each = λ u h. absurd (omega arith) }
+  rowing_start rows w = record { whole = w; next = omega arith; each = λ u h. absurd (omega arith) }
 
   module _ {rows : List ℕ} {row v : ℕ} (s : Rowing rows row v) (h : v < sheet_numbers) where
     -- number v has its row
@@ -53,7 +52,6 @@ module _ (ranges : List ℤ) (first : ℕ) where
     pub rowing_more : is_present ranges v ≡ true → Rowing (set rows v row) (row + 1) (v + 1)
     rowing_more e =
         record {
-          within = omega arith;
           whole = length-set rows v row ∙ s.whole;
           next = omega (arith, s.next, ap length (present-more ranges v e), length-append (present ranges v) (v ∷ []));
           each = rowing_each;
@@ -63,35 +61,23 @@ module _ (ranges : List ℤ) (first : ℕ) where
     pub rowing_same : is_present ranges v ≡ false → Rowing (set rows v row) row (v + 1)
     rowing_same e =
         record {
-          within = omega arith;
           whole = length-set rows v row ∙ s.whole;
           next = omega (arith, s.next, ap length (present-same ranges v e));
           each = rowing_each;
         }
-
-  -- behind the last turn
-  pub rowing_end : {rows : List ℕ} {row v : ℕ} → Rowing rows row v → sheet_numbers ≤ v → Rowed ranges first rows row
-  rowing_end {v = v} s h =
-      let all : v ≡ sheet_numbers = omega (arith, s.within) in
-      record { each = λ u k. s.each u (omega arith); behind = s.next ∙ ap (row_from first ranges) all }
 
 -- ---- node rows
 
 module _ (ranges : List ℤ) (kind : ℤ) (old : List ℤ) (at : ℕ) where
   -- the nodes of the numbers below v stand from place `at` on, and `next` is the place behind them
   pub record NodesPut (nodes : List ℤ) (next v : ℕ) : Type 0 where
-    pub within : v ≤ sheet_numbers
     pub place : next ≡ at + length (nodes_of kind ranges v)
     pub stands : nodes ≡ sets old at (nodes_of kind ranges v)
 
   -- before the first turn
   pub nodes-start : NodesPut old at 0
   unfolding nodes_of present flat_map
-  nodes-start = record { within = omega arith; place = omega arith; stands = refl }
-
-  -- the table keeps its length
-  pub nodes-kept : {nodes : List ℤ} {next v : ℕ} → NodesPut nodes next v → length nodes ≡ length old
-  nodes-kept {v = v} s = ap length s.stands ∙ length-sets old at (nodes_of kind ranges v)
+  nodes-start = record { place = omega arith; stands = refl }
 
   module _ {nodes : List ℤ} {next v : ℕ} (s : NodesPut nodes next v) (h : v < sheet_numbers) where
     -- number v is on the sheet: its node is put behind the others
@@ -101,7 +87,6 @@ module _ (ranges : List ℤ) (kind : ℤ) (old : List ℤ) (at : ℕ) where
         let more = nodes-more ranges kind v e in
         let row = byte_node kind (get_or ranges v (pos 0)) in
         record {
-          within = omega arith;
           place = omega (arith, s.place, ap length more, length-append (nodes_of kind ranges v) row);
           stands = sets_behind old at (nodes_of kind ranges v) row s.stands s.place refl ∙ ap (sets old at) (sym more);
         }
@@ -124,14 +109,9 @@ module _ (ranges : List ℤ) (kind : ℤ) (old : List ℤ) (at : ℕ) where
     nodes-over e =
         let same = nodes-same ranges kind v e in
         record {
-          within = omega arith;
           place = s.place ∙ ap (λ l. at + length l) (sym same);
           stands = s.stands ∙ ap (sets old at) (sym same);
         }
-
-  -- behind the last turn
-  pub nodes_end : {nodes : List ℤ} {next v : ℕ} → NodesPut nodes next v → sheet_numbers ≤ v → NodesPut nodes next sheet_numbers
-  nodes_end {nodes} {next} {v} s h = let all : v ≡ sheet_numbers = omega (arith, s.within) in rw (all) at s
 
 -- ---- edge rows
 

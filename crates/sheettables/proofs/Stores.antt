@@ -1,11 +1,13 @@
 -- Stores into a list one after the other: those of a row, and rows one behind the other.
-use mathlib.Core.Path.{◌≡◌, ap, ◌∙◌}
+use mathlib.Core.Path.{◌≡◌, refl, sym, ap, ◌∙◌}
 use mathlib.Core.List.{List, [], ◌∷◌, ◌++◌}
-use Prim.Native.Nat.{ℕ, suc, ◌+◌}
+use Prim.Native.Nat.{ℕ, suc, ◌+◌, ◌≤◌}
 use native.Mathlib.Nat.{add-zero}
 use native.Mathlib.Omega.{arith}
 use lib.ListN.{length, set}
-use lib.Seq.{sets}
+use borrow.Rule.Slice.PartMut.{put_mid}
+use lib.Seq.{sets, sets-eq, take-length}
+use Rattle.std.proofs.lemmas.Slice.{put_mid-paste}
 
 module _ {A : Type 0} where
   -- some stores, then others behind them
@@ -21,17 +23,7 @@ module _ {A : Type 0} where
   sets_behind l i xs ys {j = j} first place second =
       second ∙ ap (λ t. sets t j ys) first ∙ ap (λ n. sets (sets l i xs) n ys) place ∙ sets_append l i xs ys
 
-  module _ (l : List A) (i : ℕ) where
-    -- the stores of three numbers
-    pub sets_three : (x y z : A) → set (set (set l i x) (i + 1) y) (i + 2) z ≡ sets l i (x ∷ y ∷ z ∷ [])
-    sets_three x y z =
-        let second : i + 1 ≡ suc i = omega arith in
-        let third : i + 2 ≡ suc (suc i) = omega arith in
-        rw (second, third)
-
-    -- the stores of five numbers
-    pub sets_five : (x y z u v : A) → set (set (set (set (set l i x) (i + 1) y) (i + 2) z) (i + 3) u) (i + 4) v ≡ sets l i (x ∷ y ∷ z ∷ u ∷ v ∷ [])
-    sets_five x y z u v =
-        let fourth : i + 3 ≡ suc (suc (suc i)) = omega arith in
-        let fifth : i + 4 ≡ suc (suc (suc (suc i))) = omega arith in
-        ap (λ m. set (set m (i + 3) u) (i + 4) v) (sets_three x y z) ∙ rw (fourth, fifth)
+  -- a row written into a part of a list: its stores one after the other
+  pub put_mid-sets : (l : List A) (at : ℕ) {k : ℕ} {ys : List A} (row : List A) → ys ≡ row → k ≡ length row → at + k ≤ length l → put_mid at k l ys ≡ sets l at row
+  put_mid-sets l at {k} {ys} row e n h =
+      put_mid-paste at k l ys row (length row) e (sym n) refl ∙ rw (take-length row) (sym (sets-eq row l at (omega (arith, n))))

@@ -1,4 +1,5 @@
 -- What the call that makes the two tables of a sheet gives, and what it starts from once the lines are few. Assumes nothing.
+use Rattle.std.specs.Prelude.{Result}
 use Rattle.std.specs.Prelude.{◌≡◌, cond, ℕ, ◌≤◌, ◌<◌, ℤ, pos, length, get_or}
 use mathlib.Core.List.{List, [], ◌∷◌, flat_map}
 use Rattle.integers.specs.Integers.{eq_z}
@@ -7,11 +8,12 @@ use Rattle.model.specs.Calls.{Answer, buffer_after}
 use Rattle.model.specs.Sheet.{SheetLine, GoodSheet, sheet_nodes, sheet_edges}
 use Rattle.model.specs.SheetCall.{lengths_of, table_in}
 use Rattle.model.specs.Answers.{sheet_read_answer}
-use Rattle.model.specs.declared.SheetRead.{SheetRead}
 use Rattle.sheettables.specs.Kept.{line_numbers, Sized}
+use Rattle.model.specs.declared.SheetSizes.{SheetSizes}
+use Rattle.model.specs.declared.Reason.{Reason}
 
 -- what the call returns for an answer, and what its buffers hold afterwards
-pub record SheetMade (a : Answer (List SheetLine)) (nodes₀ nodes₁ edges₀ edges₁ : List ℤ) (r : SheetRead) : Type 0 where
+pub record SheetMade (a : Answer (List SheetLine)) (nodes₀ nodes₁ edges₀ edges₁ : List ℤ) (r : Result SheetSizes Reason) : Type 0 where
   pub answer : sheet_read_answer r ≡ lengths_of a
   pub nodes : nodes₁ ≡ buffer_after (table_in sheet_nodes a) nodes₀
   pub edges : edges₁ ≡ buffer_after (table_in sheet_edges a) edges₀

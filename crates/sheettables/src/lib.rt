@@ -2,7 +2,7 @@
 // that is not on the sheet: the spaces of the initiators and the sizes of the blocks. Rows are held by number too: roots those of the initiators, leaves those of the blocks.
 #![tactic(auto)]
 
-ghost use Rattle.std.specs.Prelude.{◌≡◌, ◌||◌, List, [], ◌∷◌, ◌+◌, ◌≤◌, ◌<◌, ◌^◌, ltb, pos, ◌≤ℤ◌, length, get_or};
+ghost use Rattle.std.specs.Prelude.{◌≡◌, List, [], ◌∷◌, ◌+◌, ◌≤◌, ◌<◌, ◌^◌, pos, ◌≤ℤ◌, length, get_or};
 ghost use Rattle.std.proofs.lemmas.List.Edits.{sets};
 ghost use Rattle.model.specs.Limits.{node_width, edge_width, sheet_numbers};
 ghost use Rattle.model.specs.Sheet.{SheetLine, byte_node};
@@ -13,7 +13,7 @@ ghost use Rattle.sheettables.specs.Made.{SheetMade, Tabled};
 
 use model::{
     BLOCK, BYTE_BITS, EDGE_WIDTH, MAX_EDGES, NODE_WIDTH, READ_WRITE, Reason, SHEET_BYTES,
-    SHEET_NUMBERS, SPACE, SPEC_EDGES, SheetRead, SheetSizes,
+    SHEET_NUMBERS, SPACE, SPEC_EDGES, SheetSizes,
 };
 
 // The initiator or block number at a place of the lines, as an index.
@@ -29,12 +29,8 @@ fn mark_initiators(lines: &[i64], spaces: &mut [i64])
     requires { Numbered lines.now × (length spaces.old ≡ sheet_numbers) }
     ensures { spaces.new ≡ marked lines.now (line_count lines.now) spaces.old }
 {
-    let count = lines.len() / EDGE_WIDTH;
-    let mut k: usize = 0;
-    while k < count {
-        let initiator = number_at(lines, EDGE_WIDTH * k);
-        spaces[initiator] = SHEET_BYTES;
-        k += 1;
+    for k in 0..lines.len() / EDGE_WIDTH {
+        spaces[number_at(lines, EDGE_WIDTH * k)] = SHEET_BYTES;
     }
 }
 
@@ -45,13 +41,11 @@ fn number_rows(ranges: &[i64], first: usize, rows: &mut [usize]) -> usize
     ensures { Rowed ranges.now first rows.new result }
 {
     let mut row = first;
-    let mut v: usize = 0;
-    while v < SHEET_NUMBERS {
+    for (v, range) in ranges.iter().enumerate() {
         rows[v] = row;
-        if ranges[v] > 0 {
+        if *range > 0 {
             row += 1;
         }
-        v += 1;
     }
     row
 }
@@ -61,11 +55,7 @@ fn put_node(nodes: &mut [i64], at: usize, kind: i64, range: i64)
     requires { at + node_width ≤ length nodes.old }
     ensures { nodes.new ≡ sets nodes.old at (byte_node kind range) }
 {
-    nodes[at] = kind;
-    nodes[at + 1] = 0;
-    nodes[at + 2] = range;
-    nodes[at + 3] = BYTE_BITS;
-    nodes[at + 4] = READ_WRITE;
+    nodes[at..at + NODE_WIDTH].copy_from_slice(&[kind, 0, range, BYTE_BITS, READ_WRITE]);
 }
 
 // Puts a node for each number on the sheet, ascending, from a place of the node table on. Returns the place behind them.
@@ -75,14 +65,11 @@ fn put_nodes(ranges: &[i64], kind: i64, nodes: &mut [i64], at: usize) -> usize
     ensures nodes { nodes.new ≡ sets nodes.old at (nodes_of kind ranges.now sheet_numbers) }
 {
     let mut next = at;
-    let mut v: usize = 0;
-    while v < SHEET_NUMBERS {
-        let range = ranges[v];
+    for &range in ranges {
         if range > 0 {
             put_node(nodes, next, kind, range);
             next += NODE_WIDTH;
         }
-        v += 1;
     }
     next
 }
@@ -92,9 +79,7 @@ fn put_edge(edges: &mut [i64], at: usize, from: usize, to: usize, base: i64)
     requires { (at + edge_width ≤ length edges.old) × (from < 2 ^ 63) × (to < 2 ^ 63) }
     ensures { edges.new ≡ sets edges.old at (pos from ∷ pos to ∷ base ∷ []) }
 {
-    edges[at] = from as i64;
-    edges[at + 1] = to as i64;
-    edges[at + 2] = base;
+    edges[at..at + EDGE_WIDTH].copy_from_slice(&[from as i64, to as i64, base]);
 }
 
 // Puts the edge of each line, in line order: from the row of its initiator to the row of its block, with its base as offset.
@@ -103,28 +88,12 @@ fn put_edges(lines: &[i64], roots: &[usize], leaves: &[usize], edges: &mut [i64]
     ensures { edges.new
         ≡ sets edges.old 0 (edges_of roots.now leaves.now lines.now (line_count lines.now)) }
 {
-    let count = lines.len() / EDGE_WIDTH;
-    let mut k: usize = 0;
-    while k < count {
+    for k in 0..lines.len() / EDGE_WIDTH {
         let at = EDGE_WIDTH * k;
-        let initiator = number_at(lines, at);
-        let block = number_at(lines, at + 1);
-        let base = lines[at + 2];
-        let from = roots[initiator];
-        let to = leaves[block];
-        put_edge(edges, at, from, to, base);
-        k += 1;
+        let from = roots[number_at(lines, at)];
+        let to = leaves[number_at(lines, at + 1)];
+        put_edge(edges, at, from, to, lines[at + 2]);
     }
-}
-
-// Whether either table is longer than its buffer.
-fn is_long(size: SheetSizes, room: SheetSizes) -> bool
-    ensures { result ≡ (ltb room.nodes size.nodes || ltb room.edges size.edges) }
-{
-    if room.nodes < size.nodes {
-        return true;
-    }
-    room.edges < size.edges
 }
 
 // Puts both tables at the front of their buffers. Where either is longer than its buffer, the refusal, with both untouched.
@@ -134,7 +103,7 @@ fn put_tables(
     sizes: &[i64],
     nodes: &mut [i64],
     edges: &mut [i64],
-) -> SheetRead
+) -> Result<SheetSizes, Reason>
     requires { (ls : List SheetLine) × Tabled ls lines.now spaces.now sizes.now }
     ensures { (ls : List SheetLine) → Tabled ls lines.now spaces.now sizes.now
         → SheetMade (made (length nodes.old) (length edges.old) ls)
@@ -148,29 +117,30 @@ fn put_tables(
         nodes: NODE_WIDTH * rows,
         edges: lines.len(),
     };
-    let room = SheetSizes {
-        nodes: nodes.len(),
-        edges: edges.len(),
-    };
-    if is_long(size, room) {
-        return SheetRead::Refused(Reason::LongOutput);
+    if nodes.len() < size.nodes || edges.len() < size.edges {
+        return Err(Reason::LongOutput);
     }
     let next = put_nodes(spaces, SPACE, nodes, 0);
     put_nodes(sizes, BLOCK, nodes, next);
     put_edges(lines, &roots, &leaves, edges);
-    SheetRead::Tables(size)
+    Ok(size)
 }
 
 // Makes the two tables of a sheet from what is kept of its lines. Where there are more lines than a graph may have edges, or a table is longer than its
 // buffer, the refusal, with both buffers untouched.
-pub fn make_tables(lines: &[i64], sizes: &[i64], nodes: &mut [i64], edges: &mut [i64]) -> SheetRead
+pub fn make_tables(
+    lines: &[i64],
+    sizes: &[i64],
+    nodes: &mut [i64],
+    edges: &mut [i64],
+) -> Result<SheetSizes, Reason>
     requires { (ls : List SheetLine) × Kept ls lines.now sizes.now }
     ensures { (ls : List SheetLine) → Kept ls lines.now sizes.now
         → SheetMade (made (length nodes.old) (length edges.old) ls)
         nodes.old nodes.new edges.old edges.new result }
 {
     if EDGE_WIDTH * MAX_EDGES < lines.len() {
-        return SheetRead::Refused(Reason::Shape { table: SPEC_EDGES });
+        return Err(Reason::Shape { table: SPEC_EDGES });
     }
     let mut spaces = [0i64; SHEET_NUMBERS];
     mark_initiators(lines, &mut spaces);

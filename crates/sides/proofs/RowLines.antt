@@ -21,7 +21,9 @@ use Rattle.filerules.proofs.RowChecks.{judged-none, judged-good, judged-bad}
 use Rattle.cursor.specs.Parts.{first_line, exactly, line_values}
 use Rattle.columns.specs.declared.Columns.{Columns}
 use Rattle.columns.specs.Given.{column_list, layout_in, GoodColumns}
-use Rattle.sides.specs.Given.{row_room, Clear, numbers_at, row_numbers, Appended}
+use Rattle.sides.specs.declared.Side.{Side}
+use Rattle.sides.specs.declared.Side.TheVariants.{First, Second}
+use Rattle.sides.specs.Given.{row_room, Clear, numbers_at, row_numbers, side_number, Appended}
 
 -- ---- the values at the columns
 
@@ -101,15 +103,11 @@ module _ {cs : Columns} (g : GoodColumns cs) (t : Bytes) where
       row_given : row_of (layout_in cs) (first_line t) ≡ some (row_key cs row ∷ row_numbers cs row)
       row_given = row-numbers ∙ ap some numbers_key
 
-      -- side or role 0
-      pub row_first : row_key cs row ≡ pos 0 → judged check_side_or_role [] (row_of (layout_in cs) (first_line t)) ≡ good (pos 0 ∷ row_numbers cs row)
+      -- side or role 0 or 1
+      pub row_sided : (side : Side) → row_key cs row ≡ side_number side → judged check_side_or_role [] (row_of (layout_in cs) (first_line t)) ≡ good (side_number side ∷ row_numbers cs row)
       unfolding check_side_or_role
-      row_first e = judged-good check_side_or_role [] (row_given ∙ rw e refl) refl
-
-      -- side or role 1
-      pub row-second : row_key cs row ≡ pos 1 → judged check_side_or_role [] (row_of (layout_in cs) (first_line t)) ≡ good (pos 1 ∷ row_numbers cs row)
-      unfolding check_side_or_role
-      row-second e = judged-good check_side_or_role [] (row_given ∙ rw e refl) refl
+      row_sided First e = judged-good check_side_or_role [] (row_given ∙ rw e refl) refl
+      row_sided Second e = judged-good check_side_or_role [] (row_given ∙ rw e refl) refl
 
       -- another
       pub row_keyless : row_key cs row ≢ pos 0 → row_key cs row ≢ pos 1 → judged check_side_or_role [] (row_of (layout_in cs) (first_line t)) ≡ bad 14

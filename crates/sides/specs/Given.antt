@@ -1,4 +1,5 @@
 -- What the functions of value lines give: rows of side or role 0 and 1, in two slices. Assumes nothing.
+use Rattle.std.specs.Prelude.{Err, Ok, Option, None, Some, Result}
 use Rattle.std.specs.Prelude.{◌≡◌, cond, List, [], ◌∷◌, ◌++◌, map, ℕ, suc, ◌+◌, ◌-◌, ◌*◌, leb, ℤ, pos, length, take, drop, get_or}
 use Rattle.model.specs.Bytes.{Bytes}
 use Rattle.model.specs.MapFile.{lines}
@@ -9,10 +10,10 @@ use Rattle.cursor.specs.Parts.{first_line, later_lines}
 use Rattle.cursor.specs.Given.{InText, Stands}
 use Rattle.columns.specs.declared.Columns.{Columns}
 use Rattle.columns.specs.Given.{max_names, column_list, layout_in}
-use Rattle.sides.specs.declared.Row.{Row}
-use Rattle.sides.specs.declared.Rows.{Rows}
-use Rattle.sides.specs.declared.Row.TheVariants as rowRead
-use Rattle.sides.specs.declared.Rows.TheVariants as rowsRead
+use Rattle.sides.specs.declared.Side.{Side}
+use Rattle.sides.specs.declared.Side.TheVariants.{First, Second}
+use Rattle.model.specs.declared.Reason.{Reason}
+use Rattle.sides.specs.declared.Counts.{Counts}
 
 -- numbers of a row at most, and a place behind them
 abbrev pub row_room : ℕ
@@ -38,11 +39,16 @@ row_numbers cs row = numbers_at (drop 1 (column_list cs)) row
 abbrev pub line_at : Bytes → Cursor → Columns → ValueLine
 line_at text c cs = judged check_side_or_role [] (row_of (layout_in cs) (first_line (drop c.at text)))
 
+-- the number that a side or role is written as
+abbrev pub side_number : Side → ℤ
+side_number First = pos 0
+side_number Second = pos 1
+
 -- a row of side or role 0 or 1, with the cursor before the next line
-abbrev pub RowGiven : Bytes → Cursor → Columns → List ℤ → Row → Type 0
-RowGiven text c cs row (rowRead.First d) = (line_at text c cs ≡ good (pos 0 ∷ row_numbers cs row)) × Stands text (later_lines (drop c.at text)) (suc c.line) d
-RowGiven text c cs row (rowRead.Second d) = (line_at text c cs ≡ good (pos 1 ∷ row_numbers cs row)) × Stands text (later_lines (drop c.at text)) (suc c.line) d
-RowGiven text c cs row rowRead.Bad = line_at text c cs ≡ bad 14
+abbrev pub RowGiven : Bytes → Cursor → Columns → List ℤ → Option (Side × Cursor) → Type 0
+RowGiven text c cs row (Some (side, d)) =
+    (line_at text c cs ≡ good (side_number side ∷ row_numbers cs row)) × Stands text (later_lines (drop c.at text)) (suc c.line) d
+RowGiven text c cs row None = line_at text c cs ≡ bad 14
 
 -- numbers appended behind n numbers of a table, where the room lasts for them
 pub record Appended (room : ℕ) (numbers before after : List ℤ) (n m : ℕ) : Type 0 where
@@ -63,7 +69,7 @@ pub record RowsRead (reading : Reading) (text : Bytes) (room : ℕ) (before₀ a
   pub second : Stored (take room (rows_with (pos 1) done)) before₁ after₁ m
 
 -- what reading the rows of a table gives
-abbrev pub RowsGiven : Reading → Bytes → ℕ → List ℤ → List ℤ → List ℤ → List ℤ → Rows → Type 0
-RowsGiven reading text room before₀ after₀ before₁ after₁ (rowsRead.Ended c k) =
+abbrev pub RowsGiven : Reading → Bytes → ℕ → List ℤ → List ℤ → List ℤ → List ℤ → (Result (Cursor × Counts) Reason) → Type 0
+RowsGiven reading text room before₀ after₀ before₁ after₁ (Ok (c, k)) =
     RowsRead reading text room before₀ after₀ before₁ after₁ c k.first k.second
-RowsGiven reading text room before₀ after₀ before₁ after₁ (rowsRead.Refused r) = reading ≡ stopped (refusal_of r)
+RowsGiven reading text room before₀ after₀ before₁ after₁ (Err r) = reading ≡ stopped (refusal_of r)

@@ -11,39 +11,31 @@ ghost use Rattle.columns.specs.Given.{layout_in, GoodColumns};
 ghost use Rattle.sides.specs.Given.{row_room, Clear, Roomy, row_numbers, RowGiven, Appended, RowsGiven};
 
 use columns::{Columns, MAX_NAMES};
-use cursor::{Cursor, Line};
+use cursor::Cursor;
 use model::Reason;
 
 // Numbers of a row at most, and a place behind them, which no line writes and which stays 0: the value under a name that the names line lacks.
-const ROW_ROOM: usize = MAX_NAMES + 1;
+pub const ROW_ROOM: usize = MAX_NAMES + 1;
 
-// A row that was read, of side or role 0 or 1, with the cursor before the next line.
-#[derive(Clone, Copy)]
-enum Row {
-    First(Cursor),
-    Second(Cursor),
-    Bad,
+// The side or role of a row: 0 or 1.
+#[derive(Clone, Copy, PartialEq, Eq)]
+enum Side {
+    First,
+    Second,
 }
 
-// Reads a value line, of which `row` holds the values afterwards, and tells its side or role.
-fn read_row(text: &[u8], from: Cursor, cs: Columns, row: &mut [i64]) -> Row
+// Reads a value line, of which `row` holds the values afterwards: its side or role, with the cursor before the next line.
+fn read_row(text: &[u8], from: Cursor, cs: Columns, row: &mut [i64]) -> Option<(Side, Cursor)>
     requires { InText text.now from × GoodColumns cs × (row_room ≤ length row.old) × Clear cs row.old }
     ensures row { RowGiven text.now from cs row.new result }
     ensures clear { Clear cs row.new }
 {
-    let line = cursor::read_line(text, from, cs.fields, row);
-    let Line::Values(next) = line else {
-        return Row::Bad;
-    };
-    let at = cs.at[0];
-    let key = row[at];
-    if key == 0 {
-        return Row::First(next);
+    let next = cursor::read_line(text, from, cs.fields, row)?;
+    match row[cs.at[0]] {
+        0 => Some((Side::First, next)),
+        1 => Some((Side::Second, next)),
+        _ => None,
     }
-    if key == 1 {
-        return Row::Second(next);
-    }
-    Row::Bad
 }
 
 // Appends the numbers of a row, in the order of the table's names, behind n numbers of a table, where the room lasts for them.
@@ -55,12 +47,8 @@ fn store(table: &mut [i64], n: usize, room: usize, row: &[i64], cs: Columns) -> 
     if room - n < width {
         return n;
     }
-    let mut j: usize = 0;
-    while j < width {
-        let from = cs.at[j + 1];
-        let v = row[from];
-        table[n + j] = v;
-        j += 1;
+    for j in 0..width {
+        table[n + j] = row[cs.at[j + 1]];
     }
     n + width
 }
@@ -70,10 +58,7 @@ fn is_table_end(text: &[u8], at: usize, last: bool) -> bool
     requires { at < length text.now }
     ensures { result ≡ (is_nil (first_line (drop at text.now)) && not last) }
 {
-    if last {
-        return false;
-    }
-    text[at] == b'\n'
+    !last && text[at] == b'\n'
 }
 
 // How many numbers stand in the table of side or role 0, and in that of 1.
@@ -81,13 +66,6 @@ fn is_table_end(text: &[u8], at: usize, last: bool) -> bool
 pub struct Counts {
     pub first: usize,
     pub second: usize,
-}
-
-// The rows of a table that were read, with the cursor behind them, or the refusal.
-#[derive(Clone, Copy)]
-pub enum Rows {
-    Ended(Cursor, Counts),
-    Refused(Reason),
 }
 
 // Reads the value lines of a table: rows of side or role 0 go to `first`, those of 1 to `second`, as long as the room lasts.
@@ -99,51 +77,37 @@ pub fn read_rows(
     room: usize,
     first: &mut [i64],
     second: &mut [i64],
-) -> Rows
+) -> Result<(Cursor, Counts), Reason>
     requires { InText text.now from × GoodColumns cs × Roomy cs room × (room ≤ length first.old) × (room ≤ length second.old) }
     ensures { RowsGiven (read_values last check_side_or_role (layout_in cs) from.line [] (lines (drop from.at text.now))) text.now room first.old first.new second.old second.new result }
 {
     let mut row = [0i64; ROW_ROOM];
     let mut c = from;
-    let mut n: usize = 0;
-    let mut m: usize = 0;
+    let mut counts = Counts {
+        first: 0,
+        second: 0,
+    };
+    // Where the next line starts is known once this one is read, so that no range counts the turns.
     while c.at < text.len() {
         if is_table_end(text, c.at, last) {
-            return Rows::Ended(
-                Cursor {
-                    at: c.at + 1,
-                    line: c.line + 1,
-                },
-                Counts {
-                    first: n,
-                    second: m,
-                },
-            );
+            let behind = Cursor {
+                at: c.at + 1,
+                line: c.line + 1,
+            };
+            return Ok((behind, counts));
         }
-        let r = read_row(text, c, cs, &mut row);
-        match r {
-            Row::First(next) => {
-                n = store(first, n, room, &row, cs);
-                c = next;
-            }
-            Row::Second(next) => {
-                m = store(second, m, room, &row, cs);
-                c = next;
-            }
-            Row::Bad => {
-                return Rows::Refused(Reason::Values { line: c.line });
-            }
+        let Some((side, next)) = read_row(text, c, cs, &mut row) else {
+            return Err(Reason::Values { line: c.line });
+        };
+        match side {
+            Side::First => counts.first = store(first, counts.first, room, &row, cs),
+            Side::Second => counts.second = store(second, counts.second, room, &row, cs),
         }
+        c = next;
     }
     if last {
-        Rows::Ended(
-            c,
-            Counts {
-                first: n,
-                second: m,
-            },
-        )
+        Ok((c, counts))
     } else {
-        Rows::Refused(Reason::Names { line: c.line })
+        Err(Reason::Names { line: c.line })
     }
 }

@@ -56,10 +56,8 @@ fn found_of_all(
         (tables_of spec_nodes.now spec_edges.now impl_nodes.now impl_edges.now
         root_pairs.now leaf_pairs.now) room result lines.new }
 {
-    let count = root_pairs.len() / PAIR_WIDTH;
     let mut kept = no_pair();
-    let mut row: usize = 0;
-    while row < count {
+    for row in 0..root_pairs.len() / PAIR_WIDTH {
         if room < kept.bytes {
             return kept;
         }
@@ -68,7 +66,6 @@ fn found_of_all(
             spec_plan, impl_plan, spec_state, impl_state, spare, read, written, plain, row, lines,
             kept,
         );
-        row += 1;
     }
     kept
 }
@@ -78,10 +75,7 @@ fn is_plain(spec_nodes: &[i64], impl_nodes: &[i64]) -> bool
     ensures { (result ≡ true)
         ↔ ((spec_edges impl_edges : List ℤ) → AllOpen (graph_of spec_nodes.now spec_edges) × AllOpen (graph_of impl_nodes.now impl_edges)) }
 {
-    if !all_open(spec_nodes) {
-        return false;
-    }
-    all_open(impl_nodes)
+    all_open(spec_nodes) && all_open(impl_nodes)
 }
 
 // What is kept of all pairs: the full result, how many pairs have a line and how many bytes the lines have, and in front of `lines`, where there is room
@@ -140,6 +134,7 @@ pub fn survey(
 }
 
 // Writes the lines of all pairs, root row by root row, each row's into what remains of the buffer.
+// A loop of its own beside that of found_of_all: there what is kept goes on from row to row, and the pass may stop; here each row begins anew, and is written.
 fn put_rows(
     spec_nodes: &[i64],
     spec_edges: &[i64],
@@ -172,10 +167,9 @@ fn put_rows(
         (tables_of spec_nodes.now spec_edges.now impl_nodes.now impl_edges.now
         root_pairs.now leaf_pairs.now))) out.old out.new result }
 {
-    let count = root_pairs.len() / PAIR_WIDTH;
-    let mut at: usize = 0;
-    let mut passed: usize = 0;
-    while passed < count {
+    let rows = root_pairs.len() / PAIR_WIDTH;
+    let mut at = 0;
+    for row in 0..rows {
         let kept = row_found(
             spec_nodes,
             spec_edges,
@@ -192,12 +186,11 @@ fn put_rows(
             read,
             written,
             plain,
-            passed,
+            row,
             lines,
             no_pair(),
         );
         at += put_lines(&mut out[at..], lines, kept.count);
-        passed += 1;
     }
     at
 }

@@ -1,5 +1,6 @@
 -- The report from what is kept of all pairs; and the outcome of the check of tables: a refusal of the tables, a report that is too long, and one that is
 -- written.
+use Rattle.std.specs.Prelude.{Ok, Err}
 use mathlib.Core.Path.{◌≡◌, refl, ap, ◌∙◌}
 use mathlib.Core.List.{List, [], flat_map}
 use mathlib.Core.Option.{none, some}
@@ -22,7 +23,6 @@ use Rattle.reporting.specs.Lines.{report_from}
 use Rattle.reporting.proofs.Parts.{report_length, report-size, report-from}
 use Rattle.totals.specs.declared.Kept.{Kept}
 use Rattle.totals.specs.Kept.{KeptOf}
-use Rattle.tablecheck.specs.declared.Outcome.TheVariants as outcome
 use Rattle.tablecheck.specs.Outcomes.{measured_of, Gives}
 
 -- ---- the report
@@ -44,20 +44,20 @@ module _ {fs : List Finding} {lines : List ℕ} {k : Kept} (p : KeptOf fs lines 
 
 module _ (t : Tables) (buffer : Bytes) where
   -- a refusal of the tables is that of the check, and the buffer is untouched
-  pub outcome_refused : {r : Reason} → check_tables t ≡ some (refusal_of r) → Gives (check_read (length buffer) (full t)) buffer buffer (outcome.Refused r)
+  pub outcome_refused : {r : Reason} → check_tables t ≡ some (refusal_of r) → Gives (check_read (length buffer) (full t)) buffer buffer (Err r)
   unfolding check_read ◌then◌ answer measured_of report_of buffer_after
   outcome_refused e = rw e (record { answers = refl; buffer = refl })
 
   module _ (taken : check_tables t ≡ none) where
     -- a report that is longer than the buffer is refused, and the buffer is untouched
-    pub outcome_long : length buffer < length (report (findings t)) → Gives (check_read (length buffer) (full t)) buffer buffer (outcome.Refused reason.LongOutput)
+    pub outcome_long : length buffer < length (report (findings t)) → Gives (check_read (length buffer) (full t)) buffer buffer (Err reason.LongOutput)
     unfolding check_read ◌then◌ check_output when answer measured_of report_of buffer_after
     outcome_long h = rw (taken, lt-ltb (length buffer) (length (report (findings t))) h) (record { answers = refl; buffer = refl })
 
     -- a report that fits is written, and its length and its whole verdict are given
     pub outcome_written : {after : Bytes} {n m : ℕ} (c : Comparison) → Put (report (findings t)) buffer after n → length (report (findings t)) ≤ length buffer
         → m ≡ length (report (findings t)) → comparison_result c ≡ result_of (findings t)
-        → Gives (check_read (length buffer) (full t)) buffer after (outcome.Reported m c.verdict)
+        → Gives (check_read (length buffer) (full t)) buffer after (Ok (record { length = m; verdict = c.verdict }))
     unfolding check_read ◌then◌ check_output when answer measured_of report_of reported_of buffer_after
     outcome_written c p h e same =
         rw (taken, le-ltb (length buffer) (length (report (findings t))) h, e)

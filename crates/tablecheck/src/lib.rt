@@ -17,18 +17,18 @@ ghost use Rattle.tablecheck.specs.Outcomes.{Gives};
 
 use forward::PLAN_ROOM;
 use grouping::LINK_ROOM;
-use model::{Checked, Reason, Verdict};
+use model::{Reason, Verdict};
 use prepare::prepare;
 use report::put_heading;
 use reporting::{fixed_length, put_ending, put_lines};
 use survey::{put_all, survey};
 use totals::Kept;
 
-// The outcome of the check of tables: the length of the report with the whole verdict that it states, or the refusal.
+// What the check of tables gives: the length of the report with the whole verdict that it states.
 #[derive(Clone, Copy)]
-pub enum Outcome {
-    Reported { length: usize, verdict: Verdict },
-    Refused(Reason),
+pub struct Reported {
+    pub length: usize,
+    pub verdict: Verdict,
 }
 
 // Lines that are held: as many as 65,536 bytes may have, with seven digits, six spaces and a line feed each.
@@ -122,7 +122,7 @@ pub fn check_tables(
     root_pairs: &[i64],
     leaf_pairs: &[i64],
     report: &mut [u8],
-) -> Outcome
+) -> Result<Reported, Reason>
     ensures { Gives (check_read (length report.old) (full
         (tables_of spec_nodes.now spec_edges.now impl_nodes.now impl_edges.now
         root_pairs.now leaf_pairs.now)))
@@ -131,7 +131,7 @@ pub fn check_tables(
     let mut spec_plan = [0usize; PLAN_ROOM];
     let mut impl_plan = [0usize; PLAN_ROOM];
     let mut links = [0usize; LINK_ROOM];
-    let c = prepare(
+    prepare(
         spec_nodes,
         spec_edges,
         impl_nodes,
@@ -141,10 +141,7 @@ pub fn check_tables(
         &mut spec_plan,
         &mut impl_plan,
         &mut links,
-    );
-    if let Checked::Refused(reason) = c {
-        return Outcome::Refused(reason);
-    }
+    )?;
     let mut lines = [0usize; LINE_ROOM];
     let room = report.len();
     let kept = survey(
@@ -152,20 +149,18 @@ pub fn check_tables(
         &impl_plan, room, &mut lines,
     );
     if kept.bytes > room {
-        return Outcome::Refused(Reason::LongOutput);
+        return Err(Reason::LongOutput);
     }
-    let result = kept.result;
-    let length = fixed_length(result) + kept.bytes;
+    let length = fixed_length(kept.result) + kept.bytes;
     if length > room {
-        return Outcome::Refused(Reason::LongOutput);
+        return Err(Reason::LongOutput);
     }
     put_report(
         spec_nodes, spec_edges, impl_nodes, impl_edges, root_pairs, leaf_pairs, &links, &spec_plan,
         &impl_plan, &mut lines, kept, report,
     );
-    let verdict = result.verdict;
-    Outcome::Reported {
-        length: length,
-        verdict: verdict,
-    }
+    Ok(Reported {
+        length,
+        verdict: kept.result.verdict,
+    })
 }

@@ -10,6 +10,8 @@ use lib.Signed.{◌≤ℤ◌, non_neg, yes_non_neg, pos-nat_abs}
 use mir.Syntax.{w64}
 use mir.Val.{Fits, SFits, to_z, of_z}
 use mir.Facts.{to_z-of_z, Fits-nat_abs}
+use Rattle.std.proofs.lemmas.Bool.Decides.{nat_tests}
+use Rattle.std.proofs.lemmas.Int.{ints}
 use Rattle.integers.specs.Integers.{eq_z}
 
 module _ {z : ℤ} (fits : SFits w64 z) (low : pos 0 ≤ℤ z) where
@@ -34,3 +36,10 @@ module _ {z : ℤ} (fits : SFits w64 z) {n : ℕ} (small : n < 2 ^ 63) where
   -- the bits are not those of the number that is written out
   pub bits-other : (of_z w64 z ≡ n → ⊥) → eq_z z (pos n) ≡ false
   bits-other e = sym (bits_test fits n small) ∙ ne_eqb (of_z w64 z) n e
+
+-- a number that is written out, against its bits: for the search
+pub cell_test : {z : ℤ} → SFits w64 z → (n : ℕ) → n < 2 ^ 63 → eq_z z (pos n) ≡ eqb (of_z w64 z) n
+cell_test f n h = sym (bits_test f n h)
+
+-- for the search: tests on numbers, and on a number against one that is written out
+pub ruleset cells = (nat_tests, ints, cell_test)

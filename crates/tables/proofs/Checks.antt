@@ -3,18 +3,24 @@ use mathlib.Core.Path.{◌≡◌, refl, sym, ◌∙◌}
 use mathlib.Core.Bool.{true, false}
 use mathlib.Core.List.{List, [], ◌∷◌}
 use mathlib.Core.Option.{Option, none, some}
-use Prim.Native.Nat.{ℕ}
+use Prim.Native.Nat.{ℕ, zero, suc, ◌≤◌, ◌<◌}
+use lib.ListN.{length, get_or, drop}
+use lib.Seq.{drop-cons}
+use Rattle.std.proofs.lemmas.List.{drop_all}
+use Rattle.std.specs.Prelude.{Result, Ok, Err}
+use Rattle.model.specs.declared.Reason.{Reason}
+use Rattle.model.specs.Answers.{checked_answer}
 use native.Mathlib.Omega.{arith}
 use lib.IntN.{ℤ}
 use Rattle.integers.specs.Integers.{eq_z}
-use Rattle.model.specs.Rows.{Node, Edge}
+use Rattle.model.specs.Rows.{Edge}
 use Rattle.model.specs.Graph.{Graph, graph_of, node, block}
 use Rattle.model.specs.Refusals.{Refusal}
-use Rattle.model.specs.Checks.{when, ◌then◌, first_refusal, good_node, check_node, good_edge, check_edge, cyclic, deep, check_graph}
+use Rattle.model.specs.Checks.{when, ◌then◌, first_refusal, good_edge, check_edge, cyclic, deep, check_graph}
 use Rattle.model.specs.Calls.{Answer, refused, full, answer}
 use Rattle.model.specs.Answers.{numbered}
 use Rattle.model.proofs.Checks.{then_assoc}
-use Rattle.tables.specs.Tables.{check_rows}
+use Rattle.tables.specs.Tables.{FirstRefused, check_rows}
 
 -- the answer of a check
 abbrev pub checked : Option Refusal → Answer (Unit {0})
@@ -56,18 +62,33 @@ module _ {R : Type 0} (check : R → Option Refusal) where
       unfolding first_refusal
       left_stops e = then_stops (check row) (first_refusal check rest) e ∙ sym (rw next at left)
 
+-- ---- the checks of the rows of a table, by their numbers
+
+module _ {R : Type 0} (check : R → Option Refusal) (all : List R) (d : R) {gives : ℕ → Result (Unit {0}) Reason → Type 0} {count : ℕ} (size : length all ≡ count)
+    (each : (v : ℕ) (a : Result (Unit {0}) Reason) → v < count → gives v a → checked_answer a ≡ checked (check (get_or all v d)))
+  where
+    -- rows that are taken are left behind
+    rows-left : (v : ℕ) → v ≤ count → ((w : ℕ) → w < v → gives w (Ok tt)) → Left check all (drop v all)
+    rows-left zero h taken = refl
+    rows-left (suc v) h taken =
+        left_on check all (rows-left v (omega arith) (λ w k. taken w (omega arith))) (drop-cons all v d (omega arith))
+        (each v (Ok tt) (omega arith) (taken v (omega arith)))
+
+    -- the answer of all rows: the first refusal, or that they are taken
+    rows-answered : (given : Result (Unit {0}) Reason) → FirstRefused gives count given → checked_answer given ≡ checked (first_refusal check all)
+    rows-answered (Ok _) f = left_none check all (rows-left count (omega arith) (f.taken refl)) (drop_all count all (omega arith))
+    rows-answered (Err r) f =
+        let w = f.refused r refl in
+        left_stops check all (rows-left w.0 (omega (arith, w.1)) w.2) (drop-cons all w.0 d (omega (arith, w.1))) (each w.0 (Err r) w.1 w.3)
+
+-- where each check answers that of its row, they answer that of the first refusal of all rows
+pub rows_checked : {R : Type 0} (check : R → Option Refusal) (all : List R) (d : R) {gives : ℕ → Result (Unit {0}) Reason → Type 0} {count : ℕ}
+    {given : Result (Unit {0}) Reason} → FirstRefused gives count given → length all ≡ count
+    → ((v : ℕ) (a : Result (Unit {0}) Reason) → v < count → gives v a → checked_answer a ≡ checked (check (get_or all v d)))
+    → checked_answer given ≡ checked (first_refusal check all)
+rows_checked check all d {given} first size each = rows-answered check all d size each given first
+
 -- ---- the checks of a row
-
-module _ (t : ℕ) (n : Node) where
-  -- a row that passes the test is not refused
-  pub node-taken : good_node n ≡ true → full tt ≡ checked (check_node t n)
-  unfolding answer when check_node
-  node-taken e = rw e
-
-  -- a row that fails the test is refused
-  pub node-refused : good_node n ≡ false → refused (numbered 2 t n.row) ≡ checked (check_node t n)
-  unfolding answer when check_node
-  node-refused e = rw e
 
 module _ (t : ℕ) (g : Graph) (e : Edge) where
   -- a row that fails the test is refused

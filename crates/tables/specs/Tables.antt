@@ -1,11 +1,12 @@
 -- The rows of flat tables, as the code reads them, and their checks. Assumes nothing.
-use Rattle.std.specs.Prelude.{List, ℕ, suc, ◌+◌, ◌*◌, ℤ, pos, get_or}
+use Rattle.std.specs.Prelude.{◌≡◌, List, ℕ, suc, ◌+◌, ◌*◌, ◌<◌, ℤ, pos, get_or, Result, Ok, Err}
 use Rattle.std.proofs.Math.Option.{Option}
 use Rattle.model.specs.Limits.{node_width, edge_width, pair_width, max_nodes, max_edges}
 use Rattle.model.specs.Rows.{Node, Edge, Pair, node_rows, edge_rows}
 use Rattle.model.specs.Graph.{graph_of}
 use Rattle.model.specs.Refusals.{Refusal}
 use Rattle.model.specs.Checks.{◌then◌, first_refusal, check_shape, check_node, check_edge}
+use Rattle.model.specs.declared.Reason.{Reason}
 use Rattle.tables.specs.declared.NodeRow.{NodeRow}
 use Rattle.tables.specs.declared.EdgeRow.{EdgeRow}
 
@@ -31,6 +32,12 @@ node_of v n = record { row = v; kind = n.kind; base = n.base.0; range = n.range.
 -- what was read of an edge row, as row e
 abbrev pub edge_of : ℕ → EdgeRow → Edge
 edge_of e r = record { row = e; from = r.from; to = r.to; offset = r.offset.0 }
+
+-- the answer of so many checks one after the other, each of which may give such answers: where it takes, so does each, and where it refuses, so does the first that does
+-- not take
+pub record FirstRefused (gives : ℕ → Result (Unit {0}) Reason → Type 0) (count : ℕ) (given : Result (Unit {0}) Reason) : Type 0 where
+  pub taken : given ≡ Ok tt → (v : ℕ) → v < count → gives v (Ok tt)
+  pub refused : (r : Reason) → given ≡ Err r → (v : ℕ) × (v < count) × ((w : ℕ) → w < v → gives w (Ok tt)) × gives v (Err r)
 
 -- refusals 1 to 4 of a graph in their order. Its node table is t and its edge table t + 1
 unfoldable pub check_rows : ℕ → List ℤ → List ℤ → Option Refusal

@@ -11,9 +11,9 @@ ghost use Rattle.textcheck.specs.Fronts.{WithinSizes};
 ghost use Rattle.textcheck.specs.Lengths.{length_alone};
 ghost use Rattle.textcheck.specs.Promises.{as_it_is, TextPromise};
 
-use mapfile::{EDGE_ROOM, NODE_ROOM, PAIR_ROOM, Read, Sizes};
-use model::Written;
-use tablecheck::Outcome;
+use mapfile::{EDGE_ROOM, NODE_ROOM, PAIR_ROOM, Sizes};
+use model::Reason;
+use tablecheck::Reported;
 
 // Checks the tables of these sizes at the front of the slices.
 fn check_front(
@@ -25,32 +25,26 @@ fn check_front(
     leaf_pairs: &[i64],
     sizes: Sizes,
     report: &mut [u8],
-) -> Outcome
+) -> Result<Reported, Reason>
     requires { WithinSizes (lent spec_nodes.now spec_edges.now impl_nodes.now impl_edges.now root_pairs.now leaf_pairs.now) sizes }
     ensures { Gives (check_read (length report.old) (full
         (front (lent spec_nodes.now spec_edges.now impl_nodes.now impl_edges.now
         root_pairs.now leaf_pairs.now) sizes)))
         report.old report.new result }
 {
-    let a = sizes.spec_nodes;
-    let b = sizes.spec_edges;
-    let c = sizes.impl_nodes;
-    let d = sizes.impl_edges;
-    let e = sizes.root_pairs;
-    let f = sizes.leaf_pairs;
     tablecheck::check_tables(
-        &spec_nodes[..a],
-        &spec_edges[..b],
-        &impl_nodes[..c],
-        &impl_edges[..d],
-        &root_pairs[..e],
-        &leaf_pairs[..f],
+        &spec_nodes[..sizes.spec_nodes],
+        &spec_edges[..sizes.spec_edges],
+        &impl_nodes[..sizes.impl_nodes],
+        &impl_edges[..sizes.impl_edges],
+        &root_pairs[..sizes.root_pairs],
+        &leaf_pairs[..sizes.leaf_pairs],
         report,
     )
 }
 
 // Checks a map file: the report's length with its whole verdict, or the refusal.
-pub fn check_map(text: &[u8], report: &mut [u8]) -> Outcome
+pub fn check_map(text: &[u8], report: &mut [u8]) -> Result<Reported, Reason>
     ensures { Gives (text_answer (length report.old) text.now) report.old report.new result }
 {
     let mut spec_nodes = [0i64; NODE_ROOM];
@@ -59,7 +53,7 @@ pub fn check_map(text: &[u8], report: &mut [u8]) -> Outcome
     let mut impl_edges = [0i64; EDGE_ROOM];
     let mut root_pairs = [0i64; PAIR_ROOM];
     let mut leaf_pairs = [0i64; PAIR_ROOM];
-    let read = mapfile::read_map(
+    let sizes = mapfile::read_map(
         text,
         &mut spec_nodes,
         &mut spec_edges,
@@ -67,36 +61,30 @@ pub fn check_map(text: &[u8], report: &mut [u8]) -> Outcome
         &mut impl_edges,
         &mut root_pairs,
         &mut leaf_pairs,
-    );
-    match read {
-        Read::Refused(reason) => Outcome::Refused(reason),
-        Read::Tables(sizes) => check_front(
-            &spec_nodes,
-            &spec_edges,
-            &impl_nodes,
-            &impl_edges,
-            &root_pairs,
-            &leaf_pairs,
-            sizes,
-            report,
-        ),
-    }
+    )?;
+    check_front(
+        &spec_nodes,
+        &spec_edges,
+        &impl_nodes,
+        &impl_edges,
+        &root_pairs,
+        &leaf_pairs,
+        sizes,
+        report,
+    )
 }
 
 // The outcome without the verdict.
-pub fn written_of(outcome: Outcome) -> Written
+#[tactic(auto, unfolding(crate::specs::Lengths::length_alone))]
+pub fn written_of(outcome: Result<Reported, Reason>) -> Result<usize, Reason>
     ensures { written_answer result ≡ length_alone (outcome_answer outcome) }
 {
-    match outcome {
-        Outcome::Reported { length, verdict: _ } => Written::Count(length),
-        Outcome::Refused(reason) => Written::Refused(reason),
-    }
+    outcome.map(|reported| reported.length)
 }
 
 // Checks a map file and writes the report: its length, or the refusal, on which the buffer is untouched.
-pub fn text_check(text: &[u8], report: &mut [u8]) -> Written
+pub fn text_check(text: &[u8], report: &mut [u8]) -> Result<usize, Reason>
     ensures { TextPromise as_it_is text.now report.old report.new (written_answer result) }
 {
-    let outcome = check_map(text, report);
-    written_of(outcome)
+    written_of(check_map(text, report))
 }

@@ -9,11 +9,11 @@ ghost use Rattle.reporting.specs.Lines.{max_visits, SmallResult};
 ghost use Rattle.totals.specs.Kept.{counted, first_place, result_with, as_place, KeptNone, is_asked, RoomFor, PairAddable, Added, EqualAdded};
 
 use bothkinds::{higher, lower_of, record_count};
-use model::{Comparison, Verdict, verdict_number};
+use model::{Comparison, Verdict};
 use reporting::{Lengths, line_length, line_number};
 
 // What is found of a pair for one kind of walk: its verdict, the lengths of its lists, and, where it was asked for, the lowest bit address at which they differ, -1
-// where they differ nowhere.
+// where they differ nowhere, as the result of a comparison has it.
 #[derive(Clone, Copy)]
 pub struct Found {
     pub verdict: Verdict,
@@ -29,7 +29,7 @@ pub struct Kept {
     pub bytes: usize,
 }
 
-// Root row and leaf row of a pair, and a bit address.
+// Root row and leaf row of a pair, and a bit address: -1 for none, as the result of a comparison has it.
 #[derive(Clone, Copy)]
 struct Place {
     root: i64,
@@ -51,7 +51,7 @@ pub fn no_pair() -> Kept
         address: -1,
     };
     Kept {
-        result: result,
+        result,
         count: 0,
         bytes: 0,
     }
@@ -61,32 +61,26 @@ pub fn no_pair() -> Kept
 pub fn address_asked(kept: Kept) -> bool
     ensures { result ≡ is_asked kept }
 {
-    let result = kept.result;
-    result.root < 0
+    kept.result.root < 0
 }
 
 // How often a verdict was given, with one more verdict.
-fn counted(verdict: usize, given: usize, count: usize) -> usize
+fn counted(verdict: Verdict, given: Verdict, count: usize) -> usize
     requires { count ≤ max_visits }
-    ensures { result ≡ counted verdict given count }
+    ensures { result ≡ counted (verdict_number verdict) (verdict_number given) count }
 {
-    if given == verdict {
-        return count + 1;
-    }
-    count
+    if given == verdict { count + 1 } else { count }
 }
 
 // The place of the first unequal pair, with one more pair of this place.
-fn first_place(first: Place, place: Place, given: usize) -> Place
-    ensures { as_place result ≡ first_place given (as_place place) (as_place first) }
+fn first_place(first: Place, place: Place, given: Verdict) -> Place
+    ensures { as_place result ≡ first_place (verdict_number given) (as_place place) (as_place first) }
 {
-    if given == 0 {
-        return first;
+    if given != Verdict::Equal && first.root < 0 {
+        place
+    } else {
+        first
     }
-    if first.root < 0 {
-        return place;
-    }
-    first
 }
 
 // The full result with one more pair of this verdict and this lowest address.
@@ -102,8 +96,6 @@ fn with_found(
         ≡ result_with (verdict_number verdict) (record { root = pos root_row; leaf = pos leaf_row; address = address })
         (comparison_result res) }
 {
-    let given = verdict_number(verdict);
-    let whole = res.verdict;
     let first = Place {
         root: res.root,
         leaf: res.leaf,
@@ -112,14 +104,14 @@ fn with_found(
     let place = Place {
         root: root_row as i64,
         leaf: leaf_row as i64,
-        address: address,
+        address,
     };
-    let first = first_place(first, place, given);
+    let first = first_place(first, place, verdict);
     Comparison {
-        equal: counted(0, given, res.equal),
-        partial: counted(1, given, res.partial),
-        different: counted(2, given, res.different),
-        verdict: higher(whole, verdict),
+        equal: counted(Verdict::Equal, verdict, res.equal),
+        partial: counted(Verdict::Partial, verdict, res.partial),
+        different: counted(Verdict::Different, verdict, res.different),
+        verdict: higher(res.verdict, verdict),
         root: first.root,
         leaf: first.leaf,
         address: first.address,
@@ -150,23 +142,16 @@ pub fn with_pair(
 {
     let read = reading.lengths;
     let written = writing.lengths;
-    let one = reading.verdict;
-    let other = writing.verdict;
-    let verdict = higher(one, other);
+    let verdict = higher(reading.verdict, writing.verdict);
     let address = lower_of(reading.address, writing.address);
-    let result = kept.result;
-    let result = with_found(result, root_row, leaf_row, verdict, address);
+    let result = with_found(kept.result, root_row, leaf_row, verdict, address);
     if record_count(read, written) == 0 {
-        return Kept {
-            result: result,
-            count: kept.count,
-            bytes: kept.bytes,
-        };
+        return Kept { result, ..kept };
     }
     let number = line_number(root_row, leaf_row, verdict, read, written);
     hold_line(lines, kept.count, number);
     Kept {
-        result: result,
+        result,
         count: kept.count + 1,
         bytes: kept.bytes + line_length(number),
     }
@@ -179,9 +164,5 @@ pub fn with_equal(kept: Kept, pairs: usize) -> Kept
 {
     let mut result = kept.result;
     result.equal += pairs;
-    Kept {
-        result: result,
-        count: kept.count,
-        bytes: kept.bytes,
-    }
+    Kept { result, ..kept }
 }

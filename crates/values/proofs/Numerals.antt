@@ -11,7 +11,8 @@ use native.Mathlib.Omega.{arith}
 use borrow.Author.Tests.{le-leb, lt-leb, leb-true, eq-eqb, ne_eqb}
 use lib.Dec.{leb, eqb, lit<}
 use lib.IntN.{pos, neg_ℤ, ◌-ℤ◌}
-use lib.ListN.{length, drop, get_or, drop_of_length-le}
+use lib.ListN.{length, take, drop, get_or, drop_of_length-le}
+use lib.Pointwise.{pointwise}
 use lib.Seq.{drop-cons}
 use mir.Syntax.{w64}
 use mir.Val.{SFits, to_z, of_z}
@@ -33,15 +34,10 @@ module _ (s : Bytes) (k v : ℕ) where
   digits-none h = rw (drop_of_length-le s {i = k} h) refl
 
   module _ (h : k < length s) where
-    -- a byte below the digits
-    pub digits_low : get_or s k 0 < 48 → scanned v (drop k s) ≡ none
-    unfolding scanned is_digit
-    digits_low p = rw (drop-cons s k 0 h) (simp (lt-leb 48 (get_or s k 0) p))
-
-    -- a byte above the digits
-    pub digits-high : 57 < get_or s k 0 → scanned v (drop k s) ≡ none
-    unfolding scanned is_digit
-    digits-high p = rw (drop-cons s k 0 h) (simp (le-leb 48 (get_or s k 0) (omega arith), lt-leb (get_or s k 0) 57 p))
+    -- a byte that is no digit
+    pub digits_other : is_digit (get_or s k 0) ≡ false → scanned v (drop k s) ≡ none
+    unfolding scanned
+    digits_other e = rw (drop-cons s k 0 h, e) refl
 
     -- a digit
     pub digits_goes : 48 ≤ get_or s k 0 → get_or s k 0 ≤ 57 → scanned v (drop k s) ≡ scanned (v * 10 + (get_or s k 0 - 48)) (drop (k + 1) s)
@@ -113,11 +109,15 @@ magnitude-long [] h = absurd (omega arith)
 magnitude-long (c ∷ t) h = magnitude_scan c t ∙ simp (lt-leb (suc (length t)) max_digits h)
 
 -- a leading zero
-pub magnitude_zero : (f : Bytes) → get_or f 0 0 ≡ 48 → 1 < length f → length f ≤ max_digits → magnitude f ≡ none
+pub magnitude_zero : (f : Bytes) → get_or f 0 0 ≡ 48 → 1 < length f → magnitude f ≡ none
 unfolding is_nil
-magnitude_zero [] e h k = absurd (omega arith)
-magnitude_zero (c ∷ []) e h k = absurd (omega arith)
-magnitude_zero (c ∷ d ∷ t) e h k = magnitude_scan c (d ∷ t) ∙ simp (le-leb (suc (suc (length t))) max_digits k, eq-eqb c 48 e)
+magnitude_zero [] e h = absurd (omega arith)
+magnitude_zero (c ∷ []) e h = absurd (omega arith)
+magnitude_zero (c ∷ d ∷ t) e h = magnitude_scan c (d ∷ t) ∙ rw (eq-eqb c 48 e) (go (leb (suc (suc (length t))) max_digits))
+  where
+    go : (b : Bool) → cond (b && false) (scanned 0 (c ∷ d ∷ t)) none ≡ none
+    go true = refl
+    go false = refl
 
 -- one byte, which may be a zero, or several that do not begin with one
 pub magnitude-scanned : (f : Bytes) → 0 < length f → length f ≤ max_digits → (length f ≤ 1) ⊎ (get_or f 0 0 ≢ 48) → magnitude f ≡ scanned 0 f
@@ -177,31 +177,29 @@ module _ (f : Bytes) {n : ℕ} (m : magnitude f ≡ some n) where
       go zero h = absurd (omega arith)
       go (suc n) h = refl
 
--- no magnitude, no value
-pub positive_none : (f : Bytes) → magnitude f ≡ none → none ≡ map pos (magnitude f)
-positive_none f m = rw m
-
--- the same behind a minus
+-- no magnitude behind a minus, no value
 pub negative-none : (f : Bytes) → magnitude f ≡ none → none ≡ negative (magnitude f)
 unfolding negative
 negative-none f m = rw m
 
 -- ---- the value of a field
 
--- an empty field has no value
-pub value-empty : (f : Bytes) → length f ≡ 0 → none ≡ value_of f
-unfolding value_of
-value-empty [] h = refl
-value-empty (c ∷ t) h = absurd (omega arith)
-
 -- behind a minus
-pub value-dash : (f : Bytes) → 0 < length f → get_or f 0 0 ≡ dash → negative (magnitude (drop 1 f)) ≡ value_of f
+pub value-dash : (f : Bytes) → pointwise eqb (take 1 f) (dash ∷ []) ≡ true → negative (magnitude (drop 1 f)) ≡ value_of f
 unfolding value_of
-value-dash [] h e = absurd (omega arith)
-value-dash (c ∷ t) h e = rw (eq-eqb c dash e)
+value-dash [] e = cc
+value-dash (c ∷ t) e = go (eqb c dash) e
+  where
+    go : (b : Bool) → (b && true) ≡ true → negative (magnitude t) ≡ cond b (negative (magnitude t)) (map pos (magnitude (c ∷ t)))
+    go true e = refl
+    go false e = cc
 
 -- without one
-pub value_plain : (f : Bytes) → 0 < length f → get_or f 0 0 ≢ dash → map pos (magnitude f) ≡ value_of f
-unfolding value_of
-value_plain [] h e = absurd (omega arith)
-value_plain (c ∷ t) h e = rw (ne_eqb c dash e)
+pub value_plain : (f : Bytes) → pointwise eqb (take 1 f) (dash ∷ []) ≡ false → map pos (magnitude f) ≡ value_of f
+unfolding value_of magnitude
+value_plain [] e = refl
+value_plain (c ∷ t) e = go (eqb c dash) e
+  where
+    go : (b : Bool) → (b && true) ≡ false → map pos (magnitude (c ∷ t)) ≡ cond b (negative (magnitude t)) (map pos (magnitude (c ∷ t)))
+    go true e = cc
+    go false e = refl

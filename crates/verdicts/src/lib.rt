@@ -3,21 +3,22 @@
 #![tactic(auto)]
 
 ghost use Rattle.std.specs.Prelude.{◌≡◌, ◌+◌, ◌*◌, ◌≤◌, length};
-ghost use Rattle.model.specs.Verdicts.{same_record, same_list, lowest};
+ghost use Rattle.model.specs.Verdicts.{same_list, lowest};
 ghost use Rattle.sorting.specs.Rows.{row_width};
 ghost use Rattle.normalisation.specs.Records.{record_at, records_of, records_from};
 ghost use Rattle.verdicts.specs.Records.{as_record, SmallRootBits, SmallList};
 ghost use Rattle.verdicts.specs.OnePass as pass;
 
-// Root bits first .. last reach leaf bits that stand displacement below them.
-#[derive(Clone, Copy)]
+// Root bits first .. last reach leaf bits that stand displacement below them. The record that callers see is that of crate records, which stands above
+// the passes that use this one.
+#[derive(Clone, Copy, PartialEq, Eq)]
 pub struct Record {
     pub first: i64,
     pub last: i64,
     pub displacement: i64,
 }
 
-// The lowest address found so far, -1 where there is none.
+// The lowest address found so far, -1 where there is none, as `lowest_of` promises it.
 #[derive(Clone, Copy)]
 pub struct Least(pub i64);
 
@@ -38,20 +39,7 @@ pub fn record_at(t: &[i64], i: usize) -> Record
 fn begin_alike(r: Record, s: Record) -> bool
     ensures { result ≡ pass.aligned (as_record r) (as_record s) }
 {
-    if r.first != s.first {
-        return false;
-    }
-    r.displacement == s.displacement
-}
-
-// Whether two records are the same.
-fn same_records(r: Record, s: Record) -> bool
-    ensures { result ≡ same_record (as_record r) (as_record s) }
-{
-    if begin_alike(r, s) {
-        return r.last == s.last;
-    }
-    false
+    r.first == s.first && r.displacement == s.displacement
 }
 
 // Whether na records of a are nb records of b, in one pass.
@@ -62,11 +50,8 @@ pub fn same_lists(a: &[i64], na: usize, b: &[i64], nb: usize) -> bool
     if na != nb {
         return false;
     }
-    let mut i: usize = 0;
-    while i < na {
-        if same_records(record_at(a, i), record_at(b, i)) {
-            i += 1;
-        } else {
+    for i in 0..na {
+        if record_at(a, i) != record_at(b, i) {
             return false;
         }
     }
@@ -78,12 +63,10 @@ fn lower(least: Least, next: i64) -> Least
     ensures { result.0 ≡ pass.lower least.0 next }
 {
     if least.0 < 0 {
-        return Least(next);
+        Least(next)
+    } else {
+        Least(least.0.min(next))
     }
-    if least.0 <= next {
-        return least;
-    }
-    Least(next)
 }
 
 // The same, where the next is past the end of the shorter of two records, if one is shorter.
@@ -92,12 +75,12 @@ fn lower_end(least: Least, r: Record, s: Record) -> Least
     ensures { result.0 ≡ pass.lowest_from least.0 (pass.ends (as_record r) (as_record s)) }
 {
     if r.last < s.last {
-        return lower(least, r.last + 1);
+        lower(least, r.last + 1)
+    } else if s.last < r.last {
+        lower(least, s.last + 1)
+    } else {
+        least
     }
-    if s.last < r.last {
-        return lower(least, s.last + 1);
-    }
-    least
 }
 
 // The same, where the next is the first bit of record i of t, if there is one.
@@ -106,10 +89,10 @@ fn lower_start(least: Least, t: &[i64], n: usize, i: usize) -> Least
     ensures { result.0 ≡ pass.lowest_from least.0 (pass.starts (records_from t.now i n)) }
 {
     if i < n {
-        let r = record_at(t, i);
-        return lower(least, r.first);
+        lower(least, record_at(t, i).first)
+    } else {
+        least
     }
-    least
 }
 
 // Whether both lists have a record i, and these two begin alike.
@@ -133,7 +116,8 @@ pub fn lowest_of(spec: &[i64], ns: usize, imp: &[i64], ni: usize) -> i64
     ensures { result ≡ lowest (records_of spec.now ns) (records_of imp.now ni) }
 {
     let mut least = Least(-1);
-    let mut i: usize = 0;
+    // i is looked at behind the loop too: it says how far the records begin alike.
+    let mut i = 0;
     while alike_at(spec, ns, imp, ni, i) {
         least = lower_end(least, record_at(spec, i), record_at(imp, i));
         i += 1;

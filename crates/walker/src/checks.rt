@@ -1,14 +1,14 @@
 // The calls under test that are about one graph, each held against what the walk by single addresses says.
-use crate::records::{List, Records, record, same};
-use crate::tally::Counts;
-use crate::walks::{Asked, Reached};
-use crate::{batched, records, tally, walks};
-use generator::maps::Shape;
-use generator::numbers::{at, cell, draw, less, number, part, size, sum};
-use generator::orders::{edge_rows, node_rows};
-use generator::rows;
-use generator::rows::Map;
-use model::{Checked, Written};
+use crate::batched;
+use crate::records::{MAX_RECORDS, RECORD_WIDTH, Record, Records};
+use crate::tally::{Counted, Counts};
+use crate::walks::{Asked, Reached, SLOTS, bits_at, reach};
+use generator::draws::Draws;
+use generator::graphs::{Graph, write};
+use generator::maps::SMALLEST_UNIT;
+use generator::numbers::number;
+use generator::rows::Node;
+use model::Reason;
 
 // Addresses walked of each list, and those of them that lie outside every root.
 const ADDRESSES: usize = 10;
@@ -17,253 +17,179 @@ pub(crate) const BELOW: i64 = -1;
 
 pub(crate) const ABOVE: i64 = 36028797018963968;
 
-// Bits of the smallest unit.
-const SMALLEST_UNIT: usize = 8;
+// What a buffer holds past what a call writes.
+pub(crate) const UNTOUCHED: i64 = -7;
 
-// Whether a graph is taken.
-fn is_taken(map: &Map, shape: Shape) -> bool {
-    let checked = depth::check_graph(node_rows(map, shape), edge_rows(map, shape));
-    match checked {
-        Checked::Taken => true,
-        Checked::Refused(_) => false,
+// What the calls about one graph are held against: the graph, what is asked of it, what walks by single addresses reach, and the records of that.
+#[derive(Clone, Copy)]
+pub(crate) struct Case<'a> {
+    pub(crate) graph: &'a Graph,
+    pub(crate) asked: Asked,
+    pub(crate) reached: &'a Reached,
+    pub(crate) records: &'a Records,
+}
+
+impl Case<'_> {
+    // The root that walks begin at.
+    pub(crate) fn root(&self) -> Node {
+        self.graph.map.node(self.asked.root)
     }
 }
 
 // One graph's check: every map here is taken.
-pub(crate) fn try_check(map: &Map, shape: Shape, counts: &mut Counts) {
-    tally::count(counts, tally::CHECKS);
-    if is_taken(map, shape) {
-        return;
-    }
-    tally::differs(counts, b": check\n");
+pub(crate) fn try_check(graph: &Graph, counts: &mut Counts) {
+    let tables = &graph.tables;
+    let checked = depth::check_graph(tables.nodes(), tables.edges());
+    counts.count(Counted::Checks);
+    counts.expect(checked.is_ok(), "check");
 }
 
-// Whether `list` gives these records, and leaves the rest of the buffer alone.
-fn list_holds(map: &Map, shape: Shape, asked: Asked, list: &List, count: usize) -> bool {
-    let mut out = [records::UNTOUCHED; records::RECORD_NUMBERS];
-    let nodes = node_rows(map, shape);
-    let edges = edge_rows(map, shape);
-    let root = number(asked.root);
-    let leaf = number(asked.leaf);
-    let kind = asked.kind;
-    let written = bitmapping::list(nodes, edges, root, leaf, kind, &mut out);
-    match written {
-        Written::Count(n) => {
-            if n != count {
-                return false;
-            }
-            same(list, &out)
-        }
-        Written::Refused(_) => false,
-    }
+// Whether a buffer has these numbers in front, and is left alone past them.
+pub(crate) fn has_in_front(out: &[i64], numbers: &[i64]) -> bool {
+    out.starts_with(numbers) && out.iter().skip(numbers.len()).all(|n| *n == UNTOUCHED)
 }
 
-// Whether so many bits, and no more, stand in front of a row of slots.
-fn has_bits(slots: &[i64], n: usize) -> bool {
-    if n > 0 {
-        if at(slots, less(n, 1)) == walks::NO_BIT {
-            return false;
-        }
-    }
-    if n < walks::SLOTS {
-        return at(slots, n) == walks::NO_BIT;
-    }
-    n == walks::SLOTS
+// Whether a call that writes into a buffer gives these rows, so many, and leaves the rest of the buffer alone.
+fn gives<F: FnOnce(&mut [i64]) -> Result<usize, Reason>>(
+    rows: usize,
+    numbers: &[i64],
+    out: &mut [i64],
+    call: F,
+) -> bool
+    requires { F.IsAlwaysCallable call }
+{
+    matches!(call(out), Ok(given) if given == rows) && has_in_front(out, numbers)
 }
 
-// Whether `walk` gives these leaf bits, and leaves the rest of the buffer alone.
-fn walk_holds(map: &Map, shape: Shape, asked: Asked, address: i64, slots: &[i64]) -> bool {
-    let mut out = [walks::NO_BIT; walks::SLOTS];
-    let nodes = node_rows(map, shape);
-    let edges = edge_rows(map, shape);
-    let root = number(asked.root);
-    let leaf = number(asked.leaf);
-    let kind = asked.kind;
-    let written = bitmapping::walk(nodes, edges, root, leaf, address, kind, &mut out);
-    match written {
-        Written::Count(n) => {
-            if !has_bits(slots, n) {
-                return false;
-            }
-            same(slots, &out)
-        }
-        Written::Refused(_) => false,
-    }
-}
-
-// An address below a limit, drawn by the number of a walk.
-fn draw_address(limit: usize, walk: usize) -> usize {
-    let mut seed = walk;
-    draw(&mut seed, limit)
-}
-
-// The k-th address walked: the ends of the root and of the list, what lies past them, and some that are drawn.
-fn address_of(map: &Map, root: usize, found: &Records, count: usize, k: usize, walk: usize) -> i64 {
-    let end = rows::end_bit(map, root);
-    let last = record(found, less(count, 1), records::LAST);
+// The k-th address walked: the ends of the root and of the list, what lies past them, and some that are drawn by the number of the walk.
+fn address_of(case: Case, k: usize, walk: usize) -> i64 {
+    let root = case.root();
+    let end = root.end_bit();
+    let last = case.records.all().last().map_or(0, |record| record.last);
     match k {
-        0 => number(rows::first_bit(map, root)),
-        1 => number(less(end, 1)),
+        0 => number(root.first_bit()),
+        1 => number(end.saturating_sub(1)),
         2 => number(end),
-        3 => number(record(found, 0, records::FIRST)),
+        3 => number(case.records.record(0).first),
         4 => number(last),
-        5 => number(sum(last, 1)),
+        5 => number(last.saturating_add(1)),
         6 => BELOW,
         7 => ABOVE,
-        _ => number(draw_address(end, walk)),
+        _ => number(Draws::new(walk).below(end)),
     }
 }
 
-// Counts a walk by where it begins and how many leaf bits it has.
-fn count_walk(map: &Map, root: usize, address: i64, slots: &[i64], counts: &mut Counts) {
-    tally::count(counts, tally::WALKS);
-    tally::count_if(
-        counts,
-        tally::WALKS_TO_SEVERAL,
-        at(slots, 1) != walks::NO_BIT,
-    );
-    let below = address < number(rows::first_bit(map, root));
-    tally::count_if(counts, tally::WALKS_OUTSIDE, below);
-    let above = address >= number(rows::end_bit(map, root));
-    tally::count_if(counts, tally::WALKS_OUTSIDE, above);
+// One walk from an address: the leaf bits are those of the reached set.
+fn try_walk(case: Case, address: i64, counts: &mut Counts) {
+    let bits = bits_at(case.reached, address);
+    counts.count(Counted::Walks);
+    counts.count_if(Counted::WalksToSeveral, bits.len() > 1);
+    counts.count_if(Counted::WalksOutside, is_outside(case.root(), address));
+    let Asked { root, leaf, kind } = case.asked;
+    let tables = &case.graph.tables;
+    let mut out = [UNTOUCHED; SLOTS];
+    let holds = gives(bits.len(), bits, &mut out, |out| {
+        bitmapping::walk(
+            tables.nodes(),
+            tables.edges(),
+            number(root),
+            number(leaf),
+            address,
+            kind,
+            out,
+        )
+    });
+    counts.expect(holds, "walk");
 }
 
-// One walk.
-fn try_address(
-    map: &Map,
-    shape: Shape,
-    asked: Asked,
-    address: i64,
-    slots: &[i64],
-    counts: &mut Counts,
-) {
-    count_walk(map, asked.root, address, slots, counts);
-    if walk_holds(map, shape, asked, address, slots) {
-        return;
-    }
-    tally::differs(counts, b": walk\n");
+// Whether an address is none of a node's.
+pub(crate) fn is_outside(node: Node, address: i64) -> bool {
+    usize::try_from(address).map_or(true, |address| !node.has(address))
 }
 
-// One walk from an address: the leaf bits are those of the reached set, or none outside of it.
-fn try_walk(
-    map: &Map,
-    shape: Shape,
-    asked: Asked,
-    address: i64,
-    reached: &Reached,
-    counts: &mut Counts,
-) {
-    if address >= 0 {
-        if address < number(walks::ROOT_BITS) {
-            let first = walks::first_slot(size(address));
-            let slots = part(reached, first, sum(first, walks::SLOTS));
-            try_address(map, shape, asked, address, slots, counts);
-            return;
-        }
-    }
-    let none = [walks::NO_BIT; walks::SLOTS];
-    try_address(map, shape, asked, address, &none, counts);
-}
-
-fn try_walks(
-    map: &Map,
-    shape: Shape,
-    asked: Asked,
-    reached: &Reached,
-    found: &Records,
-    count: usize,
-    counts: &mut Counts,
-) {
+// Walks from some of the addresses of a list.
+fn try_walks(case: Case, counts: &mut Counts) {
     for k in 0..ADDRESSES {
-        let walk = tally::count_of(counts, tally::WALKS);
-        let address = address_of(map, asked.root, found, count, k, walk);
-        try_walk(map, shape, asked, address, reached, counts);
+        let address = address_of(case, k, counts.of(Counted::Walks));
+        try_walk(case, address, counts);
     }
 }
 
 // Counts two records that follow one another in a list by how they lie.
-fn count_neighbours(found: &Records, r: usize, counts: &mut Counts) {
-    let next = sum(r, 1);
-    let last = record(found, r, records::LAST);
-    let first = record(found, next, records::FIRST);
-    let here = sum(
-        record(found, r, records::FIRST),
-        record(found, next, records::LEAF_FIRST),
-    );
-    let there = sum(first, record(found, r, records::LEAF_FIRST));
+fn count_neighbours(record: Record, next: Record, counts: &mut Counts) {
+    let here = record.first.saturating_add(next.leaf_first);
+    let there = next.first.saturating_add(record.leaf_first);
+    let behind = record.last.saturating_add(1);
     if here == there {
-        tally::count_if(
-            counts,
-            tally::LIKE_UNIT_OPEN,
-            first == sum(last, sum(SMALLEST_UNIT, 1)),
-        );
-        return;
-    }
-    tally::count_if(counts, tally::UNLIKE_TOUCHING, first == sum(last, 1));
-    tally::count_if(counts, tally::UNLIKE_OVERLAPPING, first <= last);
-}
-
-// Counts a record that lacks bits of the leaf at its low or at its high end.
-fn count_clips(found: &Records, r: usize, leaf_bits: usize, counts: &mut Counts) {
-    let low = record(found, r, records::LEAF_FIRST) > 0;
-    tally::count_if(counts, tally::CLIPPED_LOW, low);
-    let high = sum(records::leaf_last(found, r), 1) < leaf_bits;
-    tally::count_if(counts, tally::CLIPPED_HIGH, high);
-    if low {
-        tally::count_if(counts, tally::CLIPPED_BOTH, high);
+        let open = behind.saturating_add(SMALLEST_UNIT);
+        counts.count_if(Counted::LikeUnitOpen, next.first == open);
+    } else {
+        counts.count_if(Counted::UnlikeTouching, next.first == behind);
+        counts.count_if(Counted::UnlikeOverlapping, next.first < behind);
     }
 }
 
-fn count_record(found: &Records, r: usize, count: usize, leaf_bits: usize, counts: &mut Counts) {
-    let below = record(found, r, records::FIRST) < record(found, r, records::LEAF_FIRST);
-    tally::count(counts, tally::RECORDS);
-    tally::count_if(counts, tally::NEGATIVE_DISPLACEMENTS, below);
-    count_clips(found, r, leaf_bits, counts);
-    if sum(r, 1) < count {
-        count_neighbours(found, r, counts);
-    }
+// Counts a record by its displacement, and by the bits of the leaf that it lacks at its low or at its high end.
+fn count_record(record: Record, leaf_bits: usize, counts: &mut Counts) {
+    counts.count(Counted::Records);
+    counts.count_if(
+        Counted::NegativeDisplacements,
+        record.first < record.leaf_first,
+    );
+    let low = record.leaf_first > 0;
+    let high = record.leaf_last().saturating_add(1) < leaf_bits;
+    counts.count_if(Counted::ClippedLow, low);
+    counts.count_if(Counted::ClippedHigh, high);
+    counts.count_if(Counted::ClippedBoth, low && high);
 }
 
-fn count_records(found: &Records, count: usize, leaf_bits: usize, counts: &mut Counts) {
-    for r in 0..records::MAX_RECORDS {
-        if r >= count {
-            return;
-        }
-        count_record(found, r, count, leaf_bits, counts);
+// Counts every record of a list.
+fn count_records(case: Case, counts: &mut Counts) {
+    let leaf_bits = case.graph.map.node(case.asked.leaf).bit_count();
+    let records = case.records.all();
+    for record in records {
+        count_record(*record, leaf_bits, counts);
+    }
+    for (record, next) in records.iter().zip(records.iter().skip(1)) {
+        count_neighbours(*record, *next, counts);
     }
 }
 
 // One list.
-fn try_list(
-    map: &Map,
-    shape: Shape,
-    asked: Asked,
-    found: &Records,
-    count: usize,
-    counts: &mut Counts,
-) {
-    tally::count(counts, tally::LISTS);
-    let mut list = [records::UNTOUCHED; records::RECORD_NUMBERS];
-    records::write_list(found, count, &mut list);
-    if list_holds(map, shape, asked, &list, count) {
-        return;
-    }
-    tally::differs(counts, b": list\n");
+fn try_list(case: Case, counts: &mut Counts) {
+    let Asked { root, leaf, kind } = case.asked;
+    let tables = &case.graph.tables;
+    let records = case.records.all();
+    let mut list = [[UNTOUCHED; RECORD_WIDTH]; MAX_RECORDS];
+    write(records, &mut list);
+    let numbers = list[..records.len()].as_flattened();
+    let mut out = [UNTOUCHED; RECORD_WIDTH * MAX_RECORDS];
+    let holds = gives(records.len(), numbers, &mut out, |out| {
+        bitmapping::list(
+            tables.nodes(),
+            tables.edges(),
+            number(root),
+            number(leaf),
+            kind,
+            out,
+        )
+    });
+    counts.count(Counted::Lists);
+    counts.expect(holds, "list");
 }
 
 // The list that is asked for, and walks and batches from some of its addresses. The reached set is left behind.
-pub(crate) fn try_leaf(
-    map: &Map,
-    shape: Shape,
-    asked: Asked,
-    reached: &mut Reached,
-    counts: &mut Counts,
-) {
-    walks::reach(map, shape, asked, reached);
-    let mut found = [0usize; records::RECORD_NUMBERS];
-    let count = records::collect(reached, &mut found);
-    count_records(&found, count, rows::bit_count(map, asked.leaf), counts);
-    try_list(map, shape, asked, &found, count, counts);
-    try_walks(map, shape, asked, reached, &found, count, counts);
-    batched::try_batches(map, shape, asked, reached, &found, count, counts);
+pub(crate) fn try_leaf(graph: &Graph, asked: Asked, reached: &mut Reached, counts: &mut Counts) {
+    reach(&graph.map, asked, reached);
+    let records = Records::of(reached);
+    let case = Case {
+        graph,
+        asked,
+        reached,
+        records: &records,
+    };
+    count_records(case, counts);
+    try_list(case, counts);
+    try_walks(case, counts);
+    batched::try_batches(case, counts);
 }

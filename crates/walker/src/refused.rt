@@ -1,114 +1,66 @@
 // Faults in the node tables and in a pairing: the refusals that `compare` and the check of one graph give are held against the first condition that
 // holds, looked for row by row.
-use crate::tally::Counts;
-use crate::{comparisons, tally};
-use generator::faults;
-use generator::faults::{BAD_AT, BAD_NODE, NO_FAULT, NOT_ROOT_OR_LEAF, PAIRED_BEFORE, Refusal};
-use generator::maps::Shape;
-use generator::orders::{edge_rows, node_rows};
+use crate::comparisons::compare_maps;
+use crate::tally::{Counted, Counts};
+use generator::draws::Draws;
+use generator::faults::{Cause, Refusal, SPEC_NODES};
+use generator::graphs::Graph;
 use generator::rows::Map;
-use model::{Checked, Compared, Reason};
+use model::Reason;
 
-// The refusal of a reason, as far as it is one that is tried here.
-fn refusal_of(reason: Reason) -> Refusal {
-    match reason {
-        Reason::Node { table, row } => Refusal {
-            number: BAD_NODE,
-            table: table,
-            row: row,
-        },
-        Reason::NotRootOrLeaf { table, row } => Refusal {
-            number: NOT_ROOT_OR_LEAF,
-            table: table,
-            row: row,
-        },
-        Reason::PairedBefore { table, row } => Refusal {
-            number: PAIRED_BEFORE,
-            table: table,
-            row: row,
-        },
-        Reason::At { table, row } => Refusal {
-            number: BAD_AT,
-            table: table,
-            row: row,
-        },
-        _ => Refusal {
-            number: NO_FAULT,
-            table: 0,
-            row: 0,
-        },
-    }
+// The refusal of a reason, if it is one that is tried here.
+fn refusal_of(reason: Reason) -> Option<Refusal> {
+    let (cause, table, row) = match reason {
+        Reason::Node { table, row } => (Cause::Node, table, row),
+        Reason::NotRootOrLeaf { table, row } => (Cause::NotRootOrLeaf, table, row),
+        Reason::PairedBefore { table, row } => (Cause::PairedBefore, table, row),
+        Reason::At { table, row } => (Cause::At, table, row),
+        _ => return None,
+    };
+    Some(Refusal { cause, table, row })
 }
 
-// Whether the check of one graph refuses it so.
-fn graph_refused_so(map: &Map, shape: Shape, refusal: Refusal) -> bool {
-    let checked = depth::check_graph(node_rows(map, shape), edge_rows(map, shape));
-    match checked {
-        Checked::Taken => refusal.number == NO_FAULT,
-        Checked::Refused(reason) => is_same(refusal_of(reason), refusal),
+// Whether a call gives this refusal, or is answered where there is none.
+fn is_refused_so<T: Drop>(answer: Result<T, Reason>, refusal: Option<Refusal>) -> bool {
+    match answer {
+        Ok(_) => refusal.is_none(),
+        Err(reason) => refusal.is_some() && refusal_of(reason) == refusal,
     }
-}
-
-// Whether `compare` refuses two maps so.
-fn refused_so(spec: &Map, spec_shape: Shape, other: &Map, shape: Shape, refusal: Refusal) -> bool {
-    let compared = comparisons::compare_maps(spec, spec_shape, other, shape);
-    match compared {
-        Compared::Result(_) => refusal.number == NO_FAULT,
-        Compared::Refused(reason) => is_same(refusal_of(reason), refusal),
-    }
-}
-
-fn is_same(one: Refusal, other: Refusal) -> bool {
-    if one.number != other.number {
-        return false;
-    }
-    if one.table != other.table {
-        return false;
-    }
-    one.row == other.row
-}
-
-// Counts a refusal by its number.
-fn count_refusal(number: usize, counts: &mut Counts) {
-    tally::count_if(counts, tally::REFUSED_ACCESS, number == BAD_NODE);
-    tally::count_if(counts, tally::REFUSED_NODES, number == NOT_ROOT_OR_LEAF);
-    tally::count_if(counts, tally::REFUSED_AT, number == BAD_AT);
-    tally::count_if(counts, tally::REFUSED_TWICE, number == PAIRED_BEFORE);
 }
 
 // Tries the refusal of one graph, whose node table may have a fault.
-fn try_graph(map: &Map, shape: Shape, counts: &mut Counts) {
-    let refusal = faults::node_refusal(map, shape, faults::SPEC_NODES);
-    tally::count_if(counts, tally::REFUSED_GRAPHS, refusal.number == BAD_NODE);
-    if graph_refused_so(map, shape, refusal) {
-        return;
-    }
-    tally::differs(counts, b": refusal\n");
+fn try_graph(graph: &Graph, counts: &mut Counts) {
+    let refusal = graph.map.node_refusal(SPEC_NODES);
+    let checked = depth::check_graph(graph.tables.nodes(), graph.tables.edges());
+    counts.count_if(Counted::RefusedGraphs, refusal.is_some());
+    counts.expect(is_refused_so(checked, refusal), "refusal");
 }
 
 // Tries the refusal of two maps with faults.
-fn try_refusal(spec: &Map, spec_shape: Shape, other: &Map, shape: Shape, counts: &mut Counts) {
-    let refusal = faults::first_refusal(spec, spec_shape, other, shape);
-    count_refusal(refusal.number, counts);
-    if refused_so(spec, spec_shape, other, shape, refusal) {
-        return;
+fn try_refusal(spec: &Graph, other: &Graph, counts: &mut Counts) {
+    let refusal = other.map.first_refusal(&spec.map);
+    if let Some(Refusal { cause, .. }) = refusal {
+        counts.count(match cause {
+            Cause::Node => Counted::RefusedAccess,
+            Cause::NotRootOrLeaf => Counted::RefusedNodes,
+            Cause::At => Counted::RefusedAt,
+            Cause::PairedBefore => Counted::RefusedTwice,
+        });
     }
-    tally::differs(counts, b": refusal\n");
+    let compared = compare_maps(spec, other);
+    counts.expect(is_refused_so(compared, refusal), "refusal");
 }
 
 // Puts faults into the node tables and the pairing of two maps, and tries the refusals.
-pub(crate) fn try_faults(
-    spec: &mut Map,
-    spec_shape: Shape,
-    other: &mut Map,
-    shape: Shape,
-    counts: &mut Counts,
-    seed: &mut usize,
-) {
-    faults::put_faults(other, shape, seed);
-    faults::put_unknown(spec, spec_shape, seed);
-    faults::put_unknown(other, shape, seed);
-    try_graph(spec, spec_shape, counts);
-    try_graph(other, shape, counts);
-    try_refusal(spec, spec_shape, other, shape, counts);
+pub(crate) fn try_faults(spec: Map, other: Map, counts: &mut Counts, draws: &mut Draws) {
+    let mut spec = spec;
+    let mut other = other;
+    other.put_faults(draws);
+    spec.put_unknown(draws);
+    other.put_unknown(draws);
+    let spec = Graph::of(spec);
+    let other = Graph::of(other);
+    try_graph(&spec, counts);
+    try_graph(&other, counts);
+    try_refusal(&spec, &other, counts);
 }

@@ -1,3 +1,4 @@
+use Rattle.std.specs.Prelude.{Some}
 use mathlib.Core.Path.{◌≡◌, refl, sym, ap, ◌∙◌, subst}
 use mathlib.Core.Bool.{true, false, not}
 use mathlib.Core.Logic.{◌≢◌, inl, inr}
@@ -15,12 +16,11 @@ use Rattle.tables.specs.Tables.{edge_at}
 use Rattle.extents.proofs.Rows.{node-good}
 use Rattle.references.specs.References.{Reference, reference_of, brought_of, through, is_none}
 use Rattle.references.specs.declared.Reference.{Reference as Held}
-use Rattle.references.specs.declared.Brought.TheVariants.{Left}
 use Rattle.references.proofs.Bringing.{none_brings}
 use Rattle.arrivals.specs.State.{is_met, reference_at, is_listed, list_row, count_of, root_in, kind_in}
 use Rattle.arrivals.specs.Sweep.{Gatherable}
 use Rattle.arrivals.proofs.Gathering.{Through, owner-few, list_readable, list_cuttable, list_gathered, none_left, owner-other, head_is, through-start, through_end, through-agrees, next-is, next_onward, turn_crossable, turn_nothing, turn_part, part_gatherable, crossing_part, crossing_nothing}
-use Rattle.arrivals.proofs.+gather.Goals.{After-brought_over-brought, After-stored_at-list, After-whole-bits, At-loop-e, Else-is_listed, In-loop-e, Then-is_listed}
+use Rattle.arrivals.proofs.+gather.Goals.{After-brought_over, After-stored_at-list, After-whole-bits, At-loop-e, Else-is_listed, In-loop-e, Then-is_listed}
 use Rattle.arrivals.proofs.+gather.Goals as goal
 
 -- a list of the owner is stored
@@ -94,12 +94,12 @@ loop-e-init t c =
     subst (λ (e : ℕ). Through c.args.nodes.now c.args.edges.now (reference_of c.args.f) c.args.state.now c.args.n c.args.state.now c.args.n e)
     (sym (c.first_entering-e.ensures ∙ head_is c.requires c.args.f.owner refl)) (through-start c.args.state.now c.args.n)
 
-pub brought_over-brought-requires : goal.brought_over-brought-requires
-brought_over-brought-requires t c =
-    turn_crossable c.requires (other t (goal.at.brought_over-brought-requires t c).At-loop-e) c.loop-e.invariant (within t c)
+pub brought_over-requires : goal.brought_over-requires
+brought_over-requires t c =
+    turn_crossable c.requires (other t (goal.at.brought_over-requires t c).At-loop-e) c.loop-e.invariant (within t c)
 
 -- what the code says that the edge brings
-brought : (t : ℕ) → (x : After-brought_over-brought t) {h : Held} → x.brought_over-brought.result ≡ Left h
+brought : (t : ℕ) → (x : After-brought_over t) {h : Held} → x.brought_over.result ≡ Some h
     → let g = graph_of x.args.nodes.now x.args.edges.now in
     let e = edge_at x.args.edges.now x.loop-e.e in
     let part = through (bit_offset g e) (reference_of x.args.f) (reference_at x.loop-e.state (nat_abs e.from)) in
@@ -107,14 +107,14 @@ brought : (t : ℕ) → (x : After-brought_over-brought t) {h : Held} → x.brou
 brought t x {h} q =
     let g = graph_of x.args.nodes.now x.args.edges.now in
     let e = edge_at x.args.edges.now x.loop-e.e in
-    crossing_part g e (reference_of x.args.f) (reference_of h) x.loop-e.state (sym (ap brought_of q) ∙ x.brought_over-brought.ensures)
+    crossing_part g e (reference_of x.args.f) (reference_of h) x.loop-e.state (sym (ap brought_of q) ∙ x.brought_over.ensures)
 
 pub overflow_sub-left : goal.overflow_sub-left
 overflow_sub-left t c = omega arith
 
 pub gather-m-requires : goal.gather-m-requires
 gather-m-requires t c =
-    let p = brought t (goal.at.gather-m-requires t c).After-brought_over-brought c.in-Left.is in (
+    let p = brought t (goal.at.gather-m-requires t c).After-brought_over c.in-Some.is in (
       omega (arith, c.if-left-eq0.false),
       subst (λ (f : Reference). Gatherable c.args.nodes.now c.args.edges.now c.args.plan.now f (c.args.left - 1) c.loop-e.state c.loop-e.m) (sym p.2)
           (part_gatherable c.requires (other t (goal.at.gather-m-requires t c).At-loop-e) c.loop-e.invariant (within t (goal.at.gather-m-requires t c).In-loop-e) p.0 p.1 (omega (arith, c.if-left-eq0.false))),
@@ -134,14 +134,14 @@ loop-e-preserved t c =
     let e = edge_at c.args.edges.now c.loop-e.e in
     let f = reference_of c.args.f in
     let k = c.requires in
-    rw (c.next_entering-e.ensures, next-is k (other t (goal.at.loop-e-preserved t c).At-loop-e) c.loop-e.invariant (within t (goal.at.loop-e-preserved t c).In-loop-e)) (elim c.match-brought.branch-raw [
+    rw (c.next_entering-e.ensures, next-is k (other t (goal.at.loop-e-preserved t c).At-loop-e) c.loop-e.invariant (within t (goal.at.loop-e-preserved t c).In-loop-e)) (elim c.match-brought_over.branch-raw [
       | inl w ↦
-          let p = brought t (goal.at.loop-e-preserved t c).After-brought_over-brought w.in-Left.is in
+          let p = brought t (goal.at.loop-e-preserved t c).After-brought_over w.in-Some.is in
           rw (w.state-is, w.m-is) (turn_part k (other t (goal.at.loop-e-preserved t c).At-loop-e) c.loop-e.invariant (within t (goal.at.loop-e-preserved t c).In-loop-e) p.0 p.1 (rw (← p.2) w.gather-m.ensures))
       | inr w ↦
           rw (w.state-is, w.m-is) (turn_nothing k (other t (goal.at.loop-e-preserved t c).At-loop-e) c.loop-e.invariant (within t (goal.at.loop-e-preserved t c).In-loop-e)
           (λ y b m z. none_brings (kind_in c.args.state.now) g (root_in c.args.state.now) (through (bit_offset g e) f (reference_at c.loop-e.state (nat_abs e.from))) y b
-          (crossing_nothing g e f c.loop-e.state (sym (ap brought_of w.in_default.is) ∙ c.brought_over-brought.ensures) m) z))
+          (crossing_nothing g e f c.loop-e.state (sym (ap brought_of w.in_default.is) ∙ c.brought_over.ensures) m) z))
     ])
 
 pub shape_of-state : goal.shape_of-state

@@ -15,9 +15,9 @@ use Rattle.arrivals.proofs.mark_root.Goals as goal
 abbrev all : Start → List ℤ → Reference
 all s es = own (graph_of s.args.nodes.now es) (pos s.args.root)
 
-pub returns-then-not-may_start : goal.returns-then-not-may_start
-returns-then-not-may_start c es =
-    root-closed (all (goal.at.returns-then-not-may_start c).Start es) c.args.root c.args.state.now (sym (c.is_open-may_start.ensures es) ∙ c.if-not-may_start.true)
+pub returns-then-not-is_open : goal.returns-then-not-is_open
+returns-then-not-is_open c es =
+    root-closed (all (goal.at.returns-then-not-is_open c).Start es) c.args.root c.args.state.now (sym (c.is_open.ensures es) ∙ c.if-not-is_open.true)
 
 pub put_mark-requires : goal.put_mark-requires
 put_mark-requires c =
@@ -25,5 +25,5 @@ put_mark-requires c =
 
 pub returns : goal.returns
 returns c es =
-    root_open (all (goal.at.returns c).Start es) c.args.root c.args.state.now (sym (c.is_open-may_start.ensures es) ∙ c.if-not-may_start.false) c.put_mark.ensures
+    root_open (all (goal.at.returns c).Start es) c.args.root c.args.state.now (sym (c.is_open.ensures es) ∙ c.if-not-is_open.false) c.put_mark.ensures
     (c.own_reference.ensures es) (to_z_pos w64 (omega arith))

@@ -10,9 +10,10 @@ use mir.Syntax.{w64}
 use mir.Val.{to_z, of_z}
 use Rattle.model.specs.Graph.{graph_of}
 use Rattle.references.specs.References.{Reference, reference_of, own, same_reference}
+use Rattle.references.proofs.Bringing.{same_reference-derived}
 use Rattle.arrivals.specs.State.{mark_width, set_mark, marked, is_met, reference_at, not_listed}
 use Rattle.arrivals.proofs.Moves.{own-owner, meeting-first, meeting-same, meeting-other}
-use Rattle.arrivals.proofs.meet.Goals.{After-rows_met-rows, After-same_reference, Else-not-is_met, Start}
+use Rattle.arrivals.proofs.meet.Goals.{After-rows_met-rows, After-eq, Else-not-is_met, Start}
 use Rattle.arrivals.proofs.meet.Goals as goal
 
 -- the rows that were counted, as the code holds them
@@ -53,18 +54,19 @@ pub reference_at-requires : goal.reference_at-requires
 reference_at-requires c = (mark-there (goal.at.reference_at-requires c).Start, met c)
 
 -- the test compares the reference of v with the one that has come
-compared : (c : After-same_reference) → c.same_reference.result ≡ same_reference (reference_at c.args.state.now c.args.v) (reference_of c.args.f)
+compared : (c : After-eq) → c.eq.result ≡ same_reference (reference_at c.args.state.now c.args.v) (reference_of c.args.f)
 compared c =
-    c.same_reference.ensures
+    c.eq.ensures
+    ∙ same_reference-derived c.reference_at.result c.args.f
     ∙ ap (λ (x : Reference). same_reference x (reference_of c.args.f)) c.reference_at.ensures
 
-pub returns-then-same_reference : goal.returns-then-same_reference
-returns-then-same_reference c = (
+pub returns-then-eq : goal.returns-then-eq
+returns-then-eq c = (
   pos 0,
   λ es.
       sym
-      (meeting-same c.args.state.now c.args.v (all (goal.at.returns-then-same_reference c).Start es) (reference_of c.args.f) (pos 0) (met (goal.at.returns-then-same_reference c).Else-not-is_met)
-      (sym (compared (goal.at.returns-then-same_reference c).After-same_reference) ∙ c.if-same_reference.true)),
+      (meeting-same c.args.state.now c.args.v (all (goal.at.returns-then-eq c).Start es) (reference_of c.args.f) (pos 0) (met (goal.at.returns-then-eq c).Else-not-is_met)
+      (sym (compared (goal.at.returns-then-eq c).After-eq) ∙ c.if-eq.true)),
 )
 
 pub put_mark-requires-2 : goal.put_mark-requires-2
@@ -79,5 +81,5 @@ returns c = (
       ∙ ap (λ (x : Reference). set_mark c.args.state.now c.args.v (marked x not_listed (rows (goal.at.returns c).After-rows_met-rows))) (c.own_reference.ensures es)
       ∙ sym
       (meeting-other c.args.state.now c.args.v (all (goal.at.returns c).Start es) (reference_of c.args.f) (rows (goal.at.returns c).After-rows_met-rows) (met (goal.at.returns c).Else-not-is_met)
-      (sym (compared (goal.at.returns c).After-same_reference) ∙ c.if-same_reference.false)),
+      (sym (compared (goal.at.returns c).After-eq) ∙ c.if-eq.false)),
 )

@@ -1,11 +1,18 @@
 -- The number is not negative, so that the cast keeps it.
-use borrow.Author.Rules.{sfits_of}
+use borrow.Author.Rules.{rules}
+use lib.IntN.{pos}
+use lib.ListN.{get_or}
 use mir.Syntax.{w64}
+use mir.Val.{SFits}
 use Rattle.tables.proofs.Cells.{index_fits, index_same}
 use Rattle.arrivals.proofs.number_at.Goals as goal
 
 pub overflow_cast-result : goal.overflow_cast-result
-overflow_cast-result c = index_fits (sfits_of {w = w64} c.number-1.given) c.requires.1
+overflow_cast-result c =
+    let fits : SFits w64 (get_or c.args.state.now c.args.at (pos 0)) = search rules in
+    index_fits fits c.requires.1
 
 pub returns : goal.returns
-returns c = index_same (sfits_of {w = w64} c.number-1.given) c.requires.1
+returns c =
+    let fits : SFits w64 (get_or c.args.state.now c.args.at (pos 0)) = search rules in
+    index_same fits c.requires.1

@@ -27,14 +27,8 @@ mark-there s = omega (arith, s.requires.sweeping.room, rows_few s.requires.sweep
 pub reference_at-reference-requires : goal.reference_at-reference-requires
 reference_at-reference-requires c = (mark-there (goal.at.reference_at-reference-requires c).Start, c.requires.met)
 
-pub returns-then-reference-v : goal.returns-then-reference-v
-returns-then-reference-v c = unstored_same c.requires
-
 pub list_row-requires : goal.list_row-requires
 list_row-requires c = mark-there (goal.at.list_row-requires c).Start
-
-pub returns-then-list_row : goal.returns-then-list_row
-returns-then-list_row c = unstored_same c.requires
 
 -- the node has no list yet
 unlisted : (c : Else-list_row) → is_listed c.args.state.now c.args.v ≡ false
@@ -48,8 +42,8 @@ crowded-requires c =
     let w = c.requires.sweeping in
     (w.room, rows_few w.tables c.requires.row, omega (arith, ints, w.free_number), w.free_high)
 
-pub returns-then-crowded : goal.returns-then-crowded
-returns-then-crowded c = unstored_same c.requires
+pub returns-then-reference-v : goal.returns-then-reference-v
+returns-then-reference-v c = unstored_same c.requires
 
 pub make_list-list-requires : goal.make_list-list-requires
 make_list-list-requires c =

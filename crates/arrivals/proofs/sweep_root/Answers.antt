@@ -1,7 +1,7 @@
 use mathlib.Core.Path.{◌≡◌, refl, sym, ap, subst, ◌∙◌}
 use mathlib.Core.Bool.{Bool}
 use mathlib.Core.List.{List}
-use Prim.Native.Nat.{ℕ, ◌-◌}
+use Prim.Native.Nat.{ℕ}
 use native.Mathlib.Omega.{arith}
 use lib.IntN.{ℤ, pos}
 use lib.ListN.{length}
@@ -27,8 +27,8 @@ start_root-requires c =
     let row = c.requires.start.row in
     (node-good c.requires.tables row, row-few c.requires.tables row, c.clear_marks.auto.state ∙ c.requires.room)
 
-pub planned_count-count-requires : goal.planned_count-count-requires
-planned_count-count-requires c = c.requires.planned.room
+pub planned_count-i-end-requires : goal.planned_count-i-end-requires
+planned_count-i-end-requires c = c.requires.planned.room
 
 -- the state without a mark
 abbrev cleared : After-clear_marks → List ℤ
@@ -50,42 +50,26 @@ loop-i-init c =
       sweeping-start c.requires c.args.kind (cleared (goal.at.loop-i-init c).After-clear_marks) (cleared-room (goal.at.loop-i-init c).After-clear_marks) (cleared-blank (goal.at.loop-i-init c).After-clear_marks),
       start-root c.requires c.args.kind (cleared (goal.at.loop-i-init c).After-clear_marks) (cleared-room (goal.at.loop-i-init c).After-clear_marks) (cleared-blank (goal.at.loop-i-init c).After-clear_marks) (met (goal.at.loop-i-init c).Start),
       refl,
-      omega arith,
-      refl,
     )
 
 pub pass_edge-requires : goal.pass_edge-requires
 pass_edge-requires c =
     record {
       sweeping = c.loop-i.invariant.0;
-      there = omega (arith, c.loop-i-test.true, c.planned_count-count.ensures);
-      spare_room = omega (arith, c.loop-i.invariant.4, c.requires.spare_room);
+      there = omega (arith, c.planned_count-i-end.ensures);
+      spare_room = omega (arith, c.requires.spare_room);
     }
-
-pub overflow_add-i : goal.overflow_add-i
-overflow_add-i c = omega arith
-
-pub loop-i-smaller : goal.loop-i-smaller
-loop-i-smaller c = omega arith
 
 pub loop-i-preserved : goal.loop-i-preserved
 loop-i-preserved c = (
   c.pass_edge.ensures.0,
   c.pass_edge.ensures.1 ∙ c.loop-i.invariant.1,
   c.pass_edge.ensures.2 ∙ c.loop-i.invariant.2,
-  omega (arith, c.loop-i-test.true),
-  c.pass_edge.auto.spare ∙ c.loop-i.invariant.4,
 )
-
-pub shape_of-state : goal.shape_of-state
-shape_of-state c = c.loop-i.invariant.0.room ∙ sym c.requires.room
-
-pub shape_of-spare : goal.shape_of-spare
-shape_of-spare c = c.loop-i.invariant.4
 
 pub returns : goal.returns
 returns c =
-    let all : c.loop-i.i ≡ planned_count c.args.plan.now = omega (arith, c.loop-i-test.false, c.loop-i.invariant.3, c.planned_count-count.ensures) in
+    let all : c.loop-i.i ≡ planned_count c.args.plan.now = omega (arith, c.planned_count-i-end.ensures) in
     record {
       from = c.loop-i.invariant.1;
       by = c.loop-i.invariant.2 ∙ ap kind_in (c.start_root.ensures c.args.edges.now) ∙ start-kind c.requires c.args.kind (cleared (goal.at.returns c).After-clear_marks) (cleared-room (goal.at.returns c).After-clear_marks) (cleared-blank (goal.at.returns c).After-clear_marks) (met (goal.at.returns c).Start);

@@ -27,7 +27,7 @@ returns-then-fit c =
     let fits = leb-true (batch_width * c.pass_from-counts.result.rows) _ (sym c.fit.ensures ∙ c.if-fit.true) in
     passed-counts (passed (goal.at.returns-then-fit c).After-pass_from-counts) (omega (arith, fits, passed_length (passed (goal.at.returns-then-fit c).After-pass_from-counts)))
 
-pub returns : goal.returns
-returns c =
+pub returns-else-fit : goal.returns-else-fit
+returns-else-fit c =
     let short = leb-false (batch_width * c.pass_from-counts.result.rows) _ (sym c.fit.ensures ∙ c.if-fit.false) in
-    passed-refused (passed (goal.at.returns c).After-pass_from-counts) (omega (arith, short, passed_length (passed (goal.at.returns c).After-pass_from-counts)))
+    passed-refused (passed (goal.at.returns-else-fit c).After-pass_from-counts) (omega (arith, short, passed_length (passed (goal.at.returns-else-fit c).After-pass_from-counts)))

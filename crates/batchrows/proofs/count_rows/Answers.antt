@@ -1,56 +1,26 @@
-use mathlib.Core.Path.{◌≡◌, sym, ap, ◌∙◌}
-use mathlib.Core.List.{[], ◌∷◌}
-use native.Mathlib.Omega.{arith}
-use borrow.Author.Rules.{sfits_of}
-use lib.IntN.{pos}
-use lib.ListN.{length, get_or, length-append}
-use mir.Syntax.{w64}
-use mir.Facts.{to_z-of_z}
+-- There is a row for each address that the record has.
+use Rattle.std.proofs.Common.{◌≡◌, ◌∙◌, ap, refl, sym, ℕ, suc, List, [], ◌∷◌, length, Bool, true, false, cond, rules}
+use Rattle.std.specs.List.{count_by, filter}
+use Rattle.std.proofs.lemmas.List.Sums.{length-filter}
+use lib.IntN.{ℤ, ◌-ℤ◌}
+use Rattle.model.specs.Bitmapping.{Record}
 use Rattle.model.specs.Verdicts.{has_bit}
+use Rattle.batches.specs.Batch.{rows_in}
 use Rattle.verdicts.specs.Records.{as_record}
-use Rattle.batches.proofs.Rows.{row_of}
-use Rattle.batches.proofs.Turns.{rows_to, rows_none, rows_all, rows-to-few, rows_hit, rows_miss}
-use Rattle.batchrows.proofs.count_rows.Goals.{After-has_bit, then-has_bit, else-has_bit}
 use Rattle.batchrows.proofs.count_rows.Goals as goal
 
-pub loop-place-init : goal.loop-place-init
-loop-place-init c = (omega arith, sym (ap length (rows_none (as_record c.args.s) c.args.addresses.now)))
-
-pub overflow_add-rows : goal.overflow_add-rows
-overflow_add-rows c =
-    omega (arith, rows-to-few (as_record c.args.s) c.args.addresses.now c.loop-place.invariant.0, c.loop-place.invariant.1)
-
--- the test says whether the record has the address at this place
-test : (c : After-has_bit) → c.has_bit.result ≡ has_bit (get_or c.args.addresses.now c.loop-place.place (pos 0)) (as_record c.args.s)
-test c = rw (to_z-of_z (sfits_of {w = w64} c.has_bit-arg-1.given)) at c.has_bit.ensures
-
-pub loop-place-preserved : goal.loop-place-preserved
-loop-place-preserved c =
-    let s = as_record c.args.s in
-    let xs = c.args.addresses.now in
-    let here = c.loop-place-test.true in
-    let row = row_of s c.loop-place.place (get_or xs c.loop-place.place (pos 0)) in
-    elim c.if-has_bit.branch [
-      | then-has_bit w ↦
-          let one = rows_hit s xs here (sym (test (goal.at.loop-place-preserved c).After-has_bit) ∙ w.if-has_bit.true) in
-          (omega arith, w.rows-is ∙ omega (arith, c.loop-place.invariant.1, ap length one, length-append (rows_to s xs c.loop-place.place) (row ∷ [])))
-      | else-has_bit w ↦ (omega arith, w.rows-is ∙ c.loop-place.invariant.1 ∙ sym (ap length (rows_miss s xs here (sym (test (goal.at.loop-place-preserved c).After-has_bit) ∙ w.if-has_bit.false))))
-    ]
+rows-counted : (s : Record) (i : ℕ) (xs : List ℤ) → length (filter (λ x. has_bit x s) xs) ≡ length (rows_in s i xs)
+unfolding rows_in
+rows-counted s i [] = refl
+rows-counted s i (x ∷ xs) = go (has_bit x s) (rows-counted s (suc i) xs)
+  where
+    go : (b : Bool) → length (filter (λ y. has_bit y s) xs) ≡ length (rows_in s (suc i) xs)
+        → length (cond b (x ∷ filter (λ y. has_bit y s) xs) (filter (λ y. has_bit y s) xs)) ≡ length (cond b (record { place = i; bit = x -ℤ s.displacement } ∷ rows_in s (suc i) xs) (rows_in s (suc i) xs))
+    go true e = ap suc e
+    go false e = e
 
 pub returns : goal.returns
 returns c =
-    let s = as_record c.args.s in
-    let xs = c.args.addresses.now in
-    c.loop-place.invariant.1 ∙ ap length (rows_all s xs c.loop-place-test.false)
-
-pub offset_bounds-addresses-place : goal.offset_bounds-addresses-place
-offset_bounds-addresses-place c = omega arith
-
-pub bounds-addresses-place : goal.bounds-addresses-place
-bounds-addresses-place c = omega arith
-
-pub overflow_add-place : goal.overflow_add-place
-overflow_add-place c = omega arith
-
-pub loop-place-smaller : goal.loop-place-smaller
-loop-place-smaller c = omega arith
+    let has : ℤ → Bool = λ x. has_bit x (as_record c.args.s) in
+    let counted : c.count.result ≡ count_by has c.args.addresses.now = search rules in
+    counted ∙ sym (length-filter has c.args.addresses.now) ∙ rows-counted (as_record c.args.s) 0 c.args.addresses.now

@@ -1,23 +1,23 @@
--- The first test decides, or leaves it to the second.
-use mathlib.Core.Path.{refl}
+-- The range that is asked is that of the root bits.
+use Rattle.std.proofs.Common.{◌≡◌, arith, rules}
+use Rattle.std.proofs.lemmas.Grind.{common_steps}
+use Rattle.std.specs.Ordering.{partial_le}
+use Rattle.std.specs.contracts.prelude.I64PartialOrd.TheImpl.{partial_cmp-value}
+use lib.IntN.{ℤ}
+use lib.Signed.{le_z}
 use mir.Syntax.{w64}
 use mir.Val.{SFits}
 use mir.Facts.{to_z-of_z}
-use borrow.Author.Rules.{rules}
 use Rattle.model.specs.Verdicts.{has_bit}
 use Rattle.batchrows.proofs.has_bit.Goals as goal
 
-pub returns-then-s-address : goal.returns-then-s-address
-unfolding has_bit
-returns-then-s-address c =
-    let f : SFits w64 c.args.s.first = search rules in
-    let l : SFits w64 c.args.s.last = search rules in
-    let e = simp (to_z-of_z, f, c.ranges.address) at c.if-s-address.true in
-    simp (to_z-of_z, l, c.ranges.address) (rw e refl)
+le_is : (a b : ℤ) → partial_le partial_cmp-value.it a b ≡ le_z a b
+le_is a b = grind (arith, common_steps)
 
 pub returns : goal.returns
 unfolding has_bit
 returns c =
     let f : SFits w64 c.args.s.first = search rules in
-    let e = simp (to_z-of_z, f, c.ranges.address) at c.if-s-address.false in
-    rw e refl
+    let l : SFits w64 c.args.s.last = search rules in
+    let asked = c.new.ensures in
+    simp (asked.start, asked.end, asked.exhausted, to_z-of_z, f, l, c.ranges.address, le_is) at c.contains.ensures.value

@@ -1,6 +1,5 @@
--- The invariant: the rows of the addresses before `place` stand in the front of the buffer. The measure is the addresses left.
+-- The invariant: the rows of the addresses before `place` stand in the front of the buffer.
 use mathlib.Core.Path.{◌≡◌}
-use Prim.Native.Nat.{◌-◌, ◌≤◌}
 use lib.ListN.{length}
 use Rattle.batches.specs.Buffers.{rows_over}
 use Rattle.verdicts.specs.Records.{as_record}
@@ -9,7 +8,4 @@ use Rattle.batchrows.proofs.put_rows.Given as goal
 
 abbrev pub invariant-loop-place : goal.invariant-loop-place
 invariant-loop-place l =
-    (l.place ≤ length l.addresses) × (l.rows ≡ length (rows_to (as_record l.s) l.addresses l.place)) × (l.out ≡ rows_over (rows_to (as_record l.s) l.addresses l.place) l.initial.out)
-
-abbrev pub decreases-loop-place : goal.decreases-loop-place
-decreases-loop-place l = length l.addresses - l.place
+    (l.rows ≡ length (rows_to (as_record l.s) l.addresses l.place)) × (l.out ≡ rows_over (rows_to (as_record l.s) l.addresses l.place) l.initial.out)

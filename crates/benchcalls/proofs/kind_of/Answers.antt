@@ -14,8 +14,8 @@ returns-then-number-eq0 c =
     let e : eq_z c.args.number (pos 0) ≡ true = bits-same c.ranges.number (lit< tt) c.if-number-eq0.true in
     rw e refl
 
-pub returns : goal.returns
+pub returns-else-number-eq0 : goal.returns-else-number-eq0
 unfolding kind_of
-returns c =
+returns-else-number-eq0 c =
     let e : eq_z c.args.number (pos 0) ≡ false = bits-other c.ranges.number (lit< tt) c.if-number-eq0.false in
     rw e refl

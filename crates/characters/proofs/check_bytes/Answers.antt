@@ -1,4 +1,4 @@
-use mathlib.Core.Path.{◌≡◌, refl, sym, ◌∙◌}
+use mathlib.Core.Path.{◌≡◌, sym, ◌∙◌}
 use mathlib.Core.Bool.{Bool, true, false, cond}
 use mathlib.Core.List.{List}
 use Prim.Native.Nat.{ℕ, suc, ◌+◌, ◌<◌}
@@ -23,25 +23,22 @@ left_goes {text} {line} {at} l h ok next e = go (eqb (get_or text at 0) line_fee
     go : (b : Bool) → check_bytes 1 text ≡ check_bytes (cond b (suc line) line) (drop (at + 1) text)
         → feeds (drop at text) ≡ cond b (suc (feeds (drop (at + 1) text))) (feeds (drop (at + 1) text))
         → next ≡ cond b (suc line) line → Left text next (at + 1)
-    go true p q r = record { within = omega arith; low = omega (arith, l.low, r); same = rw r p; lines = omega (arith, l.lines, q, r) }
-    go false p q r = record { within = omega arith; low = omega (arith, l.low, r); same = rw r p; lines = omega (arith, l.lines, q, r) }
-
-pub loop-at-init : goal.loop-at-init
-loop-at-init c = record { within = omega arith; low = omega arith; same = refl; lines = omega arith }
+    go true p q r = record { low = omega (arith, l.low, r); same = rw r p; lines = omega (arith, l.lines, q, r) }
+    go false p q r = record { low = omega (arith, l.low, r); same = rw r p; lines = omega (arith, l.lines, q, r) }
 
 pub returns-then-not-is_allowed : goal.returns-then-not-is_allowed
 returns-then-not-is_allowed c =
-    c.loop-at.invariant.same ∙ bytes-bad c.args.text.now c.loop-at.at (omega arith) c.loop-at.line
+    c.loop-b.invariant.same ∙ bytes-bad c.args.text.now c.loop-b.b-index (omega arith) c.loop-b.line
     (sym c.is_allowed.ensures ∙ c.if-not-is_allowed.true)
 
-pub loop-at-preserved : goal.loop-at-preserved
-loop-at-preserved c =
-    left_goes c.loop-at.invariant (omega arith) (sym c.is_allowed.ensures ∙ c.if-not-is_allowed.false) c.if-b-eq10.line
+pub loop-b-preserved : goal.loop-b-preserved
+loop-b-preserved c =
+    left_goes c.loop-b.invariant (omega arith) (sym c.is_allowed.ensures ∙ c.if-not-is_allowed.false) c.if-b-eq10.line
     (elim c.if-b-eq10.branch [
-      | then-b-eq10 w ↦ rw (eq-eqb _ _ w.if-b-eq10.true) (w.line-is ∙ add-one c.loop-at.line)
+      | then-b-eq10 w ↦ rw (eq-eqb _ _ w.if-b-eq10.true) (w.line-is ∙ add-one c.loop-b.line)
       | else-b-eq10 w ↦ rw (ne_eqb _ _ w.if-b-eq10.false) w.line-is
     ])
 
 pub returns : goal.returns
-returns c = let w = bytes-none c.args.text.now c.loop-at.at c.loop-at.line c.loop-at-test.false in
-    (c.loop-at.invariant.same ∙ w.0, omega (arith, c.loop-at.invariant.lines, w.1))
+returns c = let w = bytes-none c.args.text.now c.loop-b.b-index c.loop-b.line c.loop-b-test.false in
+    (c.loop-b.invariant.same ∙ w.0, omega (arith, c.loop-b.invariant.lines, w.1))

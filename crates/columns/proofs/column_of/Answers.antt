@@ -1,84 +1,54 @@
-use mathlib.Core.Path.{◌≡◌, sym, ap, subst, ◌∙◌}
-use mathlib.Core.Bool.{true, false}
+use mathlib.Core.Path.{◌≡◌, sym, subst, ◌∙◌}
+use lib.Pointwise.{bytes_decides}
+use mathlib.Core.Bool.{true}
 use mathlib.Core.List.{List}
-use Prim.Native.Nat.{ℕ, ◌<◌}
+use Prim.Native.Nat.{ℕ, ◌≤◌}
 use native.Mathlib.Omega.{arith}
 use lib.ListN.{length, drop}
-use Rattle.cursor.specs.Parts.{first_field, blank_first, followed}
-use Rattle.cursor.proofs.Fields.{end_within, end_part, end_behind, end_rest, end_blank}
-use Rattle.columns.proofs.Names.{column_here, column_goes, column_none}
-use Rattle.columns.proofs.column_of.Goals.{After-is_blank, After-same, Else-not-is_blank}
+use Rattle.cursor.specs.Parts.{first_field}
+use Rattle.cursor.proofs.Fields.{end_within, end_part}
+use Rattle.columns.proofs.Names.{NameBehind, name_left, name_here, name_next}
+use Rattle.columns.proofs.column_of.Goals.{In-loop-i, After-field_end-end, After-eq}
 use Rattle.columns.proofs.column_of.Goals as goal
 
+-- this field and those behind it are left
+left : (l : In-loop-i) → let s = l.args in NameBehind s.text.now s.name.now s.from l.loop-i.at l.loop-i.i
+left l = l.loop-i.invariant.more (omega arith)
+
+-- the field ends in the text
+within : (c : After-field_end-end) → c.field_end-end.result ≤ length c.args.text.now
+within c = end_within c.args.text.now c.loop-i.at c.field_end-end.result (left (goal.at.After-field_end-end c).In-loop-i).within c.field_end-end.ensures
+
 -- the test of the field
-tested : (c : After-same) → let s = c.args in
-    (c.same.result ≡ true → s.name.now ≡ first_field (drop c.loop-from.at s.text.now))
-    × (s.name.now ≡ first_field (drop c.loop-from.at s.text.now) → c.same.result ≡ true)
+tested : (c : After-eq) → let s = c.args in
+    (c.eq.result ≡ true → s.name.now ≡ first_field (drop c.loop-i.at s.text.now))
+    × (s.name.now ≡ first_field (drop c.loop-i.at s.text.now) → c.eq.result ≡ true)
 tested c =
     let s = c.args in
-    subst (λ (part : List ℕ). (c.same.result ≡ true → s.name.now ≡ part) × (s.name.now ≡ part → c.same.result ≡ true))
-    (end_part s.text.now c.loop-from.at c.field_end-end.result c.loop-from.invariant.0 c.field_end-end.ensures) c.same.ensures
+    subst (λ (part : List ℕ). (c.eq.result ≡ true → s.name.now ≡ part) × (s.name.now ≡ part → c.eq.result ≡ true))
+    (end_part s.text.now c.loop-i.at c.field_end-end.result (left (goal.at.After-eq c).In-loop-i).within c.field_end-end.ensures)
+    (let d = bytes_decides _ _ in (λ e. d.0 (sym c.eq.ensures ∙ e), λ e. c.eq.ensures ∙ d.1 e))
 
--- whether another field follows
-follows : (c : After-is_blank) → let s = c.args in
-    followed (drop c.loop-from.at s.text.now) ≡ c.is_blank.result
-follows c =
-    let s = c.args in
-    sym (c.is_blank.ensures ∙ ap blank_first (end_behind s.text.now c.loop-from.at c.field_end-end.result c.loop-from.invariant.0 c.field_end-end.ensures))
-
--- the next field starts in the text
-next-within : (c : Else-not-is_blank) → c.field_end-end.result < length c.args.text.now
-next-within c =
-    let s = c.args in
-    end_blank s.text.now c.loop-from.at c.field_end-end.result c.loop-from.invariant.0 c.field_end-end.ensures
-    (sym c.is_blank.ensures ∙ c.if-not-is_blank.false)
-
-pub loop-from-init : goal.loop-from-init
-loop-from-init c = (omega arith, omega arith, omega arith)
+pub loop-i-init : goal.loop-i-init
+loop-i-init c = name_left c.args.text.now c.args.name.now c.args.from c.requires.0
 
 pub field_end-end-requires : goal.field_end-end-requires
-field_end-end-requires c = omega arith
+field_end-end-requires c = (left (goal.at.field_end-end-requires c).In-loop-i).within
 
-pub slice_bounds-same-count : goal.slice_bounds-same-count
-slice_bounds-same-count c = omega arith
+pub slice_bounds-eq-end : goal.slice_bounds-eq-end
+slice_bounds-eq-end c = within (goal.at.slice_bounds-eq-end c).After-field_end-end
 
-pub slice_bounds-same-start : goal.slice_bounds-same-start
-slice_bounds-same-start c = omega arith
-
-pub slice_bounds-same-end : goal.slice_bounds-same-end
-slice_bounds-same-end c =
-    end_within c.args.text.now c.loop-from.at c.field_end-end.result c.loop-from.invariant.0 c.field_end-end.ensures
-
-pub returns-then-same : goal.returns-then-same
-returns-then-same c =
-    let s = c.args in
-    omega (arith, c.loop-from.invariant.2, column_here s.name.now (drop c.loop-from.at s.text.now) (tested (goal.at.returns-then-same c).After-same) c.if-same.true)
-
-pub returns-then-not-is_blank : goal.returns-then-not-is_blank
-returns-then-not-is_blank c =
-    let s = c.args in
-    let gone : followed (drop c.loop-from.at s.text.now) ≡ false = follows (goal.at.returns-then-not-is_blank c).After-is_blank ∙ c.if-not-is_blank.true in
-    omega (arith, c.loop-from.invariant.2, column_none s.name.now (drop c.loop-from.at s.text.now) (tested (goal.at.returns-then-not-is_blank c).After-same) c.if-same.false gone)
+pub returns-then-eq : goal.returns-then-eq
+returns-then-eq c =
+    (name_here (left (goal.at.returns-then-eq c).In-loop-i) (tested (goal.at.returns-then-eq c).After-eq) c.if-eq.true, omega arith)
 
 pub overflow_add-at : goal.overflow_add-at
-overflow_add-at c = omega (arith, next-within c)
+overflow_add-at c = omega (arith, within (goal.at.overflow_add-at c).After-field_end-end, c.well_formed)
 
-pub overflow_add-i : goal.overflow_add-i
-overflow_add-i c = omega arith
+pub loop-i-preserved : goal.loop-i-preserved
+loop-i-preserved c =
+    name_next (left (goal.at.loop-i-preserved c).In-loop-i) (tested (goal.at.loop-i-preserved c).After-eq) c.field_end-end.result c.field_end-end.ensures
+    c.if-eq.false
 
-pub loop-from-smaller : goal.loop-from-smaller
-loop-from-smaller c = omega (arith, next-within c, c.field_end-end.ensures)
-
-pub loop-from-preserved : goal.loop-from-preserved
-loop-from-preserved c =
-    let s = c.args in (
-      omega (arith, next-within c),
-      omega (arith, c.loop-from.invariant.1, c.field_end-end.ensures),
-      rw (end_rest s.text.now c.loop-from.at c.field_end-end.result c.loop-from.invariant.0 c.field_end-end.ensures)
-          (omega (
-            arith,
-            c.loop-from.invariant.2,
-            column_goes s.name.now (drop c.loop-from.at s.text.now) (tested (goal.at.loop-from-preserved c).After-same) c.if-same.false
-                (follows (goal.at.loop-from-preserved c).After-is_blank ∙ c.if-not-is_blank.false),
-          )),
-    )
+pub returns : goal.returns
+returns c = omega (arith, c.loop-i.invariant.none (omega arith))

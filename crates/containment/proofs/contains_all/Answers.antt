@@ -1,5 +1,4 @@
 use mathlib.Core.Path.{◌≡◌, refl, sym, ap, ◌∙◌}
-use native.Mathlib.Omega.{arith}
 use Rattle.sorting.specs.Rows.{row_at}
 use Rattle.sorting.proofs.Tables.{rows_from_start}
 use Rattle.sorting.specs.declared.Row.{Row}
@@ -39,21 +38,3 @@ loop-j-preserved c =
 pub returns : goal.returns
 returns c =
     sym (c.loop-j.invariant ∙ contains_all_end c.args.spec.now c.args.imp.now c.args.ns c.args.ni c.loop-j.i c.loop-j.j c.loop-j-test.false)
-
-pub row_at-requires : goal.row_at-requires
-row_at-requires c = omega arith
-
-pub contained_in-requires : goal.contained_in-requires
-contained_in-requires c = omega arith
-
-pub overflow_add-j : goal.overflow_add-j
-overflow_add-j c = omega arith
-
-pub loop-j-smaller-then-contained_in : goal.loop-j-smaller-then-contained_in
-loop-j-smaller-then-contained_in c = omega arith
-
-pub overflow_add-i : goal.overflow_add-i
-overflow_add-i c = omega arith
-
-pub loop-j-smaller : goal.loop-j-smaller
-loop-j-smaller c = omega arith

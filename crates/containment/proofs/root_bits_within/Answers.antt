@@ -15,9 +15,9 @@ returns-then-s-r c =
     let e = simp (to_z-of_z, f, g) at c.if-s-r.true in
     simp (to_z-of_z, p, q) (rw e refl)
 
-pub returns : goal.returns
-returns c =
+pub returns-else-s-r : goal.returns-else-s-r
+returns-else-s-r c =
     let f : SFits w64 c.args.r.second = search rules in
     let g : SFits w64 c.args.s.second = search rules in
     let e = simp (to_z-of_z, f, g) at c.if-s-r.false in
-    rw e refl
+    simp (to_z-of_z, f, g) (rw e refl)

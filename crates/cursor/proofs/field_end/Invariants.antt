@@ -1,12 +1,9 @@
--- Invariant: the field that starts at `at` ends where the one that starts at `end` does. The measure is what is left of the length.
+-- Invariant: the field that starts at `at` ends where the one that starts at `end` does.
 use mathlib.Core.Path.{◌≡◌}
-use Prim.Native.Nat.{◌+◌, ◌-◌, ◌≤◌}
+use Prim.Native.Nat.{◌+◌}
 use lib.ListN.{length, drop}
 use Rattle.cursor.specs.Parts.{first_field}
 use Rattle.cursor.proofs.field_end.Given as goal
 
 abbrev pub invariant-loop-end : goal.invariant-loop-end
-invariant-loop-end l = (l.end ≤ length l.text) × (l.end + length (first_field (drop l.end l.text)) ≡ l.at + length (first_field (drop l.at l.text)))
-
-abbrev pub decreases-loop-end : goal.decreases-loop-end
-decreases-loop-end l = length l.text - l.end
+invariant-loop-end l = l.end + length (first_field (drop l.end l.text)) ≡ l.at + length (first_field (drop l.at l.text))

@@ -1,7 +1,7 @@
-use mathlib.Core.Path.{◌≡◌, refl, sym, subst, ◌∙◌}
+use mathlib.Core.Path.{◌≡◌, sym, subst}
 use Prim.Native.Nat.{◌<◌}
 use native.Mathlib.Omega.{arith}
-use lib.ListN.{length, take}
+use lib.ListN.{take}
 use Rattle.depth.specs.Passes.{EndsWithin}
 use Rattle.depth.proofs.Peeling.{round_marks, RoundSplit, peeling_fewer, peeling_start, peeling_within, peeling_ordered, peeling_long, peeling_cycle, peeling_next}
 use Rattle.depth.proofs.peel.Goals.{After-split_rows-kept}
@@ -20,82 +20,45 @@ module _ (c : After-split_rows-kept) where
   round-some : 0 < c.loop-left.left
   round-some = c.loop-left-test.true
 
-  -- the buffers keep their lengths
-  rest-long : length c.split_rows-kept.new.rest ≡ length c.args.rest.now
-  rest-long = c.split_rows-kept.auto.rest ∙ c.loop-left.invariant.0
-
-  marks-long : length c.stamp_starts.new.marks ≡ length c.args.marks.now
-  marks-long = c.stamp_starts.auto.marks ∙ c.loop-left.invariant.1
-
-  order-long : length c.split_rows-kept.new.order ≡ length c.args.order.now
-  order-long = c.split_rows-kept.auto.order ∙ c.loop-left.invariant.2
-
 pub loop-left-init : goal.loop-left-init
 loop-left-init c =
-    (refl, refl, refl, refl, peeling_start c.args.edges.now c.args.order.now c.requires.table c.requires)
+    peeling_start c.args.edges.now c.args.order.now c.requires.table c.requires
 
 pub overflow_add-round : goal.overflow_add-round
-overflow_add-round c = omega (arith, c.loop-left.invariant.4.bound)
+overflow_add-round c = omega (arith, c.loop-left.invariant.bound)
 
 pub stamp_starts-requires : goal.stamp_starts-requires
 stamp_starts-requires c =
-    (c.loop-left.invariant.4.long, peeling_within c.args.edges.now c.args.order.now c.requires.table c.loop-left.invariant.4)
+    (c.loop-left.invariant.long, peeling_within c.args.edges.now c.args.order.now c.requires.table c.loop-left.invariant)
 
 pub overflow_sub-count : goal.overflow_sub-count
-overflow_sub-count c = omega (arith, c.loop-left.invariant.4.bound)
+overflow_sub-count c = omega (arith, c.loop-left.invariant.bound)
 
 pub split_rows-kept-requires : goal.split_rows-kept-requires
 split_rows-kept-requires c =
-    let within = peeling_within c.args.edges.now c.args.order.now c.requires.table c.loop-left.invariant.4 in (
-      c.loop-left.invariant.4.long,
+    let within = peeling_within c.args.edges.now c.args.order.now c.requires.table c.loop-left.invariant in (
+      c.loop-left.invariant.long,
       subst (λ n. EndsWithin c.args.edges.now n (take c.loop-left.left c.loop-left.rest)) (sym c.stamp_starts.auto.marks) within,
-      omega (arith, c.loop-left.invariant.4.bound, c.loop-left.invariant.2, c.requires.table.fits),
+      omega (arith, c.loop-left.invariant.bound, c.requires.table.fits),
     )
-
-pub shape_of-rest-then-kept-left : goal.shape_of-rest-then-kept-left
-shape_of-rest-then-kept-left c = rest-long (goal.at.shape_of-rest-then-kept-left c).After-split_rows-kept
-
-pub shape_of-marks-then-kept-left : goal.shape_of-marks-then-kept-left
-shape_of-marks-then-kept-left c = marks-long (goal.at.shape_of-marks-then-kept-left c).After-split_rows-kept
-
-pub shape_of-order-then-kept-left : goal.shape_of-order-then-kept-left
-shape_of-order-then-kept-left c = order-long (goal.at.shape_of-order-then-kept-left c).After-split_rows-kept
 
 pub returns-then-kept-left : goal.returns-then-kept-left
 returns-then-kept-left c =
-    peeling_cycle c.args.edges.now c.args.order.now c.requires.table c.loop-left.invariant.4 (round-some (goal.at.returns-then-kept-left c).After-split_rows-kept) (round-rows (goal.at.returns-then-kept-left c).After-split_rows-kept) c.if-kept-left.true
+    peeling_cycle c.args.edges.now c.args.order.now c.requires.table c.loop-left.invariant (round-some (goal.at.returns-then-kept-left c).After-split_rows-kept) (round-rows (goal.at.returns-then-kept-left c).After-split_rows-kept) c.if-kept-left.true
 
 pub loop-left-smaller : goal.loop-left-smaller
 loop-left-smaller c =
-    peeling_fewer c.args.edges.now c.args.order.now c.requires.table c.loop-left.invariant.4 (round-some (goal.at.loop-left-smaller c).After-split_rows-kept) (round-rows (goal.at.loop-left-smaller c).After-split_rows-kept) c.if-kept-left.false
+    peeling_fewer c.args.edges.now c.args.order.now c.requires.table c.loop-left.invariant (round-some (goal.at.loop-left-smaller c).After-split_rows-kept) (round-rows (goal.at.loop-left-smaller c).After-split_rows-kept) c.if-kept-left.false
 
 pub loop-left-preserved : goal.loop-left-preserved
 loop-left-preserved c =
-    let next = peeling_next c.args.edges.now c.args.order.now c.requires.table c.loop-left.invariant.4 (round-some (goal.at.loop-left-preserved c).After-split_rows-kept) (round-rows (goal.at.loop-left-preserved c).After-split_rows-kept) c.if-kept-left.false in
-    (rest-long (goal.at.loop-left-preserved c).After-split_rows-kept, marks-long (goal.at.loop-left-preserved c).After-split_rows-kept, order-long (goal.at.loop-left-preserved c).After-split_rows-kept, refl, rw (round-marks (goal.at.loop-left-preserved c).After-split_rows-kept) next)
-
-pub shape_of-rest-then-round-gt-MAX_CHAIN : goal.shape_of-rest-then-round-gt-MAX_CHAIN
-shape_of-rest-then-round-gt-MAX_CHAIN c = c.loop-left.invariant.0
-
-pub shape_of-marks-then-round-gt-MAX_CHAIN : goal.shape_of-marks-then-round-gt-MAX_CHAIN
-shape_of-marks-then-round-gt-MAX_CHAIN c = c.loop-left.invariant.1
-
-pub shape_of-order-then-round-gt-MAX_CHAIN : goal.shape_of-order-then-round-gt-MAX_CHAIN
-shape_of-order-then-round-gt-MAX_CHAIN c = c.loop-left.invariant.2
+    let next = peeling_next c.args.edges.now c.args.order.now c.requires.table c.loop-left.invariant (round-some (goal.at.loop-left-preserved c).After-split_rows-kept) (round-rows (goal.at.loop-left-preserved c).After-split_rows-kept) c.if-kept-left.false in
+    rw (round-marks (goal.at.loop-left-preserved c).After-split_rows-kept) next
 
 pub returns-then-round-gt-MAX_CHAIN : goal.returns-then-round-gt-MAX_CHAIN
 returns-then-round-gt-MAX_CHAIN c =
-    peeling_long c.args.edges.now c.args.order.now c.requires.table c.loop-left.invariant.4 (omega arith) (omega arith)
-
-pub shape_of-rest-else-round-gt-MAX_CHAIN : goal.shape_of-rest-else-round-gt-MAX_CHAIN
-shape_of-rest-else-round-gt-MAX_CHAIN c = c.loop-left.invariant.0
-
-pub shape_of-marks-else-round-gt-MAX_CHAIN : goal.shape_of-marks-else-round-gt-MAX_CHAIN
-shape_of-marks-else-round-gt-MAX_CHAIN c = c.loop-left.invariant.1
-
-pub shape_of-order-else-round-gt-MAX_CHAIN : goal.shape_of-order-else-round-gt-MAX_CHAIN
-shape_of-order-else-round-gt-MAX_CHAIN c = c.loop-left.invariant.2
+    peeling_long c.args.edges.now c.args.order.now c.requires.table c.loop-left.invariant (omega arith) (omega arith)
 
 pub returns-else-round-gt-MAX_CHAIN : goal.returns-else-round-gt-MAX_CHAIN
 returns-else-round-gt-MAX_CHAIN c =
-    peeling_ordered c.args.edges.now c.args.order.now c.requires.table c.loop-left.invariant.4 (omega arith) (omega arith)
+    peeling_ordered c.args.edges.now c.args.order.now c.requires.table c.loop-left.invariant (omega arith) (omega arith)

@@ -1,13 +1,8 @@
--- The invariant: the starts of the first i rows are stamped. The measure is the rows that are left.
+-- The invariant: the starts of the rows that are passed are stamped.
 use mathlib.Core.Path.{◌≡◌}
-use Prim.Native.Nat.{◌≤◌, ◌-◌}
-use lib.ListN.{length, take}
+use lib.ListN.{take}
 use Rattle.depth.specs.Passes.{stamped}
 use Rattle.depth.proofs.stamp_starts.Given as goal
 
-abbrev pub invariant-loop-i : goal.invariant-loop-i
-invariant-loop-i l =
-    (l.i ≤ l.left) × (l.marks ≡ stamped l.edges l.stamp (take l.i l.rest) l.initial.marks) × (length l.marks ≡ length l.initial.marks)
-
-abbrev pub decreases-loop-i : goal.decreases-loop-i
-decreases-loop-i l = l.left - l.i
+abbrev pub invariant-loop-e : goal.invariant-loop-e
+invariant-loop-e l = l.marks ≡ stamped l.edges l.stamp (take l.e-index l.e-items) l.initial.marks

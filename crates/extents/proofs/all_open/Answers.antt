@@ -1,8 +1,9 @@
 use mathlib.Core.Path.{◌≡◌, refl, sym, ap, ◌∙◌}
-use mathlib.Core.Bool.{true, true≢false}
-use Prim.Native.Nat.{◌+◌, ◌-◌, ◌*◌, ◌≤◌}
+use mathlib.Core.Bool.{true≢false}
+use Prim.Native.Nat.{◌+◌, ◌*◌, ◌≤◌}
 use native.Mathlib.Omega.{arith}
 use borrow.Author.Rules.{rules}
+use borrow.Author.Count.{below_more}
 use lib.ListN.{length}
 use mir.Syntax.{w64}
 use mir.Val.{SFits, of_z}
@@ -10,14 +11,8 @@ use Rattle.model.specs.Limits.{node_width}
 use Rattle.model.specs.Rows.{Node}
 use Rattle.model.specs.Graph.{read_write}
 use Rattle.tables.specs.Tables.{node_at}
-use Rattle.extents.proofs.Rows.{all-rows_open, up_to, bits_zero}
+use Rattle.extents.proofs.Rows.{all-rows_open, bits_zero}
 use Rattle.extents.proofs.all_open.Goals as goal
-
-pub loop-v-init : goal.loop-v-init
-loop-v-init c = λ w h. absurd (omega arith)
-
-pub node_at-row-requires : goal.node_at-row-requires
-node_at-row-requires c = omega (arith, c.loop-v-test.true)
 
 pub returns-then-row-ne-READ_WRITE : goal.returns-then-row-ne-READ_WRITE
 returns-then-row-ne-READ_WRITE c =
@@ -29,18 +24,12 @@ returns-then-row-ne-READ_WRITE c =
           absurd (c.if-row-ne-READ_WRITE.true (ap (of_z w64) zero)),
     )
 
-pub overflow_add-v : goal.overflow_add-v
-overflow_add-v c = omega (arith, c.loop-v-test.true)
-
-pub loop-v-smaller : goal.loop-v-smaller
-loop-v-smaller c = omega (arith, c.loop-v-test.true)
-
 pub loop-v-preserved : goal.loop-v-preserved
 loop-v-preserved c =
     let fits : SFits w64 c.node_at-row.result.access = search rules in
     let here : (node_at c.args.nodes.now c.loop-v.v).access ≡ read_write =
     sym (ap (λ (n : Node). n.access) c.node_at-row.ensures) ∙ bits_zero fits c.if-row-ne-READ_WRITE.false in
-    up_to (λ w. (node_at c.args.nodes.now w).access ≡ read_write) c.loop-v.v c.loop-v.invariant here
+    below_more (λ w. (node_at c.args.nodes.now w).access ≡ read_write) c.loop-v.v c.loop-v.invariant here
 
 pub returns : goal.returns
 returns c =

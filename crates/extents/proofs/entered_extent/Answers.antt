@@ -1,4 +1,4 @@
--- The node is that whose row was read. What the calls ask has no name here: the node that the edge leaves is refused at the equation of its row first.
+-- The node is that whose row was read.
 use borrow.Author.Rules.{rules}
 use Rattle.extents.proofs.Rows.{to_row, to-good, to_extent}
 use Rattle.extents.proofs.entered_extent.Goals as goal

@@ -11,9 +11,6 @@ use Rattle.tables.proofs.Cells.{bits_test}
 use Rattle.extents.proofs.Rows.{row_open}
 use Rattle.extents.proofs.is_open.Goals as goal
 
-pub node_at-row-requires : goal.node_at-row-requires
-node_at-row-requires c = c.requires.there
-
 pub returns-in-Reading : goal.returns-in-Reading
 unfolding is_open
 returns-in-Reading c es =

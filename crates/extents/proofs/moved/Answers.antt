@@ -1,12 +1,8 @@
--- The bit offset of an edge is small, so that the difference fits. What the call asks has no name here: an offset that is added is refused at the
--- equation first.
+-- The bit offset of an edge is small, so that the difference fits.
 use borrow.Author.Rules.{rules}
 use Rattle.extents.proofs.Bounds.{address_movable}
 use Rattle.extents.proofs.Rows.{edge_small}
 use Rattle.extents.proofs.moved.Goals as goal
-
-pub offset_of-offset-requires : goal.offset_of-offset-requires
-offset_of-offset-requires c = (c.requires.0, c.requires.1)
 
 pub returns : goal.returns
 returns c = rw (← c.offset_of-offset.ensures) (search rules)

@@ -1,4 +1,3 @@
-use mathlib.Core.Path.{◌∙◌}
 use Prim.Native.Nat.{suc, ◌-◌}
 use native.Mathlib.Omega.{arith}
 use Rattle.reach.proofs.Ends.{Ends, edge_ends}
@@ -19,33 +18,21 @@ turn-state : (k : In-loop-e)
 turn-state k =
     linking_at k.args.nodes.now k.args.edges.now (suc (k.loop-e.e - 1)) (omega (arith, k.loop-e-test.true)) k.loop-e.invariant
 
-pub set_heads-requires : goal.set_heads-requires
-set_heads-requires c = omega (arith, c.requires.room, c.requires.tables.nodes.few)
-
 pub loop-e-init : goal.loop-e-init
 loop-e-init c =
     link_start c.args.nodes.now c.args.edges.now c.requires c.set_heads.ensures
 
-pub overflow_sub-e : goal.overflow_sub-e
-overflow_sub-e c = omega arith
-
-pub edge_to-to-requires : goal.edge_to-to-requires
-edge_to-to-requires c = let e = turn_ends c in (e.room, e.to_low)
+pub edge_to-requires : goal.edge_to-requires
+edge_to-requires c = let e = turn_ends (goal.at.edge_to-requires c).In-loop-e in (e.room, e.to_low)
 
 pub link_first-requires : goal.link_first-requires
 link_first-requires c =
-    link_within c.args.nodes.now c.args.edges.now (turn-state (goal.at.link_first-requires c).In-loop-e) c.edge_to-to.result c.edge_to-to.ensures
-
-pub loop-e-smaller : goal.loop-e-smaller
-loop-e-smaller c = omega arith
+    link_within c.args.nodes.now c.args.edges.now (turn-state (goal.at.link_first-requires c).In-loop-e) c.edge_to.result c.edge_to.ensures
 
 pub loop-e-preserved : goal.loop-e-preserved
 loop-e-preserved c =
     rw c.link_first.ensures
-    (link_next c.args.nodes.now c.args.edges.now (turn-state (goal.at.loop-e-preserved c).In-loop-e) c.edge_to-to.result c.edge_to-to.ensures)
-
-pub shape_of-plan : goal.shape_of-plan
-shape_of-plan c = c.loop-e.invariant.same.size ∙ c.set_heads.auto.plan
+    (link_next c.args.nodes.now c.args.edges.now (turn-state (goal.at.loop-e-preserved c).In-loop-e) c.edge_to.result c.edge_to.ensures)
 
 pub returns : goal.returns
 returns c =

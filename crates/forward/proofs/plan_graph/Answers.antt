@@ -1,6 +1,6 @@
 -- What the passes leave is put together.
 use mathlib.Core.Path.{◌∙◌}
-use Prim.Native.Nat.{ℕ}
+use mathlib.Core.Bool.{Bool, false}
 use native.Mathlib.Omega.{arith}
 use lib.ListN.{length, length-replicate}
 use Rattle.model.specs.Limits.{max_nodes}
@@ -14,14 +14,14 @@ marks-passable : (k : After-mark_leading)
     → BackwardRows k.args.edges.now k.args.order.now (length k.mark_leading.new.marks)
 marks-passable k =
     plan_passable k.requires (length k.mark_leading.new.marks)
-    (omega (arith, k.mark_leading.auto.marks, k.mark_leaves.auto.marks, length-replicate {A = ℕ} max_nodes 0))
+    (omega (arith, k.mark_leading.auto.marks, k.mark_leaves.auto.marks, length-replicate {A = Bool} max_nodes false))
 
 pub mark_leaves-requires : goal.mark_leaves-requires
 mark_leaves-requires c = plan_markable c.requires
 
 pub mark_leading-requires : goal.mark_leading-requires
 mark_leading-requires c =
-    plan_passable c.requires (length c.mark_leaves.new.marks) (omega (arith, c.mark_leaves.auto.marks, length-replicate {A = ℕ} max_nodes 0))
+    plan_passable c.requires (length c.mark_leaves.new.marks) (omega (arith, c.mark_leaves.auto.marks, length-replicate {A = Bool} max_nodes false))
 
 pub store_leading-requires : goal.store_leading-requires
 store_leading-requires c =

@@ -1,10 +1,10 @@
 use mathlib.Core.Path.{◌≡◌, ◌∙◌}
 use Prim.Native.Nat.{suc, ◌+◌, ◌-◌, ◌/◌, ◌≤◌, ◌<◌}
 use native.Mathlib.Omega.{arith}
-use lib.ListN.{length, get_or, length-set}
+use lib.ListN.{length, get_or}
 use Rattle.model.specs.Limits.{edge_width, max_edges}
 use Rattle.reach.proofs.Ends.{Ends}
-use Rattle.forward.specs.Forward.{count_at, plan_room}
+use Rattle.forward.specs.Forward.{plan_room}
 use Rattle.forward.proofs.Stored.{order-within, order-ends, order-marked, Storing, storing-at, storing-long, store_start, store_few, store_marked, store_over, store_end}
 use Rattle.forward.proofs.store_leading.Goals.{After-edge_to-to, In-loop-i}
 use Rattle.forward.proofs.store_leading.Goals as goal
@@ -42,12 +42,6 @@ turn-state k =
 pub loop-i-init : goal.loop-i-init
 loop-i-init c = store_start c.args.edges.now c.args.order.now c.args.marks.now c.requires.backward_rows c.args.plan.now
 
-pub overflow_sub-i : goal.overflow_sub-i
-overflow_sub-i c = omega arith
-
-pub offset_bounds-order-i : goal.offset_bounds-order-i
-offset_bounds-order-i c = omega arith
-
 pub bounds-order-i : goal.bounds-order-i
 bounds-order-i c = order-within c.requires.backward_rows (c.loop-i.i - 1) (turn-row (goal.at.bounds-order-i c).In-loop-i)
 
@@ -66,30 +60,15 @@ bounds-plan-leading c = omega (arith, turn-place (goal.at.bounds-plan-leading c)
 pub overflow_add-leading : goal.overflow_add-leading
 overflow_add-leading c = omega (arith, turn-place (goal.at.overflow_add-leading c).After-edge_to-to)
 
-pub loop-i-smaller-then-marks-to-ne0 : goal.loop-i-smaller-then-marks-to-ne0
-loop-i-smaller-then-marks-to-ne0 c = omega arith
-
-pub loop-i-preserved-then-marks-to-ne0 : goal.loop-i-preserved-then-marks-to-ne0
-loop-i-preserved-then-marks-to-ne0 c =
-    store_marked c.args.edges.now c.args.order.now c.args.marks.now c.requires.backward_rows (turn-state (goal.at.loop-i-preserved-then-marks-to-ne0 c).After-edge_to-to) c.edge_to-to.result c.edge_to-to.ensures
-    c.if-marks-to-ne0.true
-
-pub loop-i-smaller : goal.loop-i-smaller
-loop-i-smaller c = omega arith
+pub loop-i-preserved-then-marks-to : goal.loop-i-preserved-then-marks-to
+loop-i-preserved-then-marks-to c =
+    store_marked c.args.edges.now c.args.order.now c.args.marks.now c.requires.backward_rows (turn-state (goal.at.loop-i-preserved-then-marks-to c).After-edge_to-to) c.edge_to-to.result c.edge_to-to.ensures
+    c.if-marks-to.true
 
 pub loop-i-preserved : goal.loop-i-preserved
 loop-i-preserved c =
     store_over c.args.edges.now c.args.order.now c.args.marks.now c.requires.backward_rows (turn-state (goal.at.loop-i-preserved c).After-edge_to-to) c.edge_to-to.result c.edge_to-to.ensures
-    c.if-marks-to-ne0.false
-
-pub bounds-plan-7200 : goal.bounds-plan-7200
-bounds-plan-7200 c =
-    omega (arith, c.requires.plan_len, storing-long c.args.edges.now c.args.order.now c.args.marks.now c.loop-i.invariant)
-
-pub shape_of-plan : goal.shape_of-plan
-shape_of-plan c =
-    let l = c.loop-i in
-    length-set l.plan count_at l.leading ∙ storing-long c.args.edges.now c.args.order.now c.args.marks.now l.invariant
+    c.if-marks-to.false
 
 pub returns : goal.returns
 returns c =

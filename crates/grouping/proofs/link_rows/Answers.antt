@@ -7,7 +7,7 @@ use Rattle.model.specs.Limits.{pair_width}
 use Rattle.tables.specs.Tables.{pair_at}
 use Rattle.grouping.specs.Links.{next_at}
 use Rattle.grouping.proofs.Heads.{leaf-read, leaf-below}
-use Rattle.grouping.proofs.Linking.{linking_at, link_start, link_next, link_end}
+use Rattle.grouping.proofs.Linking.{linking_at, link_next, link_end}
 use Rattle.grouping.proofs.link_rows.Goals.{After-pair_node-leaf, In-loop-row}
 use Rattle.grouping.proofs.link_rows.Goals as goal
 
@@ -32,12 +32,6 @@ turn_below k = (
   ),
   omega (arith, turn-row (goal.at.offset_bounds-head-leaf k).In-loop-row, k.requires.few, k.loop-row.invariant.room),
 )
-
-pub loop-row-init : goal.loop-row-init
-loop-row-init c = link_start c.args.pairs.now c.requires
-
-pub overflow_sub-row : goal.overflow_sub-row
-overflow_sub-row c = omega arith
 
 pub pair_node-leaf-requires : goal.pair_node-leaf-requires
 pair_node-leaf-requires c =
@@ -64,20 +58,11 @@ offset_bounds-head-leaf-in-loop-row c = omega (arith, turn_below (goal.at.offset
 pub bounds-head-leaf-in-loop-row : goal.bounds-head-leaf-in-loop-row
 bounds-head-leaf-in-loop-row c = omega (arith, turn_below (goal.at.bounds-head-leaf-in-loop-row c).After-pair_node-leaf)
 
-pub loop-row-smaller : goal.loop-row-smaller
-loop-row-smaller c = omega arith
-
 pub loop-row-preserved : goal.loop-row-preserved
 loop-row-preserved c =
     let pairs = c.args.pairs.now in
     link_next pairs c.pair_node-leaf.result (turn_below (goal.at.loop-row-preserved c).After-pair_node-leaf).0 (turn_below (goal.at.loop-row-preserved c).After-pair_node-leaf).1 (turn-leaf (goal.at.loop-row-preserved c).After-pair_node-leaf)
     (linking_at pairs (suc (c.loop-row.row - 1)) (omega (arith, c.loop-row-test.true)) c.loop-row.invariant)
-
-pub shape_of-head : goal.shape_of-head
-shape_of-head c = c.loop-row.invariant.size
-
-pub shape_of-links : goal.shape_of-links
-shape_of-links c = omega (arith, c.loop-row.invariant.room, c.requires.room)
 
 pub returns : goal.returns
 returns c =

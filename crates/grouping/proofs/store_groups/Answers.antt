@@ -1,13 +1,12 @@
 use mathlib.Core.Path.{◌≡◌, ◌∙◌}
-use mathlib.Core.Logic.{inl, inr}
-use Prim.Native.Nat.{◌-◌, ◌<◌}
+use Prim.Native.Nat.{◌<◌}
 use native.Mathlib.Omega.{arith}
-use lib.ListN.{length, length-set}
+use lib.ListN.{length}
 use Rattle.model.specs.Limits.{max_pairs}
-use Rattle.grouping.specs.Links.{count_at, link_room}
+use Rattle.grouping.specs.Links.{link_room}
 use Rattle.grouping.proofs.Heads.{leaf-read, leaf-below}
 use Rattle.grouping.proofs.Storing.{storing-long, store_few, store_start, store_lowest, store_over, store_end}
-use Rattle.grouping.proofs.store_groups.Goals.{After-pair_node-v, In-loop-row}
+use Rattle.grouping.proofs.store_groups.Goals.{After-pair_node-v, In-loop-row, then-head-v, else-head-v}
 use Rattle.grouping.proofs.store_groups.Goals as goal
 
 -- the specification leaf of the row has a head
@@ -46,28 +45,15 @@ bounds-links-groups c = omega (arith, turn-place (goal.at.bounds-links-groups c)
 pub overflow_add-groups : goal.overflow_add-groups
 overflow_add-groups c = omega (arith, turn-place (goal.at.overflow_add-groups c).In-loop-row)
 
-pub overflow_add-row : goal.overflow_add-row
-overflow_add-row c = omega (arith, c.loop-row-test.true)
-
-pub loop-row-smaller : goal.loop-row-smaller
-loop-row-smaller c = omega (arith, c.loop-row-test.true)
-
 pub loop-row-preserved : goal.loop-row-preserved
 loop-row-preserved c =
     let pairs = c.args.pairs.now in
     let v = c.pair_node-v.result in
     let h = c.loop-row-test.true in
-    elim c.if-head-v.branch-raw [
-      | inl w ↦ rw (w.links-is, w.groups-is) (store_lowest pairs c.loop-row.invariant h c.requires.heads v c.pair_node-v.ensures w.if-head-v.true)
-      | inr w ↦ rw (w.links-is, w.groups-is) (store_over pairs c.loop-row.invariant h c.requires.heads v c.pair_node-v.ensures w.if-head-v.false)
+    elim c.if-head-v.branch [
+      | then-head-v w ↦ rw (w.links-is, w.groups-is) (store_lowest pairs c.loop-row.invariant h c.requires.heads v c.pair_node-v.ensures w.if-head-v.true)
+      | else-head-v w ↦ rw (w.links-is, w.groups-is) (store_over pairs c.loop-row.invariant h c.requires.heads v c.pair_node-v.ensures w.if-head-v.false)
     ]
-
-pub bounds-links-2000 : goal.bounds-links-2000
-bounds-links-2000 c = omega (arith, c.requires.room, storing-long c.args.pairs.now c.loop-row.invariant)
-
-pub shape_of-links : goal.shape_of-links
-shape_of-links c =
-    length-set c.loop-row.links count_at _ ∙ storing-long c.args.pairs.now c.loop-row.invariant
 
 pub returns : goal.returns
 returns c = store_end c.args.pairs.now c.loop-row-test.false c.loop-row.invariant

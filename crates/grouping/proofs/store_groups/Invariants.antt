@@ -1,10 +1,6 @@
--- The invariant is Storing; the measure is the rows left.
-use Prim.Native.Nat.{◌-◌}
+-- The invariant is Storing.
 use Rattle.grouping.proofs.Storing.{Storing}
 use Rattle.grouping.proofs.store_groups.Given as goal
 
 abbrev pub invariant-loop-row : goal.invariant-loop-row
 invariant-loop-row l = Storing l.pairs l.initial.links l.links l.groups l.row
-
-abbrev pub decreases-loop-row : goal.decreases-loop-row
-decreases-loop-row l = l.count - l.row

@@ -1,10 +1,6 @@
--- The invariant is `Raised`: the rows before row i are raised; the measure is what is left of them.
-use Prim.Native.Nat.{◌-◌}
+-- The invariant is `Raised`: the rows before row i are raised.
 use Rattle.groups.proofs.Raising.{Raised}
 use Rattle.groups.proofs.raise_rows.Given as goal
 
 abbrev pub invariant-loop-i : goal.invariant-loop-i
 invariant-loop-i l = Raised l.at.0 l.initial.state l.from l.to l.state l.i
-
-abbrev pub decreases-loop-i : goal.decreases-loop-i
-decreases-loop-i l = l.to - l.i

@@ -10,27 +10,27 @@ use Rattle.refusals.proofs.Checks.{small_wide}
 use Rattle.refusals.proofs.Texts.{gives_small, gives_held}
 use Rattle.healdrip.proofs.Codes.{coded_length}
 use Rattle.healdrip.proofs.healdrip_text_check.Goals as goal
-use Rattle.healdrip.proofs.healdrip_text_check.Goals.{In-Count, In-Refused}
+use Rattle.healdrip.proofs.healdrip_text_check.Goals.{In-Ok, In-Err}
 
 -- a report's length
-counted : (c : In-Count) → full c.in-Count.n ≡ text_gives c.args.text.now c.args.report.now
-counted c = ap written_answer (sym c.in-Count.is) ∙ c.text_check-written.ensures.answer
+counted : (c : In-Ok) → full c.in-Ok.n ≡ text_gives c.args.text.now c.args.report.now
+counted c = ap written_answer (sym c.in-Ok.is) ∙ c.text_check.ensures.answer
 
-low : (c : In-Count) → c.in-Count.n < 2 ^ 63
+low : (c : In-Ok) → c.in-Ok.n < 2 ^ 63
 low c = omega (arith, gives_held c.args.text.now c.args.report.now (counted c), c.well_formed)
 
 -- a refusal
-told : (c : In-Refused) → refused (refusal_of c.in-Refused.reason) ≡ text_gives c.args.text.now c.args.report.now
-told c = ap written_answer (sym c.in-Refused.is) ∙ c.text_check-written.ensures.answer
+told : (c : In-Err) → refused (refusal_of c.in-Err.reason) ≡ text_gives c.args.text.now c.args.report.now
+told c = ap written_answer (sym c.in-Err.is) ∙ c.text_check.ensures.answer
 
 pub overflow_cast-result : goal.overflow_cast-result
-overflow_cast-result c = fits64 (omega (arith, low (goal.at.overflow_cast-result c).In-Count))
+overflow_cast-result c = fits64 (omega (arith, low (goal.at.overflow_cast-result c).In-Ok))
 
 pub negative_code-requires : goal.negative_code-requires
 negative_code-requires c =
-    rw c.refusal_numbers.ensures (small_wide (gives_small c.args.text.now c.args.report.now (told (goal.at.negative_code-requires c).In-Refused)))
+    rw c.from.ensures (small_wide (gives_small c.args.text.now c.args.report.now (told (goal.at.negative_code-requires c).In-Err)))
 
-pub returns-in-Count : goal.returns-in-Count
-returns-in-Count c =
-    let i = (goal.at.returns-in-Count c).In-Count in
-    text_promise coded c.args.text.now c.args.report.now (coded_length c.args.text.now c.args.report.now (low i) (counted i)) c.text_check-written.ensures.buffer
+pub returns-in-Ok : goal.returns-in-Ok
+returns-in-Ok c =
+    let i = (goal.at.returns-in-Ok c).In-Ok in
+    text_promise coded c.args.text.now c.args.report.now (coded_length c.args.text.now c.args.report.now (low i) (counted i)) c.text_check.ensures.buffer

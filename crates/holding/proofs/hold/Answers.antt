@@ -21,10 +21,10 @@ shape_of-held c = simp length-set
 
 pub returns : goal.returns
 returns c =
-    let v = c.verdict_number-judged.ensures in
+    let v = c.verdict_number.ensures in
     let fits : SFits w64 c.args.found.address = search rules in
     rw (
-      to_z_pos w64 {n = c.verdict_number-judged.result} (omega (arith, v.1)),
+      to_z_pos w64 {n = c.verdict_number.result} (omega (arith, v.1)),
       v.0,
       to_z_pos w64 {n = c.args.found.lengths.spec} (omega (arith, c.requires.1.spec)),
       to_z_pos w64 {n = c.args.found.lengths.implementation} (omega (arith, c.requires.1.impl)),

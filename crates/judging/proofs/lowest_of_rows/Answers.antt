@@ -12,14 +12,18 @@ use Rattle.model.specs.Answers.{verdict_number}
 use Rattle.model.proofs.Verdicts.{verdict-equal}
 use Rattle.model.proofs.Lowest.{lowest-same}
 use Rattle.judging.proofs.Judging.{rows-small, rows-list, rows_back}
+use denote.Enum.Bare.{same_true}
+use Rattle.model.specs.declared.Verdict.TheVariants.{Equal}
+use Rattle.model.specs.contracts.Verdict.{the_type}
 use Rattle.judging.proofs.lowest_of_rows.Goals as goal
 
 pub returns-then-not-asked : goal.returns-then-not-asked
 returns-then-not-asked c l m p q e f a n = absurd (true≢false (sym a ∙ c.if-not-asked.true))
 
-pub returns-in-Equal : goal.returns-in-Equal
-returns-in-Equal c l m p q e f a n =
-    let zero : verdict l m ≡ 0 = sym n ∙ ap verdict_number c.in-Equal.is in
+pub returns-then-eq : goal.returns-then-eq
+returns-then-eq c l m p q e f a n =
+    let is : c.args.given ≡ Equal = same_true the_type (search rules) _ _ (sym c.eq.ensures ∙ c.if-eq.true) in
+    let zero : verdict l m ≡ 0 = sym n ∙ ap verdict_number is in
     sym (ap (lowest l) (sym ((verdict-equal l m).0 zero)) ∙ lowest-same l)
 
 pub normalise-s-requires : goal.normalise-s-requires

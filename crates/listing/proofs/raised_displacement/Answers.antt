@@ -1,4 +1,4 @@
--- The displacement is less by `at`. What the calls ask has no name here: one that is more by it is refused at its equation first.
+-- The displacement is less by `at`.
 use mathlib.Core.Path.{◌≡◌, ap, ◌∙◌}
 use borrow.Author.Rules.{rules}
 use lib.IntN.{ℤ, ◌-ℤ◌}

@@ -93,15 +93,15 @@ count_paths-requires c =
     let g = graph_of c.args.nodes.now c.args.edges.now in
     record { tables = c.requires.tables; block = subst (Leaf g) (sym (leaf-same (goal.at.count_paths-requires c).Else-not-is_leaf)) (leaf-here (goal.at.count_paths-requires c).Else-not-is_leaf); backward = c.requires.backward; room = c.requires.room }
 
-pub overflow_cast-from : goal.overflow_cast-from
-overflow_cast-from c =
-    index_fits c.ranges.root (root-here (goal.at.overflow_cast-from c).Else-not-is_leaf).row.low
+pub overflow_cast-paths : goal.overflow_cast-paths
+overflow_cast-paths c =
+    index_fits c.ranges.root (root-here (goal.at.overflow_cast-paths c).Else-not-is_leaf).row.low
 
-pub offset_bounds-counts-from : goal.offset_bounds-counts-from
-offset_bounds-counts-from c = omega (arith, root-within (goal.at.offset_bounds-counts-from c).Else-not-is_leaf)
+pub offset_bounds-counts-root : goal.offset_bounds-counts-root
+offset_bounds-counts-root c = omega (arith, root-within (goal.at.offset_bounds-counts-root c).Else-not-is_leaf)
 
-pub bounds-counts-from : goal.bounds-counts-from
-bounds-counts-from c = omega (arith, root-within (goal.at.bounds-counts-from c).Else-not-is_leaf, c.count_paths.auto.counts)
+pub bounds-counts-root : goal.bounds-counts-root
+bounds-counts-root c = omega (arith, root-within (goal.at.bounds-counts-root c).Else-not-is_leaf, c.count_paths.auto.counts)
 
 pub returns-then-paths-gt-MAX_PATHS : goal.returns-then-paths-gt-MAX_PATHS
 returns-then-paths-gt-MAX_PATHS c =

@@ -1,7 +1,7 @@
--- Invariant: some edge enters v exactly where one of the rows from e on does. The measure is what is left of the length.
+-- Invariant: some edge enters v exactly where one of the rows from e on does.
 use mathlib.Core.Path.{◌≡◌}
-use Prim.Native.Nat.{◌*◌, ◌-◌, ◌≤◌}
-use lib.ListN.{length, drop}
+use Prim.Native.Nat.{◌*◌}
+use lib.ListN.{drop}
 use Rattle.integers.specs.Integers.{eq_z}
 use Rattle.lists.specs.Lists.{any}
 use Rattle.model.specs.Limits.{edge_width}
@@ -10,8 +10,4 @@ use Rattle.named.proofs.entered.Given as goal
 
 abbrev pub invariant-loop-e : goal.invariant-loop-e
 invariant-loop-e l =
-    (edge_width * l.e ≤ length l.edges)
-    × (any (λ (d : Edge). eq_z d.to l.v) (edge_rows l.edges) ≡ any (λ (d : Edge). eq_z d.to l.v) (edges_from l.e (drop (edge_width * l.e) l.edges)))
-
-abbrev pub decreases-loop-e : goal.decreases-loop-e
-decreases-loop-e l = length l.edges - l.e
+    any (λ (d : Edge). eq_z d.to l.v) (edge_rows l.edges) ≡ any (λ (d : Edge). eq_z d.to l.v) (edges_from l.e (drop (edge_width * l.e) l.edges))

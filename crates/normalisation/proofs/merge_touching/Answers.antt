@@ -1,17 +1,13 @@
 use mathlib.Core.Path.{◌≡◌, sym, ap, ◌∙◌}
 use native.Mathlib.Omega.{arith}
-use lib.ListN.{length}
 use Rattle.sorting.specs.declared.Row.{Row}
 use Rattle.sorting.specs.Rows.{row_at}
 use Rattle.model.specs.Runs.{touch}
 use Rattle.normalisation.specs.Merging.{of_displacement}
-use Rattle.normalisation.proofs.Turns.{row_small, pass_none, pass_start, pass_length, pass_joined, pass_apart, pass_count, pass_end}
-use Rattle.normalisation.proofs.merge_touching.Goals.{After-touches, At-loop-i}
+use Rattle.normalisation.proofs.Turns.{row_small, pass_none, pass_start, pass_joined, pass_apart, pass_count, pass_end}
+use Rattle.normalisation.proofs.merge_touching.Goals.{After-touches}
+use Rattle.normalisation.proofs.merge_touching.Goals.{then-touches, else-touches}
 use Rattle.normalisation.proofs.merge_touching.Goals as goal
-
--- out keeps its length
-kept : (l : At-loop-i) → length l.loop-i.out ≡ length l.args.out.now
-kept l = pass_length l.loop-i.invariant l.requires.1
 
 -- what the test of touch says
 test : (c : After-touches) → touch (of_displacement c.loop-i.current) (of_displacement (row_at c.args.t.now c.loop-i.i)) ≡ c.touches.result
@@ -24,55 +20,27 @@ returns-then-n-eq0 c =
     let r = pass_none _ _ _ _ c.if-n-eq0.true in
     record { value = r.0; out_after = r.1 }
 
-pub row_at-current-requires : goal.row_at-current-requires
-row_at-current-requires c = omega arith
-
 pub loop-i-init : goal.loop-i-init
 loop-i-init c = rw c.row_at-current.ensures (pass_start _ _ _ _ (omega arith) c.requires.2)
-
-pub row_at-next-requires : goal.row_at-next-requires
-row_at-next-requires c = omega arith
-
-pub overflow_add-i : goal.overflow_add-i
-overflow_add-i c = omega arith
 
 pub touches-requires : goal.touches-requires
 touches-requires c =
     (c.loop-i.invariant.small, rw c.row_at-next.ensures (row_small _ _ _ c.loop-i-test.true c.requires.2))
 
-pub loop-i-smaller-then-touches : goal.loop-i-smaller-then-touches
-loop-i-smaller-then-touches c = omega arith
-
-pub loop-i-preserved-then-touches : goal.loop-i-preserved-then-touches
-loop-i-preserved-then-touches c =
-    rw (c.hull_of-current.ensures, c.row_at-next.ensures)
-    (pass_joined c.loop-i.invariant c.loop-i-test.true c.requires.2 (test (goal.at.loop-i-preserved-then-touches c).After-touches ∙ c.if-touches.true))
-
-pub put_row-requires : goal.put_row-requires
-put_row-requires c = omega (arith, kept (goal.at.put_row-requires c).At-loop-i)
-
-pub overflow_add-k : goal.overflow_add-k
-overflow_add-k c = omega arith
-
-pub loop-i-smaller : goal.loop-i-smaller
-loop-i-smaller c = omega arith
-
 pub loop-i-preserved : goal.loop-i-preserved
 loop-i-preserved c =
-    rw (c.put_row.ensures, c.by_first.ensures, c.row_at-next.ensures)
-    (pass_apart c.loop-i.invariant c.loop-i-test.true c.requires.2 (test (goal.at.loop-i-preserved c).After-touches ∙ c.if-touches.false))
-
-pub put_row-requires-2 : goal.put_row-requires-2
-put_row-requires-2 c = omega (arith, kept (goal.at.put_row-requires-2 c).At-loop-i)
-
-pub overflow_add-result : goal.overflow_add-result
-overflow_add-result c = omega arith
-
-pub shape_of-out : goal.shape_of-out
-shape_of-out c = c.put_row-2.auto.t ∙ kept (goal.at.shape_of-out c).At-loop-i
+    let same = test (goal.at.loop-i-preserved c).After-touches in
+    elim c.if-touches.branch [
+      | then-touches w ↦
+          rw (w.current-is, w.k-is, w.out-is, w.hull_of-current.ensures, c.row_at-next.ensures)
+          (pass_joined c.loop-i.invariant c.loop-i-test.true c.requires.2 (same ∙ w.if-touches.true))
+      | else-touches w ↦
+          rw (w.current-is, w.k-is, w.out-is, w.put_row.ensures, w.by_first.ensures, c.row_at-next.ensures)
+          (pass_apart c.loop-i.invariant c.loop-i-test.true c.requires.2 (same ∙ w.if-touches.false))
+    ]
 
 pub returns : goal.returns
 returns c = record {
-  value = pass_count c.loop-i.invariant c.loop-i-test.false;
-  out_after = rw (c.put_row-2.ensures, c.by_first-2.ensures) (pass_end c.loop-i.invariant c.loop-i-test.false);
+  value = pass_count c.loop-i.invariant (omega arith);
+  out_after = rw (c.put_row-2.ensures, c.by_first-2.ensures) (pass_end c.loop-i.invariant (omega arith));
 }

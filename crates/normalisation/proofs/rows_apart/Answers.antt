@@ -1,5 +1,5 @@
 use mathlib.Core.Path.{◌≡◌, sym, ap₂, ◌∙◌}
-use Prim.Native.Nat.{◌+◌}
+use Prim.Native.Nat.{◌+◌, ◌-◌}
 use native.Mathlib.Omega.{arith}
 use Rattle.sorting.specs.declared.Row.{Row}
 use Rattle.sorting.specs.Rows.{row_at}
@@ -15,39 +15,23 @@ test c =
     sym (c.touches.ensures
     ∙ ap₂ (λ (r s : Row). touch (of_displacement r) (of_displacement s)) c.loop-i.invariant.0 c.row_at-next.ensures)
 
-pub row_at-current-requires : goal.row_at-current-requires
-row_at-current-requires c = omega arith
-
 pub loop-i-init : goal.loop-i-init
 loop-i-init c = (c.row_at-current.ensures, apart-start _ _ c.requires.0)
-
-pub overflow_add-i : goal.overflow_add-i
-overflow_add-i c = omega (arith, c.loop-i.invariant.1.inside)
-
-pub overflow_add-i-in-loop-i : goal.overflow_add-i-in-loop-i
-overflow_add-i-in-loop-i c = omega arith
-
-pub row_at-next-requires : goal.row_at-next-requires
-row_at-next-requires c = omega arith
 
 pub touches-requires : goal.touches-requires
 touches-requires c = (
   rw c.loop-i.invariant.0 (row_small _ _ _ c.loop-i.invariant.1.inside c.requires.2),
-  rw c.row_at-next.ensures (row_small _ _ _ c.loop-i-test.true c.requires.2),
+  rw c.row_at-next.ensures (row_small _ _ _ (omega arith) c.requires.2),
 )
 
 pub returns-then-touches : goal.returns-then-touches
 returns-then-touches c = c.loop-i.invariant.1
 
-pub overflow_add-i-in-loop-i-2 : goal.overflow_add-i-in-loop-i-2
-overflow_add-i-in-loop-i-2 c = omega arith
-
-pub loop-i-smaller : goal.loop-i-smaller
-loop-i-smaller c = omega arith
-
 pub loop-i-preserved : goal.loop-i-preserved
 loop-i-preserved c =
-    (c.row_at-next.ensures, apart_more c.loop-i.invariant.1 c.loop-i-test.true (test (goal.at.loop-i-preserved c).After-touches ∙ c.if-touches.false))
+    (c.row_at-next.ensures, apart_more c.loop-i.invariant.1 (omega arith) (test (goal.at.loop-i-preserved c).After-touches ∙ c.if-touches.false))
 
 pub returns : goal.returns
-returns c = c.loop-i.invariant.1
+returns c =
+    let last : c.loop-i.i ≡ c.args.n - 1 = omega arith in
+    rw last at c.loop-i.invariant.1

@@ -1,5 +1,5 @@
 -- Past the test of the displacements, each call answers one half of touch.
-use mathlib.Core.Path.{◌≡◌, refl, sym, ap, ◌∙◌}
+use mathlib.Core.Path.{◌≡◌, sym, ap, ◌∙◌}
 use borrow.Author.Rules.{rules}
 use lib.IntN.{pos, ◌+ℤ◌}
 use lib.Signed.{le_z}
@@ -46,6 +46,6 @@ returns-then-meets c =
     rw (touch_like (of_displacement c.args.r) (of_displacement c.args.s) (like (goal.at.returns-then-meets c).Else-r-s), test (goal.at.returns-then-meets c).After-meets ∙ c.if-meets.true)
     (simp (to_z-of_z, f, g) at c.meets-then-meets.ensures)
 
-pub returns : goal.returns
-returns c =
-    rw (touch_like (of_displacement c.args.r) (of_displacement c.args.s) (like (goal.at.returns c).Else-r-s), test (goal.at.returns c).After-meets ∙ c.if-meets.false) refl
+pub returns-else-meets : goal.returns-else-meets
+returns-else-meets c =
+    rw (touch_like (of_displacement c.args.r) (of_displacement c.args.s) (like (goal.at.returns-else-meets c).Else-r-s), test (goal.at.returns-else-meets c).After-meets ∙ c.if-meets.false) c.if-meets.false

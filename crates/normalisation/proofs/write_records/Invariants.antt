@@ -1,10 +1,6 @@
 -- The invariant is `Listed`: i rows are written, and the rest is as it was.
-use Prim.Native.Nat.{◌-◌}
 use Rattle.normalisation.proofs.Turns.{Listed}
 use Rattle.normalisation.proofs.write_records.Given as goal
 
 abbrev pub invariant-loop-i : goal.invariant-loop-i
 invariant-loop-i l = Listed l.t l.n l.initial.out l.out l.i
-
-abbrev pub decreases-loop-i : goal.decreases-loop-i
-decreases-loop-i l = l.n - l.i

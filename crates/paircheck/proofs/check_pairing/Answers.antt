@@ -4,7 +4,7 @@ use Prim.Native.Nat.{◌/◌}
 use lib.ListN.{length, take}
 use Rattle.model.specs.Limits.{node_width}
 use Rattle.model.specs.Graph.{graph_of}
-use Rattle.model.specs.Answers.{checked_answer}
+use Rattle.std.proofs.lemmas.Result.{err_from_is_err_and}
 use Rattle.tables.proofs.Checks.{checked, then_on, then_stops}
 use Rattle.pairing.specs.Pairs.{tables_of}
 use Rattle.paircheck.specs.Classes.{classes_of}
@@ -25,10 +25,10 @@ impl-found c =
     let a = c.args in
     ap (take (length a.impl_nodes.now / node_width)) c.classify-2.ensures ∙ classes_front a.impl_nodes.now a.impl_edges.now _
 
-pub returns-in-Refused : goal.returns-in-Refused
-returns-in-Refused c =
-    then_stops _ _ (ap checked_answer (sym c.in-Refused.is) ∙ c.check_sizes-c.ensures)
-    ∙ ap checked (sym (check_pairing_classified (tables_of _ _ _ _ _ _)))
+pub returns-in_err-check_sizes : goal.returns-in_err-check_sizes
+returns-in_err-check_sizes c =
+    let p = err_from_is_err_and c.from_residual.result c.from_residual.ensures.1 in
+    rw (p.1, p.2) (then_stops _ _ c.in_err-check_sizes.ensures ∙ ap checked (sym (check_pairing_classified (tables_of _ _ _ _ _ _))))
 
 pub classify-requires : goal.classify-requires
 classify-requires c = classes_room _ _ c.requires.0
@@ -51,5 +51,5 @@ check_classified-requires c =
 pub returns : goal.returns
 returns c =
     rw (spec-found (goal.at.returns c).After-classify, impl-found (goal.at.returns c).After-classify-2) at c.check_classified.ensures
-    ∙ sym (then_on _ _ (ap checked_answer (sym c.in_default.is) ∙ c.check_sizes-c.ensures))
+    ∙ sym (then_on _ _ c.in_ok-check_sizes.ensures)
     ∙ ap checked (sym (check_pairing_classified (tables_of _ _ _ _ _ _)))

@@ -1,27 +1,27 @@
-use mathlib.Core.Path.{◌≡◌, refl, sym, ap, ◌∙◌}
+use mathlib.Core.Path.{◌≡◌, ap, ◌∙◌}
 use mathlib.Core.List.{◌∷◌}
-use Prim.Native.Nat.{suc, ◌-◌, ◌/◌, ◌<◌}
+use Rattle.std.proofs.lemmas.Result.{err_from_is_err_and}
+use Prim.Native.Nat.{suc, ◌+◌, ◌*◌, ◌/◌, ◌<◌}
 use native.Mathlib.Numerals.{add-one}
 use native.Mathlib.Omega.{arith}
-use lib.ListN.{length, drop, drop_of_length-le}
-use Rattle.model.specs.Limits.{pair_width}
+use lib.ListN.{length, get_or, drop, drop_of_length-le}
+use Rattle.model.specs.Limits.{pair_width, root_stride}
 use Rattle.model.specs.Rows.{pair_rows}
 use Rattle.model.specs.Compare.{lowest_rows}
-use Rattle.model.specs.Answers.{checked_answer}
 use Rattle.depth.specs.Passes.{Within}
 use Rattle.tables.specs.Tables.{pair_at}
 use Rattle.tables.proofs.Rows.{pair_member}
 use Rattle.tables.proofs.Checks.{checked, left_none, left_on, left_stops}
 use Rattle.grouping.specs.Links.{group_count}
-use Rattle.grouping.proofs.Passing.{groups-few, group-there, group-next, pass_start}
-use Rattle.pathlimit.specs.Checks.{check_group}
+use Rattle.grouping.proofs.Passing.{group-there, group-next, pass_start}
+use Rattle.pathlimit.specs.Checks.{check_counts, check_group}
 use Rattle.pathlimit.proofs.Leaves.{within_index, group_checked}
-use Rattle.pathlimit.proofs.check_groups.Goals.{After-check_counts-c, After-group_row-leaf_row, After-spec_node-spec_leaf, In-loop-k}
+use Rattle.pathlimit.proofs.check_groups.Goals.{After-group_total-impl_count, After-group_row-leaf_row, After-spec_node-spec_leaf, In-loop-k}
 use Rattle.pathlimit.proofs.check_groups.Goals as goal
 
 -- the group of a turn is there
 there : (t : In-loop-k) → t.loop-k.k < group_count t.args.links.now
-there t = omega (arith, t.loop-k-test.true, t.group_count-count.ensures)
+there t = omega (arith, t.loop-k-test.true, t.group_count-k-end.ensures)
 
 -- so is its lowest row
 row-there : (g : After-group_row-leaf_row) → g.group_row-leaf_row.result < length g.args.leaf_pairs.now / pair_width
@@ -46,27 +46,14 @@ next g =
     rw g.group_row-leaf_row.ensures (group-next g.requires.sums.linked g.loop-k.k (there (goal.at.spec_node-spec_leaf-requires g).In-loop-k))
 
 -- what the counts of the group say is its check
-group-check : (k : After-check_counts-c)
+group-check : (k : After-group_total-impl_count)
     → let a = k.args in
-    checked_answer k.check_counts-c.result
-    ≡ checked (check_group (pair_rows a.leaf_pairs.now) a.spec_counts.now a.impl_counts.now a.root_row (pair_at a.leaf_pairs.now k.group_row-leaf_row.result))
+    check_counts (a.root_row * root_stride + k.group_row-leaf_row.result) (get_or a.spec_counts.now k.spec_node-spec_leaf.result 0) k.group_total-impl_count.result
+    ≡ check_group (pair_rows a.leaf_pairs.now) a.spec_counts.now a.impl_counts.now a.root_row (pair_at a.leaf_pairs.now k.group_row-leaf_row.result)
 group-check k =
     let a = k.args in
-    k.check_counts-c.ensures
-    ∙ ap checked
-    (group_checked (pair_rows a.leaf_pairs.now) a.spec_counts.now a.impl_counts.now a.root_row (pair_at a.leaf_pairs.now k.group_row-leaf_row.result)
-    k.spec_node-spec_leaf.result k.group_total-impl_count.result k.spec_node-spec_leaf.ensures k.group_total-impl_count.ensures)
-
-pub group_count-count-requires : goal.group_count-count-requires
-group_count-count-requires c = c.requires.sums.linked.room
-
-pub loop-k-init : goal.loop-k-init
-loop-k-init c = refl
-
-pub group_row-leaf_row-requires : goal.group_row-leaf_row-requires
-group_row-leaf_row-requires c =
-    let k = c.requires.sums in
-    omega (arith, there c, groups-few k.linked k.rows, k.linked.room)
+    group_checked (pair_rows a.leaf_pairs.now) a.spec_counts.now a.impl_counts.now a.root_row (pair_at a.leaf_pairs.now k.group_row-leaf_row.result)
+    k.spec_node-spec_leaf.result k.group_total-impl_count.result k.spec_node-spec_leaf.ensures k.group_total-impl_count.ensures
 
 pub spec_node-spec_leaf-requires : goal.spec_node-spec_leaf-requires
 spec_node-spec_leaf-requires c = (omega (arith, row-there c), (within c).low)
@@ -88,23 +75,20 @@ offset_bounds-spec_counts-spec_leaf c = omega (arith, spec-index (goal.at.offset
 pub bounds-spec_counts-spec_leaf : goal.bounds-spec_counts-spec_leaf
 bounds-spec_counts-spec_leaf c = spec-index (goal.at.bounds-spec_counts-spec_leaf c).After-spec_node-spec_leaf
 
-pub returns-in-Refused : goal.returns-in-Refused
-returns-in-Refused c =
-    left_stops _ _ c.loop-k.invariant (next (goal.at.returns-in-Refused c).After-group_row-leaf_row) (ap checked_answer (sym c.in-Refused.is) ∙ group-check (goal.at.returns-in-Refused c).After-check_counts-c)
-
-pub overflow_add-k : goal.overflow_add-k
-overflow_add-k c =
-    let k = c.requires.sums in
-    omega (arith, there (goal.at.overflow_add-k c).In-loop-k, groups-few k.linked k.rows)
-
-pub loop-k-smaller : goal.loop-k-smaller
-loop-k-smaller c = omega (arith, c.loop-k-test.true)
+pub returns-in_err-check_counts : goal.returns-in_err-check_counts
+returns-in_err-check_counts c =
+    let a = c.args in
+    let p = err_from_is_err_and c.from_residual.result c.from_residual.ensures.1 in
+    rw (p.1, p.2)
+    (left_stops (check_group (pair_rows a.leaf_pairs.now) a.spec_counts.now a.impl_counts.now a.root_row) (lowest_rows (pair_rows a.leaf_pairs.now)) c.loop-k.invariant
+    (next (goal.at.returns-in_err-check_counts c).After-group_row-leaf_row)
+    (c.in_err-check_counts.ensures ∙ ap checked (group-check (goal.at.returns-in_err-check_counts c).After-group_total-impl_count)))
 
 pub loop-k-preserved : goal.loop-k-preserved
 loop-k-preserved c =
-    rw add-one (left_on _ _ c.loop-k.invariant (next (goal.at.loop-k-preserved c).After-group_row-leaf_row) (ap checked_answer (sym c.in_default.is) ∙ group-check (goal.at.loop-k-preserved c).After-check_counts-c))
+    rw add-one (left_on _ _ c.loop-k.invariant (next (goal.at.loop-k-preserved c).After-group_row-leaf_row) (c.in_ok-check_counts.ensures ∙ ap checked (group-check (goal.at.loop-k-preserved c).After-group_total-impl_count)))
 
 pub returns : goal.returns
 returns c =
     let linked = c.requires.sums.linked in
-    left_none _ _ c.loop-k.invariant (drop_of_length-le (lowest_rows (pair_rows c.args.leaf_pairs.now)) {i = c.loop-k.k} (omega (arith, c.loop-k-test.false, c.group_count-count.ensures, linked.count)))
+    left_none _ _ c.loop-k.invariant (drop_of_length-le (lowest_rows (pair_rows c.args.leaf_pairs.now)) {i = c.loop-k.k} (omega (arith, c.loop-k-test.false, c.group_count-k-end.ensures, linked.count)))

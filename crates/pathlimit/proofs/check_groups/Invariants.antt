@@ -1,5 +1,4 @@
--- The invariant: the first refusal of all groups is that of the groups from the next on. The measure is the groups left.
-use Prim.Native.Nat.{◌-◌}
+-- The invariant: the first refusal of all groups is that of the groups from the next on.
 use lib.ListN.{drop}
 use Rattle.model.specs.Rows.{pair_rows}
 use Rattle.model.specs.Compare.{lowest_rows}
@@ -10,6 +9,3 @@ use Rattle.pathlimit.proofs.check_groups.Given as goal
 abbrev pub invariant-loop-k : goal.invariant-loop-k
 invariant-loop-k l =
     Left (check_group (pair_rows l.leaf_pairs) l.spec_counts l.impl_counts l.root_row) (lowest_rows (pair_rows l.leaf_pairs)) (drop l.k (lowest_rows (pair_rows l.leaf_pairs)))
-
-abbrev pub decreases-loop-k : goal.decreases-loop-k
-decreases-loop-k l = l.count - l.k

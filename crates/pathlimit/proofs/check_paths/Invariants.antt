@@ -1,8 +1,6 @@
--- Where neither plan has an edge no pair is refused. The invariant: the first refusal of all root rows is that of the rows from the next on, and the
--- counts keep their sizes. The measure is the rows left.
-use mathlib.Core.Path.{◌≡◌}
-use Prim.Native.Nat.{◌*◌, ◌-◌}
-use lib.ListN.{length, drop}
+-- Where neither plan has an edge no pair is refused. The invariant: the first refusal of all root rows is that of the rows from the next on.
+use Prim.Native.Nat.{◌*◌}
+use lib.ListN.{drop}
 use Rattle.model.specs.Limits.{pair_width}
 use Rattle.model.specs.Rows.{pairs_from, pair_rows}
 use Rattle.tables.proofs.Checks.{Left}
@@ -12,10 +10,5 @@ use Rattle.pathlimit.proofs.check_paths.Given as goal
 
 abbrev pub invariant-loop-root_row : goal.invariant-loop-root_row
 invariant-loop-root_row l =
-    (length l.spec_counts ≡ length l.initial.spec_counts) × (length l.impl_counts ≡ length l.initial.impl_counts)
-    × Left (check_row (tables_of l.spec_nodes l.spec_edges l.impl_nodes l.impl_edges l.root_pairs l.leaf_pairs)) (pair_rows l.root_pairs)
+    Left (check_row (tables_of l.spec_nodes l.spec_edges l.impl_nodes l.impl_edges l.root_pairs l.leaf_pairs)) (pair_rows l.root_pairs)
     (pairs_from l.root_row (drop (pair_width * l.root_row) l.root_pairs))
-
-abbrev pub decreases-loop-root_row : goal.decreases-loop-root_row
-decreases-loop-root_row l =
-    l.count - l.root_row

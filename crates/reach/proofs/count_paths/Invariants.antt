@@ -1,10 +1,6 @@
--- `reach::count_paths` meets its contract. The invariant is Passed; the measure is the edges left.
-use Prim.Native.Nat.{◌-◌}
+-- The invariant is Passed.
 use Rattle.reach.proofs.Pass.{Passed}
 use Rattle.reach.proofs.count_paths.Given as goal
 
-abbrev pub invariant-loop-i : goal.invariant-loop-i
-invariant-loop-i l = Passed l.nodes l.edges l.order l.leaf l.initial.counts l.counts l.i
-
-abbrev pub decreases-loop-i : goal.decreases-loop-i
-decreases-loop-i l = l.count - l.i
+abbrev pub invariant-loop-e : goal.invariant-loop-e
+invariant-loop-e l = Passed l.nodes l.edges l.order l.leaf l.initial.counts l.counts l.e-index

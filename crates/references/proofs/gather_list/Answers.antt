@@ -1,5 +1,5 @@
 use mathlib.Core.Path.{subst}
-use Prim.Native.Nat.{◌-◌, ◌<◌}
+use Prim.Native.Nat.{◌<◌}
 use native.Mathlib.Omega.{arith}
 use lib.IntN.{ℤ}
 use Rattle.references.specs.References.{Parted}
@@ -32,9 +32,6 @@ append_cut-m-requires c =
     let h = inside (goal.at.append_cut-m-requires c).In-loop-i in
     (gathering-before p g h, gathering-room p g h, p.small, gathering-within p g h)
 
-pub loop-i-smaller : goal.loop-i-smaller
-loop-i-smaller c = omega arith
-
 pub loop-i-preserved : goal.loop-i-preserved
 loop-i-preserved c =
     gathering-next c.requires c.loop-i.invariant (inside (goal.at.loop-i-preserved c).In-loop-i) c.append_cut-m.ensures
@@ -47,4 +44,4 @@ returns c =
     let s = c.args in
     let end = c.rows_below-end.result in
     gathering_upto c.requires c.loop-i.invariant
-    (subst (λ (d : ℤ). Parted s.state.now s.row s.count d end end) c.reaching-span.ensures.1 c.rows_below-end.ensures) c.loop-i-test.false
+    (subst (λ (d : ℤ). Parted s.state.now s.row s.count d end end) c.reaching-span.ensures.1 c.rows_below-end.ensures) (omega arith)

@@ -2,16 +2,16 @@
 use mathlib.Core.Path.{sym, subst}
 use native.Mathlib.Omega.{arith}
 use Rattle.refusals.specs.Small.{refusal_numbers, last_of_sheet, SmallRefusal}
-use Rattle.refusals.proofs.put_reason.Goals.{After-refusal_numbers-refusal}
+use Rattle.refusals.proofs.put_reason.Goals.{After-from-number}
 use Rattle.refusals.proofs.put_reason.Goals as goal
 
-small : (n : After-refusal_numbers-refusal) → SmallRefusal last_of_sheet (refusal_numbers n.refusal_numbers-refusal.result)
-small n = subst (SmallRefusal last_of_sheet) (sym n.refusal_numbers-refusal.ensures) n.requires.1
+small : (n : After-from-number) → SmallRefusal last_of_sheet (refusal_numbers n.from-number.result)
+small n = subst (SmallRefusal last_of_sheet) (sym n.from-number.ensures) n.requires.1
 
 pub put_refusal-requires : goal.put_refusal-requires
 put_refusal-requires c =
-    let s = small (goal.at.put_refusal-requires c).After-refusal_numbers-refusal in
+    let s = small (goal.at.put_refusal-requires c).After-from-number in
     (c.requires.0, omega (arith, s.number), omega (arith, s.table), omega (arith, s.row))
 
 pub returns : goal.returns
-returns c = rw c.refusal_numbers-refusal.ensures at c.put_refusal.ensures
+returns c = rw c.from-number.ensures at c.put_refusal.ensures

@@ -11,8 +11,8 @@ returns-then-left-eq0 t c = sym (ap length (digits-none c.args.left c.args.v (om
 pub overflow_add-result : goal.overflow_add-result
 overflow_add-result t c = omega (arith, c.digits_length.ensures, digits-short (c.args.left - 1) (c.args.v / 10))
 
-pub returns-then-v-ge10 : goal.returns-then-v-ge10
-returns-then-v-ge10 t c = omega (arith, c.digits_length.ensures, digits-more_length c.args.left c.args.v c.if-left-eq0.false (omega arith))
+pub returns-else-v-lt10 : goal.returns-else-v-lt10
+returns-else-v-lt10 t c = omega (arith, c.digits_length.ensures, digits-more_length c.args.left c.args.v c.if-left-eq0.false (omega arith))
 
-pub returns : goal.returns
-returns t c = sym (ap length (digits_one c.args.left c.args.v c.if-left-eq0.false (omega arith)))
+pub returns-then-v-lt10 : goal.returns-then-v-lt10
+returns-then-v-lt10 t c = sym (ap length (digits_one c.args.left c.args.v c.if-left-eq0.false (omega arith)))

@@ -19,7 +19,7 @@ returns-then-place-eq0 c =
 pub overflow_add-result : goal.overflow_add-result
 overflow_add-result c = omega (arith, counted (goal.at.overflow_add-result c).After-number_length-n, shown-short c.args.v)
 
-pub returns : goal.returns
-returns c =
+pub returns-else-place-eq0 : goal.returns-else-place-eq0
+returns-else-place-eq0 c =
     let s = c.args in
-    omega (arith, counted (goal.at.returns c).After-number_length-n, ap length (field_later s.place s.v c.if-place-eq0.false))
+    omega (arith, counted (goal.at.returns-else-place-eq0 c).After-number_length-n, ap length (field_later s.place s.v c.if-place-eq0.false))

@@ -1,6 +1,5 @@
 use mathlib.Core.Path.{◌≡◌, refl, subst, ◌∙◌, sym}
-use mathlib.Core.Bool.{true}
-use Prim.Native.Nat.{ℕ, ◌-◌, ◌*◌, ◌≤◌, ◌<◌}
+use Prim.Native.Nat.{ℕ, ◌*◌, ◌≤◌, ◌<◌}
 use native.Mathlib.Omega.{arith}
 use lib.ListN.{length}
 use Rattle.model.specs.declared.WalkKind.TheVariants.{Reading, Writing}
@@ -26,10 +25,10 @@ few l = l.requires.ready.inputs.leaf_shape.few
 
 -- the group of a turn is there
 there : (c : In-loop-group) → c.loop-group.group < group_count c.args.links.now
-there c = omega (arith, c.loop-group-test.true, c.group_count-count.ensures)
+there c = omega (arith, c.loop-group-test.true, c.group_count-group-end.ensures)
 
-pub group_count-count-requires : goal.group_count-count-requires
-group_count-count-requires c = c.requires.ready.linked.room
+pub group_count-group-end-requires : goal.group_count-group-end-requires
+group_count-group-end-requires c = c.requires.ready.linked.room
 
 pub loop-group-init : goal.loop-group-init
 loop-group-init c = (λ t k a b. (λ e kind group h. absurd (omega arith), λ fs p. record { fs = fs; kept = p; split = refl }), λ a. a, refl)
@@ -59,13 +58,6 @@ with_pair-kept-requires c =
       written = b.1;
     }
 
-pub overflow_add-group : goal.overflow_add-group
-overflow_add-group c =
-    omega (arith, there (goal.at.overflow_add-group c).In-loop-group, groups-few (linked (goal.at.overflow_add-group c).At-loop-group) (few (goal.at.overflow_add-group c).At-loop-group))
-
-pub loop-group-smaller : goal.loop-group-smaller
-loop-group-smaller c = omega (arith, c.loop-group-test.true)
-
 pub loop-group-preserved : goal.loop-group-preserved
 loop-group-preserved c =
     let a = c.args in (
@@ -88,5 +80,5 @@ shape_of-lines c = c.loop-group.invariant.2
 
 pub returns : goal.returns
 returns c t k read written fs p =
-    pairs-passed t k.linked c.args.root_row c.loop-group.group (omega (arith, c.loop-group-test.false, c.group_count-count.ensures))
+    pairs-passed t k.linked c.args.root_row c.loop-group.group (omega (arith, c.loop-group-test.false, c.group_count-group-end.ensures))
     ((c.loop-group.invariant.0 t k read written).1 fs p)

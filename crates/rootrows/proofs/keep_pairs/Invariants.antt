@@ -1,9 +1,8 @@
 -- The invariant, whichever the tables: the findings that were kept, with those of the groups passed and those that are left, are kept findings and those of the row; where an
--- address is still asked for, one was where the function begins, and the pairs passed are equal. The measure is what is left of the groups.
+-- address is still asked for, one was where the function begins, and the pairs passed are equal.
 use mathlib.Core.Path.{◌≡◌}
 use mathlib.Core.Bool.{true}
 use mathlib.Core.List.{List, ◌++◌}
-use Prim.Native.Nat.{◌-◌}
 use lib.ListN.{length}
 use Rattle.model.specs.declared.WalkKind.{WalkKind}
 use Rattle.model.specs.declared.WalkKind.TheVariants.{Reading, Writing}
@@ -21,6 +20,3 @@ invariant-loop-group l =
     × ((fs : List Finding) → KeptOf fs l.initial.lines l.initial.kept → Passed (fs ++ row_findings t l.root_row) (pairs_left t l.root_row l.group) l.lines l.kept))
     × (is_asked l.kept ≡ true → is_asked l.initial.kept ≡ true)
     × (length l.lines ≡ length l.initial.lines)
-
-abbrev pub decreases-loop-group : goal.decreases-loop-group
-decreases-loop-group l = l.count - l.group

@@ -1,7 +1,6 @@
 use mathlib.Core.Path.{refl, sym, subst, ◌∙◌}
-use mathlib.Core.Bool.{true}
 use mathlib.Core.List.{List}
-use Prim.Native.Nat.{ℕ, ◌+◌, ◌-◌, ◌*◌, ◌≤◌, ◌<◌}
+use Prim.Native.Nat.{ℕ, ◌+◌, ◌*◌, ◌≤◌, ◌<◌}
 use native.Mathlib.Omega.{arith}
 use lib.IntN.{ℤ}
 use lib.ListN.{length}
@@ -27,7 +26,7 @@ linked l = l.requires.ready.ready.plans.linked
 
 -- the group of a turn is there
 there : (c : In-loop-group) → c.loop-group.group < group_count c.args.links.now
-there c = omega (arith, c.loop-group-test.true, c.group_count-count.ensures)
+there c = omega (arith, c.loop-group-test.true, c.group_count-group-end.ensures)
 
 -- the pairs of the row can be found at each turn
 ready : (l : At-loop-group) → let a = l.args in
@@ -40,8 +39,8 @@ room : (c : In-loop-group) → held_width * c.loop-group.group + held_width ≤ 
 room c =
     omega (arith, there c, groups-few (linked (goal.at.group_row-lowest-requires c).At-loop-group) c.requires.ready.ready.plans.inputs.leaf_shape.few, c.requires.room, c.loop-group.invariant.1)
 
-pub group_count-count-requires : goal.group_count-count-requires
-group_count-count-requires c = c.requires.ready.ready.plans.linked.room
+pub group_count-group-end-requires : goal.group_count-group-end-requires
+group_count-group-end-requires c = c.requires.ready.ready.plans.linked.room
 
 pub loop-group-init : goal.loop-group-init
 loop-group-init c = (λ kind roots i k. (k, λ group h. absurd (omega arith), λ a b. a), refl)
@@ -65,13 +64,6 @@ pair_found-found-requires c =
 pub hold-requires : goal.hold-requires
 hold-requires c =
     (room (goal.at.hold-requires c).In-loop-group, (c.pair_found-found.ensures _ _ _ (ready (goal.at.hold-requires c).At-loop-group)).few)
-
-pub overflow_add-group : goal.overflow_add-group
-overflow_add-group c =
-    omega (arith, there (goal.at.overflow_add-group c).In-loop-group, groups-few (linked (goal.at.overflow_add-group c).At-loop-group) c.requires.ready.ready.plans.inputs.leaf_shape.few)
-
-pub loop-group-smaller : goal.loop-group-smaller
-loop-group-smaller c = omega (arith, c.loop-group-test.true)
 
 pub loop-group-preserved : goal.loop-group-preserved
 loop-group-preserved c =
@@ -102,4 +94,4 @@ shape_of-held c = c.loop-group.invariant.1
 
 pub returns : goal.returns
 returns c kind roots i k group h =
-    (c.loop-group.invariant.0 kind roots i k).1 group (omega (arith, h, c.loop-group-test.false, c.group_count-count.ensures))
+    (c.loop-group.invariant.0 kind roots i k).1 group (omega (arith, h, c.loop-group-test.false, c.group_count-group-end.ensures))

@@ -1,8 +1,8 @@
--- The invariant, whichever the kind and the root row: its pairs can be found, and what is found of the groups passed is held. The measure is what is left of the groups.
+-- The invariant, whichever the kind and the root row: its pairs can be found, and what is found of the groups passed is held.
 use mathlib.Core.Path.{◌≡◌}
 use mathlib.Core.Bool.{true}
 use mathlib.Core.List.{List}
-use Prim.Native.Nat.{ℕ, ◌-◌}
+use Prim.Native.Nat.{ℕ}
 use lib.IntN.{ℤ}
 use lib.ListN.{length}
 use Rattle.model.specs.declared.WalkKind.{WalkKind}
@@ -20,6 +20,3 @@ invariant-loop-group l =
     × HeldGroups kind (t roots) i l.links l.asked l.held l.group
     × (l.asked ≡ true → EqualBefore kind (t roots) i l.links l.group → l.wanted ≡ true))
     × (length l.held ≡ length l.initial.held)
-
-abbrev pub decreases-loop-group : goal.decreases-loop-group
-decreases-loop-group l = l.count - l.group

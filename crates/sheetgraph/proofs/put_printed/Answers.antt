@@ -10,7 +10,7 @@ use Rattle.model.specs.SheetCall.{sheet_gives}
 use Rattle.refusals.proofs.Sheets.{sheet_small}
 use Rattle.sheetgraph.proofs.Printing.{TablesPrinted, tables-printed, refusal-printed}
 use Rattle.sheetgraph.proofs.put_printed.Goals as goal
-use Rattle.sheetgraph.proofs.put_printed.Goals.{In-Tables, In-Refused}
+use Rattle.sheetgraph.proofs.put_printed.Goals.{In-Ok, In-Err}
 
 -- the buffers of the tables, as they are lent
 abbrev ns₀ : List ℤ
@@ -26,28 +26,28 @@ edges_room : length es₀ ≡ edge_width * max_edges
 edges_room = length-replicate {A = ℤ} (edge_width * max_edges) (pos 0)
 
 -- the tables that were read
-tables : (c : In-Tables) → TablesPrinted c.args.text.now c.read_sheet-read.new.nodes c.read_sheet-read.new.edges (record { nodes = c.in-Tables.sizes.nodes; edges = c.in-Tables.sizes.edges })
+tables : (c : In-Ok) → TablesPrinted c.args.text.now c.read_sheet.new.nodes c.read_sheet.new.edges (record { nodes = c.in-Ok.sizes.nodes; edges = c.in-Ok.sizes.edges })
 tables c =
     tables-printed c.args.text.now ns₀ es₀ nodes-room edges_room
-    (ap sheet_read_answer (sym c.in-Tables.is) ∙ c.read_sheet-read.ensures.answer) c.read_sheet-read.ensures.nodes c.read_sheet-read.ensures.edges
+    (ap sheet_read_answer (sym c.in-Ok.is) ∙ c.read_sheet.ensures.answer) c.read_sheet.ensures.nodes c.read_sheet.ensures.edges
 
 pub put_tables-requires : goal.put_tables-requires
 put_tables-requires c =
-    let t = tables (goal.at.put_tables-requires c).In-Tables in
+    let t = tables (goal.at.put_tables-requires c).In-Ok in
     (t.node_table.within, t.edge_table.within, rw (t.node_table.front, t.edge_table.front) (omega (arith, t.room, c.requires)))
 
 -- the refusal that was given
-told : (c : In-Refused) → refused (refusal_of c.in-Refused.reason) ≡ sheet_gives c.args.text.now ns₀ es₀
-told c = ap sheet_read_answer (sym c.in-Refused.is) ∙ c.read_sheet-read.ensures.answer
+told : (c : In-Err) → refused (refusal_of c.in-Err.reason) ≡ sheet_gives c.args.text.now ns₀ es₀
+told c = ap sheet_read_answer (sym c.in-Err.is) ∙ c.read_sheet.ensures.answer
 
 pub put_reason-requires : goal.put_reason-requires
-put_reason-requires c = (omega (arith, c.requires), sheet_small c.args.text.now ns₀ es₀ (told (goal.at.put_reason-requires c).In-Refused))
+put_reason-requires c = (omega (arith, c.requires), sheet_small c.args.text.now ns₀ es₀ (told (goal.at.put_reason-requires c).In-Err))
 
-pub returns-in-Tables : goal.returns-in-Tables
-returns-in-Tables c =
-    let t = tables (goal.at.returns-in-Tables c).In-Tables in
+pub returns-in-Ok : goal.returns-in-Ok
+returns-in-Ok c =
+    let t = tables (goal.at.returns-in-Ok c).In-Ok in
     rw t.printed (rw (t.node_table.front, t.edge_table.front) at c.put_tables.ensures)
 
-pub returns-in-Refused : goal.returns-in-Refused
-returns-in-Refused c =
-    rw (refusal-printed c.args.text.now ns₀ es₀ nodes-room edges_room (told (goal.at.returns-in-Refused c).In-Refused)) c.put_reason.ensures
+pub returns-in-Err : goal.returns-in-Err
+returns-in-Err c =
+    rw (refusal-printed c.args.text.now ns₀ es₀ nodes-room edges_room (told (goal.at.returns-in-Err c).In-Err)) c.put_reason.ensures

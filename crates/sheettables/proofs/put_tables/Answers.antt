@@ -1,11 +1,10 @@
 -- Rows, lengths and tables are those of the sheet, by the laws of Tables and Answers.
-use mathlib.Core.Path.{◌≡◌, sym, ap, ◌∙◌}
-use mathlib.Core.Bool.{false}
+use mathlib.Core.Path.{◌≡◌, sym, ap}
+use mathlib.Core.Logic.{inl, inr, ⊎_elim}
 use mathlib.Core.List.{List}
 use Prim.Native.Nat.{◌+◌, ◌*◌, ◌≤◌}
 use native.Mathlib.Omega.{arith}
 use lib.ListN.{length, length-append}
-use lib.Seq.{sets}
 use Rattle.model.specs.Limits.{node_width, sheet_numbers}
 use Rattle.model.specs.Graph.{space, block}
 use Rattle.model.specs.Sheet.{SheetLine, sheet_nodes, sheet_edges}
@@ -15,8 +14,8 @@ use Rattle.sheettables.proofs.Stores.{sets_behind}
 use Rattle.sheettables.proofs.Present.{present_length}
 use Rattle.sheettables.proofs.Lines.{lines-numbered}
 use Rattle.sheettables.proofs.Tables.{nodes_tabled, nodes_tabled_length, edges_tabled, edges_tabled_length, rows-within}
-use Rattle.sheettables.proofs.Answers.{is_long, made-long, made-full, tables-fit, refusal_left, tables_left}
-use Rattle.sheettables.proofs.put_tables.Goals.{After-is_long, After-number_rows-initiators, After-put_edges, Else-is_long}
+use Rattle.sheettables.proofs.Answers.{made-long, made-full, refusal_left, tables_left}
+use Rattle.sheettables.proofs.put_tables.Goals.{After-number_rows-initiators, After-number_rows-rows, Else-nodes-size}
 use Rattle.sheettables.proofs.put_tables.Goals as goal
 
 -- the initiators have at most as many rows as there are numbers
@@ -30,47 +29,36 @@ pub overflow_mul-size : goal.overflow_mul-size
 overflow_mul-size c =
     omega (arith, c.number_rows-rows.ensures.behind, first-within (goal.at.overflow_mul-size c).After-number_rows-initiators, present_length c.args.sizes.now sheet_numbers)
 
--- behind the test of the lengths
-module _ (k : After-is_long) where
-  module _ {ls : List SheetLine} (t : Tabled ls k.args.lines.now k.args.spaces.now k.args.sizes.now) where
-    -- as many node rows as were numbered
-    node-numbers : node_width * k.number_rows-rows.result ≡ length (sheet_nodes ls)
-    node-numbers = omega (arith, nodes_tabled_length t, k.number_rows-rows.ensures.behind, k.number_rows-initiators.ensures.behind)
+-- as many node rows as were numbered
+node-numbers : (k : After-number_rows-rows) {ls : List SheetLine} → Tabled ls k.args.lines.now k.args.spaces.now k.args.sizes.now
+    → node_width * k.number_rows-rows.result ≡ length (sheet_nodes ls)
+node-numbers k t = omega (arith, nodes_tabled_length t, k.number_rows-rows.ensures.behind, k.number_rows-initiators.ensures.behind)
 
-    -- the test is that of the tables of the sheet
-    long_same : is_long ls (length k.args.nodes.now) (length k.args.edges.now) ≡ k.is_long.result
-    long_same = cc (node-numbers, edges_tabled_length t, k.is_long.ensures)
-
-  -- where it fails, both tables have room
-  fit : k.is_long.result ≡ false
-      → (length (sheet_nodes k.requires.0) ≤ length k.args.nodes.now) × (length (sheet_edges k.requires.0) ≤ length k.args.edges.now)
-  fit e = tables-fit k.requires.0 (length k.args.nodes.now) (length k.args.edges.now) (long_same k.requires.1 ∙ e)
-
-pub returns-then-is_long : goal.returns-then-is_long
-returns-then-is_long c =
-    let k = (goal.at.returns-then-is_long c).After-is_long in
+pub returns-then-nodes-size : goal.returns-then-nodes-size
+returns-then-nodes-size c =
+    let k = (goal.at.returns-then-nodes-size c).After-number_rows-rows in
     let a = c.args in
     λ ls t. refusal_left a.nodes.now a.edges.now
-    (made-long ls (length a.nodes.now) (length a.edges.now) t.few (long_same k t ∙ c.if-is_long.true))
+    (made-long ls (length a.nodes.now) (length a.edges.now) t.few
+    (⊎_elim (λ h. inl (omega (arith, h, node-numbers k t))) (λ w. inr (omega (arith, w.1, edges_tabled_length t))) c.then-nodes-size.either))
 
--- where neither table is long, the node rows of the initiators and, behind them, those of the blocks have room
-nodes-fit : (e : Else-is_long) → let a = e.args in
+-- where the node table is not long, the node rows of the initiators and, behind them, those of the blocks have room
+nodes-fit : (e : Else-nodes-size) → let a = e.args in
     length (nodes_of space a.spaces.now sheet_numbers) + length (nodes_of block a.sizes.now sheet_numbers) ≤ length a.nodes.now
 nodes-fit e =
     let a = e.args in
     omega (
       arith,
-      (fit (goal.at.Else-is_long e).After-is_long e.if-is_long.false).0,
+      node-numbers (goal.at.Else-nodes-size e).After-number_rows-rows e.requires.1,
       ap length (nodes_tabled e.requires.1),
       length-append (nodes_of space a.spaces.now sheet_numbers) (nodes_of block a.sizes.now sheet_numbers),
     )
 
 pub put_nodes-next-requires : goal.put_nodes-next-requires
-put_nodes-next-requires c = (c.requires.1.spaces.whole, omega (arith, nodes-fit (goal.at.put_nodes-next-requires c).Else-is_long))
+put_nodes-next-requires c = (c.requires.1.spaces.whole, omega (arith, nodes-fit (goal.at.put_nodes-next-requires c).Else-nodes-size))
 
 pub put_nodes-requires : goal.put_nodes-requires
-put_nodes-requires c =
-    (c.requires.1.sizes.whole, omega (arith, nodes-fit (goal.at.put_nodes-requires c).Else-is_long, c.put_nodes-next.ensures.next, c.put_nodes-next.auto.nodes))
+put_nodes-requires c = (c.requires.1.sizes.whole, omega (arith, nodes-fit (goal.at.put_nodes-requires c).Else-nodes-size, c.put_nodes-next.ensures.next))
 
 pub put_edges-requires : goal.put_edges-requires
 put_edges-requires c =
@@ -80,28 +68,17 @@ put_edges-requires c =
       lines-numbered t.good t.lines,
       rows-within (omega arith) r.auto.rows r.ensures,
       rows-within (first-within (goal.at.put_edges-requires c).After-number_rows-initiators) l.auto.rows l.ensures,
-      omega (arith, (fit (goal.at.put_edges-requires c).After-is_long c.if-is_long.false).1, edges_tabled_length t),
+      omega arith,
     )
-
--- behind the last part
-module _ (q : After-put_edges) {ls : List SheetLine} (t : Tabled ls q.args.lines.now q.args.spaces.now q.args.sizes.now) where
-  -- the node table stands at the front of its buffer
-  nodes-stand : q.put_nodes.new.nodes ≡ sets q.args.nodes.now 0 (sheet_nodes ls)
-  nodes-stand =
-      rw (nodes_tabled t)
-      (sets_behind q.args.nodes.now 0 (nodes_of space q.args.spaces.now sheet_numbers) (nodes_of block q.args.sizes.now sheet_numbers)
-      q.put_nodes-next.ensures.nodes q.put_nodes-next.ensures.next q.put_nodes.ensures.nodes)
-
-  -- so does the edge table
-  edges-stand : q.put_edges.new.edges ≡ sets q.args.edges.now 0 (sheet_edges ls)
-  edges-stand = rw (edges_tabled t q.number_rows-initiators.ensures q.number_rows-rows.ensures) q.put_edges.ensures
 
 pub returns : goal.returns
 returns c =
-    let k = (goal.at.returns c).After-is_long in
-    let q = (goal.at.returns c).After-put_edges in
     let a = c.args in
-    λ ls t. let short = long_same k t ∙ c.if-is_long.false in
-    let room = tables-fit ls (length a.nodes.now) (length a.edges.now) short in
-    tables_left (made-full ls (length a.nodes.now) (length a.edges.now) t.few short) (node-numbers k t) (sym (edges_tabled_length t))
-    room.0 room.1 (nodes-stand q t) (edges-stand q t)
+    λ ls t. let numbers = node-numbers (goal.at.returns c).After-number_rows-rows t in
+    let nodes : length (sheet_nodes ls) ≤ length a.nodes.now = omega (arith, numbers) in
+    let edges : length (sheet_edges ls) ≤ length a.edges.now = omega (arith, edges_tabled_length t) in
+    tables_left (made-full ls (length a.nodes.now) (length a.edges.now) t.few nodes edges) numbers (sym (edges_tabled_length t)) nodes edges
+    (rw (nodes_tabled t)
+    (sets_behind a.nodes.now 0 (nodes_of space a.spaces.now sheet_numbers) (nodes_of block a.sizes.now sheet_numbers)
+    c.put_nodes-next.ensures.nodes c.put_nodes-next.ensures.next c.put_nodes.ensures.nodes))
+    (rw (edges_tabled t c.number_rows-initiators.ensures c.number_rows-rows.ensures) c.put_edges.ensures)

@@ -1,77 +1,49 @@
 -- The values of the line, and its side or role.
-use mathlib.Core.Path.{sym, ap, subst, ◌∙◌}
-use mathlib.Core.List.{List}
-use Prim.Native.Nat.{◌≤◌}
+use Rattle.std.specs.Prelude.{Some}
+use mathlib.Core.Path.{◌≡◌, ap}
+use mathlib.Core.Logic.{◌≢◌}
 use native.Mathlib.Omega.{arith}
-use borrow.Author.Rules.{sfits_of}
-use lib.IntN.{ℤ}
-use lib.ListN.{length, drop}
+use borrow.Author.Rules.{rules}
+use lib.ListN.{drop}
 use mir.Syntax.{w64}
-use mir.Val.{to_z, of_z}
-use mir.Facts.{to_z-of_z}
-use Rattle.cursor.specs.declared.Line.{Line}
-use Rattle.cursor.specs.Given.{LineGiven}
-use Rattle.sides.specs.Given.{row_room, Clear}
-use Rattle.sides.proofs.RowLines.{clear_kept, line-broken, row_first, row-second, row_keyless}
-use Rattle.sides.proofs.read_row.Goals.{After-read_line-line}
+use mir.Val.{SFits, of_z}
+use Rattle.integers.proofs.Range.{fits64, bits-same}
+use Rattle.sides.specs.declared.Side.{Side}
+use Rattle.sides.specs.declared.Side.TheVariants.{First, Second}
+use Rattle.sides.specs.Given.{Clear, side_number, RowGiven}
+use Rattle.sides.proofs.RowLines.{row_key, clear_kept, line-broken, row_sided, row_keyless}
+use Rattle.sides.proofs.read_row.Goals.{After-read_line, In_ok-next}
 use Rattle.sides.proofs.read_row.Goals as goal
 
--- the row after the line is read
-abbrev rowAfter : After-read_line-line → List ℤ
-rowAfter k = k.read_line-line.new.row
+-- the row after the line is read: behind the values it has 0 as before
+clear : (k : After-read_line) → Clear k.args.cs k.read_line.new.row
+clear k = clear_kept k.args.cs k.args.row.now k.read_line.new.row k.requires.3 k.read_line.ensures.rest
 
-room : (k : After-read_line-line) → row_room ≤ length (rowAfter k)
-room k = omega (arith, k.requires.2, k.read_line-line.auto.row)
+pub returns-in_err-next-clause-row : goal.returns-in_err-next-clause-row
+returns-in_err-next-clause-row c =
+    rw c.from_residual.ensures (line-broken c.requires.1 (drop c.args.from.at c.args.text.now) c.in_err-next.ensures.line)
 
--- behind the values it has 0 as before
-clear : (k : After-read_line-line) → Clear k.args.cs (rowAfter k)
-clear k = clear_kept k.args.cs k.args.row.now (rowAfter k) k.requires.3 k.read_line-line.ensures.rest
+-- a row whose side or role is written as 0 or 1
+given : (v : In_ok-next) (side : Side) → row_key v.args.cs v.read_line.new.row ≡ side_number side
+    → RowGiven v.args.text.now v.args.from v.args.cs v.read_line.new.row (Some (side, v.in_ok-next.next))
+given v side e =
+    let k = (goal.at.In_ok-next v).After-read_line in
+    (row_sided v.requires.1 (drop v.args.from.at v.args.text.now) v.read_line.new.row (omega arith) (clear k) v.in_ok-next.ensures.line.0 side e, v.in_ok-next.ensures.line.1)
 
--- what reading the line gives
-abbrev Given : After-read_line-line → Line → Type 0
-Given k = let s = k.args in LineGiven s.text.now s.from s.cs.fields (rowAfter k)
+pub returns-in-0-clause-row : goal.returns-in-0-clause-row
+returns-in-0-clause-row c =
+    let fits : SFits w64 (row_key c.args.cs c.read_line.new.row) = search rules in
+    let key : of_z w64 (row_key c.args.cs c.read_line.new.row) ≡ 0 = search rules in
+    given (goal.at.returns-in-0-clause-row c).In_ok-next First (bits-same fits (fits64 (omega arith, omega arith)) key)
 
-pub returns-in_default : goal.returns-in_default
-returns-in_default c =
-    let k = (goal.at.returns-in_default c).After-read_line-line in
-    record {
-      row = line-broken c.requires.1 (drop c.args.from.at c.args.text.now) (subst (Given k) c.in_default.is c.read_line-line.ensures.line);
-      clear = clear k;
-    }
+pub returns-in-1-clause-row : goal.returns-in-1-clause-row
+returns-in-1-clause-row c =
+    let fits : SFits w64 (row_key c.args.cs c.read_line.new.row) = search rules in
+    let key : of_z w64 (row_key c.args.cs c.read_line.new.row) ≡ 1 = search rules in
+    given (goal.at.returns-in-1-clause-row c).In_ok-next Second (bits-same fits (fits64 (omega arith, omega arith)) key)
 
-pub offset_bounds-row-at : goal.offset_bounds-row-at
-offset_bounds-row-at c =
-    omega (arith, c.requires.1.within 0 (omega (arith, c.requires.1.several)), c.requires.1.few_fields)
-
-pub slice_copy_out-key : goal.slice_copy_out-key
-slice_copy_out-key c =
-    omega (arith, c.requires.1.within 0 (omega (arith, c.requires.1.several)), c.requires.1.few_fields, c.requires.2, c.read_line-line.auto.row)
-
-pub returns-then-key-eq0 : goal.returns-then-key-eq0
-returns-then-key-eq0 c =
-    let k = (goal.at.returns-then-key-eq0 c).After-read_line-line in
-    let given = subst (Given k) c.in-Values.is c.read_line-line.ensures.line in
-    let key = sym (to_z-of_z (sfits_of {w = w64} c.key-1.given)) ∙ ap (to_z w64) c.if-key-eq0.true in
-    record {
-      row = (row_first c.requires.1 (drop c.args.from.at c.args.text.now) (rowAfter k) (room k) (clear k) given.0 key, given.1);
-      clear = clear k;
-    }
-
-pub returns-then-key-eq1 : goal.returns-then-key-eq1
-returns-then-key-eq1 c =
-    let k = (goal.at.returns-then-key-eq1 c).After-read_line-line in
-    let given = subst (Given k) c.in-Values.is c.read_line-line.ensures.line in
-    let key = sym (to_z-of_z (sfits_of {w = w64} c.key-1.given)) ∙ ap (to_z w64) c.if-key-eq1.true in
-    record {
-      row = (row-second c.requires.1 (drop c.args.from.at c.args.text.now) (rowAfter k) (room k) (clear k) given.0 key, given.1);
-      clear = clear k;
-    }
-
-pub returns : goal.returns
-returns c =
-    let k = (goal.at.returns c).After-read_line-line in
-    let given = subst (Given k) c.in-Values.is c.read_line-line.ensures.line in record {
-      row = row_keyless c.requires.1 (drop c.args.from.at c.args.text.now) (rowAfter k) (room k) (clear k) given.0
-          (λ e. c.if-key-eq0.false (ap (of_z w64) e)) (λ e. c.if-key-eq1.false (ap (of_z w64) e));
-      clear = clear k;
-    }
+pub returns-in_default-clause-row : goal.returns-in_default-clause-row
+returns-in_default-clause-row c =
+    let key : (of_z w64 (row_key c.args.cs c.read_line.new.row) ≢ 0) × (of_z w64 (row_key c.args.cs c.read_line.new.row) ≢ 1) = search rules in
+    row_keyless c.requires.1 (drop c.args.from.at c.args.text.now) c.read_line.new.row (omega arith) (clear (goal.at.returns-in_default-clause-row c).After-read_line)
+    c.in_ok-next.ensures.line.0 (λ e. key.0 (ap (of_z w64) e)) (λ e. key.1 (ap (of_z w64) e))

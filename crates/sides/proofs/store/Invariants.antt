@@ -1,12 +1,8 @@
 use mathlib.Core.Path.{◌≡◌}
-use Prim.Native.Nat.{◌-◌, ◌≤◌}
 use lib.Seq.{paste}
 use Rattle.sides.specs.Given.{row_numbers}
 use Rattle.sides.proofs.store.Given as goal
 
--- Invariant: j numbers of the row stand behind n numbers of the table. The measure is how many are left.
+-- Invariant: j numbers of the row stand behind n numbers of the table.
 abbrev pub invariant-loop-j : goal.invariant-loop-j
-invariant-loop-j l = (l.j ≤ l.width) × (l.table ≡ paste l.initial.table l.n (row_numbers l.cs l.row) l.j)
-
-abbrev pub decreases-loop-j : goal.decreases-loop-j
-decreases-loop-j l = l.width - l.j
+invariant-loop-j l = l.table ≡ paste l.initial.table l.n (row_numbers l.cs l.row) l.j

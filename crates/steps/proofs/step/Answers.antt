@@ -23,11 +23,11 @@ small c = edge_small c.requires.0 c.args.e c.requires.1 c.offset_of-offset.ensur
 pub shift-shifted-requires : goal.shift-shifted-requires
 shift-shifted-requires c = (c.requires.2, small c)
 
-pub entered_extent-entered-requires : goal.entered_extent-entered-requires
-entered_extent-entered-requires c = (c.requires.0, c.requires.1)
+pub entered_extent-requires : goal.entered_extent-requires
+entered_extent-requires c = (c.requires.0, c.requires.1)
 
 pub clip-requires : goal.clip-requires
 clip-requires c = (
   subst Clippable (sym c.shift-shifted.ensures.result_value) (shift_clippable c.requires.2 (small (goal.at.clip-requires c).After-offset_of-offset)),
-  to-small c.requires.0 c.args.e c.requires.1 c.entered_extent-entered.ensures,
+  to-small c.requires.0 c.args.e c.requires.1 c.entered_extent.ensures,
 )

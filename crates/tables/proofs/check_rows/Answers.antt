@@ -1,70 +1,46 @@
 -- Each call answers one of the four checks; the answers are joined in their order.
 use mathlib.Core.List.{List}
-use mathlib.Core.Option.{Option}
-use mathlib.Core.Path.{◌≡◌, sym, ap, ◌∙◌}
+use mathlib.Core.Path.{◌≡◌, refl, sym, ◌∙◌}
 use Prim.Native.Nat.{ℕ, suc}
 use native.Mathlib.Numerals.{add-one}
-use borrow.Author.Rules.{rules}
 use lib.IntN.{ℤ}
-use Rattle.model.specs.Limits.{edge_width, max_edges}
+use Rattle.std.proofs.lemmas.Result.{err_from_is_err_and}
+use Rattle.model.specs.Limits.{node_width, edge_width, max_nodes, max_edges}
 use Rattle.model.specs.Rows.{node_rows, edge_rows}
 use Rattle.model.specs.Graph.{graph_of}
-use Rattle.model.specs.Refusals.{Refusal}
 use Rattle.model.specs.Checks.{◌then◌, first_refusal, check_shape, check_node, check_edge}
-use Rattle.model.specs.Answers.{checked_answer}
 use Rattle.tables.specs.Tables.{check_rows}
-use Rattle.tables.proofs.Checks.{checked, then_on, then_stops}
-use Rattle.tables.proofs.check_rows.Goals.{After-check_shape-c-2, In_default, In_default-c, In_default-c-2}
+use Rattle.tables.proofs.Checks.{then_on, then_stops}
+use Rattle.tables.proofs.check_rows.Goals.{In_ok-check_shape, In_ok-check_shape-2, In_ok-check_nodes}
 use Rattle.tables.proofs.check_rows.Goals as goal
 
-module _ (t : ℕ) (ns es : List ℤ) where
-  -- what is left after each check
-  abbrev afterNodes : Option Refusal
-  afterNodes = first_refusal (check_edge (suc t) (graph_of ns es)) (edge_rows es)
-
-  abbrev afterShapes : Option Refusal
-  afterShapes = first_refusal (check_node t) (node_rows ns) then afterNodes
-
-  abbrev afterShape : Option Refusal
-  afterShape = check_shape (suc t) edge_width max_edges es then afterShapes
-
-shape_taken : (c : In_default) → let a = c.args in
-    checked (check_rows a.table a.nodes.now a.edges.now) ≡ checked (afterShape a.table a.nodes.now a.edges.now)
+-- the four checks
+rows-all : (t : ℕ) (ns es : List ℤ) → check_rows t ns es
+    ≡ check_shape t node_width max_nodes ns
+    then check_shape (suc t) edge_width max_edges es
+    then first_refusal (check_node t) (node_rows ns)
+    then first_refusal (check_edge (suc t) (graph_of ns es)) (edge_rows es)
 unfolding check_rows
-shape_taken c =
-    then_on _ _ (ap checked_answer (sym c.in_default.is) ∙ c.check_shape-c.ensures)
+rows-all t ns es = refl
 
-edge-shape-test : (c : After-check_shape-c-2) → let a = c.args in
-    checked_answer c.check_shape-c-2.result ≡ checked (check_shape (suc a.table) edge_width max_edges a.edges.now)
-edge-shape-test c = rw add-one at c.check_shape-c-2.ensures
+pub returns-in_err-check_shape : goal.returns-in_err-check_shape
+returns-in_err-check_shape c =
+    let p = err_from_is_err_and c.from_residual.result c.from_residual.ensures.1 in
+    rw (p.1, p.2, rows-all) (then_stops _ _ c.in_err-check_shape.ensures)
 
-shapes-taken : (c : In_default-c) → let a = c.args in
-    checked (check_rows a.table a.nodes.now a.edges.now) ≡ checked (afterShapes a.table a.nodes.now a.edges.now)
-shapes-taken c =
-    shape_taken (goal.at.check_nodes-c-requires c).In_default ∙ then_on _ _ (ap checked_answer (sym c.in_default-c.is) ∙ edge-shape-test (goal.at.check_nodes-c-requires c).After-check_shape-c-2)
+pub returns-in_err-check_shape-2 : goal.returns-in_err-check_shape-2
+returns-in_err-check_shape-2 c =
+    let p = err_from_is_err_and c.from_residual-in_err-check_shape-2.result c.from_residual-in_err-check_shape-2.ensures.1 in
+    rw (p.1, p.2, rows-all) (then_stops _ _ (rw add-one at c.in_err-check_shape-2.ensures) ∙ sym (then_on _ _ c.in_ok-check_shape.ensures))
 
-nodes-taken : (c : In_default-c-2) → let a = c.args in
-    checked (check_rows a.table a.nodes.now a.edges.now) ≡ checked (afterNodes a.table a.nodes.now a.edges.now)
-nodes-taken c =
-    shapes-taken (goal.at.overflow_add-table-2 c).In_default-c ∙ then_on _ _ (ap checked_answer (sym c.in_default-c-2.is) ∙ c.check_nodes-c.ensures)
-
-pub returns-in-Refused : goal.returns-in-Refused
-unfolding check_rows
-returns-in-Refused c = then_stops _ _ (ap checked_answer (sym c.in-Refused.is) ∙ c.check_shape-c.ensures)
-
-pub returns-in-Refused-c : goal.returns-in-Refused-c
-returns-in-Refused-c c =
-    then_stops _ _ (ap checked_answer (sym c.in-Refused-c.is) ∙ edge-shape-test (goal.at.returns-in-Refused-c c).After-check_shape-c-2) ∙ sym (shape_taken (goal.at.returns-in-Refused-c c).In_default)
-
-pub returns-in-Refused-c-2 : goal.returns-in-Refused-c-2
-returns-in-Refused-c-2 c =
-    then_stops _ _ (ap checked_answer (sym c.in-Refused-c-2.is) ∙ c.check_nodes-c.ensures) ∙ sym (shapes-taken (goal.at.returns-in-Refused-c-2 c).In_default-c)
+pub returns-in_err-check_nodes : goal.returns-in_err-check_nodes
+returns-in_err-check_nodes c =
+    let p = err_from_is_err_and c.from_residual-in_err-check_nodes.result c.from_residual-in_err-check_nodes.ensures.1 in
+    rw (p.1, p.2, rows-all)
+    (then_stops _ _ c.in_err-check_nodes.ensures ∙ sym (then_on _ _ c.in_ok-check_shape.ensures ∙ then_on _ _ (rw add-one at c.in_ok-check_shape-2.ensures)))
 
 pub returns : goal.returns
-returns c = rw add-one at c.check_edges.ensures ∙ sym (nodes-taken (goal.at.returns c).In_default-c-2)
-
-pub check_nodes-c-requires : goal.check_nodes-c-requires
-check_nodes-c-requires c = search rules
-
-pub overflow_add-table-2 : goal.overflow_add-table-2
-overflow_add-table-2 c = search rules
+returns c =
+    rw rows-all
+    (rw add-one at c.check_edges.ensures
+    ∙ sym (then_on _ _ c.in_ok-check_shape.ensures ∙ then_on _ _ (rw add-one at c.in_ok-check_shape-2.ensures) ∙ then_on _ _ c.in_ok-check_nodes.ensures))

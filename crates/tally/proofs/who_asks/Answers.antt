@@ -1,34 +1,46 @@
--- By the two tests: below 0, and below sixteen.
-use mathlib.Core.Path.{◌≡◌, sym}
+-- A number below 0 is no caller; any other is its own, and is one of sixteen or not.
+use Rattle.std.specs.Prelude as std
+use Rattle.std.specs.Prelude.{Result, Ok, Err}
+use Rattle.std.specs.Bool.{then_some}
+use Rattle.std.specs.Int.{FitsUnsignedBits}
+use Rattle.std.specs.Result.{OkIff, result_ok}
+use mathlib.Core.Path.{◌≡◌, refl, sym}
+use mathlib.Core.Bool.{Bool, true, false, cond}
+use mathlib.Core.Option.{none, some}
 use native.Mathlib.Omega.{arith}
-use lib.IntN.{pos, nat_abs}
-use lib.Signed.{◌≤ℤ◌, ◌<ℤ◌, yes_non_neg, pos-nat_abs}
-use mir.Facts.{to_z-of_z, Fits-nat_abs}
+use Prim.Native.Nat.{ℕ}
+use lib.IntN.{ℤ, pos, negsuc, nat_abs}
+use mir.Facts.{to_z-of_z}
 use Rattle.integers.proofs.Linear.{ints}
-use Rattle.integers.proofs.Range.{lt_z_true, lt_z_false}
-use Rattle.model.proofs.Tally.{caller-some, caller-none}
-use Rattle.tally.proofs.who_asks.Goals.{Else-number-lt0}
+use Rattle.model.specs.Tally.{Caller, caller_of}
+use Rattle.model.proofs.Tally.{caller-none}
+use Rattle.tally.specs.Callers.{caller_named}
 use Rattle.tally.proofs.who_asks.Goals as goal
 
--- behind the first test the number is not below 0
-low : (e : Else-number-lt0) → pos 0 ≤ℤ e.args.number
-low e = lt_z_false _ _ (simp (to_z-of_z, e.ranges.number) at e.if-number-lt0.false)
+module _ {E : Type 0} where
+  -- a number that does not fit is no caller
+  outside : (z : ℤ) (r : Result ℕ E) → OkIff r (FitsUnsignedBits 64 z) (nat_abs z) → ◌≡◌ {A = std.Option ℕ} std.None (result_ok r) → caller_of z ≡ none
+  outside z (Ok x) o e = cc
+  outside (pos n) (Err d) o e = (caller-none (pos n)).1 (λ (h : Caller (pos n)). o (omega (arith, ints, h.high)))
+  outside (negsuc n) (Err d) o e = (caller-none (negsuc n)).1 (λ (h : Caller (negsuc n)). omega (arith, ints, h.low))
 
--- so it is its own distance from 0
-same : (e : Else-number-lt0) → e.args.number ≡ pos (nat_abs e.args.number)
-same e = sym (pos-nat_abs e.args.number (yes_non_neg (low e)))
+  -- one that fits is its own number
+  inside : (z : ℤ) (r : Result ℕ E) (k : ℕ) → OkIff r (FitsUnsignedBits 64 z) (nat_abs z) → ◌≡◌ {A = std.Option ℕ} (std.Some k) (result_ok r) → z ≡ pos k
+  inside (pos n) (Ok x) k o e = let own : x ≡ n = o.1 in cc
+  inside (negsuc n) (Ok x) k o e = absurd o.0
+  inside z (Err d) k o e = cc
 
-pub returns-then-number-lt0 : goal.returns-then-number-lt0
-returns-then-number-lt0 c = let below : c.args.number <ℤ pos 0 = lt_z_true _ _ (simp (to_z-of_z, c.ranges.number) at c.if-number-lt0.true) in
-    sym ((caller-none c.args.number).1 (λ h. omega (arith, ints, h.low, below)))
+-- a caller where the test passed
+named : (b : Bool) (k : ℕ) → caller_named (then_some b k) ≡ cond b (some k) none
+named true k = refl
+named false k = refl
 
-pub overflow_cast-caller : goal.overflow_cast-caller
-overflow_cast-caller c = let f = c.ranges.number in simp (to_z-of_z, f) (yes_non_neg (low c), Fits-nat_abs tt f)
-
-pub returns-then-caller-lt-CALLERS : goal.returns-then-caller-lt-CALLERS
-returns-then-caller-lt-CALLERS c = let f = c.ranges.number in
-    simp (to_z-of_z, f) (sym ((caller-some c.args.number (nat_abs c.args.number)).1 (same (goal.at.returns-then-caller-lt-CALLERS c).Else-number-lt0, simp (to_z-of_z, f) at c.if-caller-lt-CALLERS.true)))
+pub returns-in_err-caller : goal.returns-in_err-caller
+returns-in_err-caller c =
+    rw c.from_residual.ensures (sym (outside c.args.number _ (simp (to_z-of_z, c.ranges.number) at c.try_from.ensures) c.in_err-caller.ensures.value))
 
 pub returns : goal.returns
-returns c = let above = simp (to_z-of_z, c.ranges.number) at c.if-caller-lt-CALLERS.false in
-    sym ((caller-none c.args.number).1 (λ h. omega (arith, ints, h.high, same (goal.at.returns c).Else-number-lt0, above)))
+unfolding caller_of
+returns c =
+    rw (c.then_some.ensures, inside c.args.number _ _ (simp (to_z-of_z, c.ranges.number) at c.try_from.ensures) c.in_ok-caller.ensures.value)
+    (named _ c.in_ok-caller.caller)

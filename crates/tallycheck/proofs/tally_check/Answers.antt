@@ -17,12 +17,12 @@ check_of k = record { caller = k.args.caller; text = k.args.text.now; report = k
 named : (k : After-check_by-outcome) → caller_named k.who_asks-who.result ≡ caller_of (check_of k).caller
 named k = k.who_asks-who.ensures ∙ ap caller_of (to_z-of_z k.ranges.caller)
 
-pub counted-next-requires : goal.counted-next-requires
-counted-next-requires c = (asks_sixteen c.who_asks-who.result (check_of (goal.at.counted-next-requires c).After-check_by-outcome).caller (named (goal.at.counted-next-requires c).After-check_by-outcome), c.ending_of-ending.ensures.1)
+pub counted-requires : goal.counted-requires
+counted-requires c = asks_sixteen c.who_asks-who.result (check_of (goal.at.counted-requires c).After-check_by-outcome).caller (named (goal.at.counted-requires c).After-check_by-outcome)
 
 pub returns : goal.returns
 unfolding tally_gives tally_after
 returns c = let counts = c.args.tally.counts in
     let gives = asks_gives (check_of (goal.at.returns c).After-check_by-outcome) (caller_named c.who_asks-who.result) (named (goal.at.returns c).After-check_by-outcome) c.check_by-outcome.ensures in
     tally_promise (check_of (goal.at.returns c).After-check_by-outcome) counts (c.written_of.ensures ∙ gives_length gives) gives.buffer
-    (c.counted-next.ensures ∙ asks_counts (check_of (goal.at.returns c).After-check_by-outcome) counts (named (goal.at.returns c).After-check_by-outcome) (c.ending_of-ending.ensures.0 ∙ gives_ending gives))
+    (c.counted.ensures ∙ asks_counts (check_of (goal.at.returns c).After-check_by-outcome) counts (named (goal.at.returns c).After-check_by-outcome) (c.ending_of.ensures ∙ gives_ending gives))

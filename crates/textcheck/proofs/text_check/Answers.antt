@@ -7,4 +7,4 @@ use Rattle.textcheck.proofs.text_check.Goals as goal
 
 pub returns : goal.returns
 returns c = let text = c.args.text.now in
-    text_promise as_it_is text c.args.report.now (c.written_of.ensures ∙ given_length text c.check_map-outcome.ensures) (given_buffer text c.check_map-outcome.ensures)
+    text_promise as_it_is text c.args.report.now (c.written_of.ensures ∙ given_length text c.check_map.ensures) (given_buffer text c.check_map.ensures)

@@ -16,11 +16,9 @@ given s = search rules
 
 pub returns : goal.returns
 returns c =
-    let n = c.verdict_number-given.ensures.0 in
-    result_parts _ _ _ (rw n at c.counted.ensures) (rw n at c.counted-2.ensures) (rw n at c.counted-3.ensures) c.higher.ensures
+    result_parts _ _ _ c.counted.ensures c.counted-2.ensures c.counted-3.ensures c.higher.ensures
     (rw (to_z-of_z (placed (goal.at.returns c).After-first_place-first).0, to_z-of_z (placed (goal.at.returns c).After-first_place-first).1, to_z-of_z (placed (goal.at.returns c).After-first_place-first).2)
     (rw (
-      n,
       to_z_pos w64 {n = c.args.root_row} (omega (arith, c.requires.1)),
       to_z_pos w64 {n = c.args.leaf_row} (omega (arith, c.requires.2)),
       to_z-of_z (given (goal.at.returns c).Start).3,

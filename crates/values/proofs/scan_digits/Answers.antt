@@ -1,45 +1,32 @@
-use mathlib.Core.Path.{refl, sym, ◌∙◌}
+use mathlib.Core.Path.{sym, ◌∙◌}
 use Prim.Native.Nat.{◌^◌, ◌<◌}
 use native.Mathlib.Omega.{arith}
-use Rattle.values.proofs.Numerals.{digits-none, digits_low, digits-high, digits_goes, digit_more, digits-small}
-use Rattle.values.proofs.scan_digits.Goals.{In-loop-i}
+use Rattle.model.specs.Reader.{is_digit}
+use Rattle.values.proofs.Numerals.{digits-none, digits_other, digits_goes, digit_more, digits-small}
+use Rattle.values.proofs.scan_digits.Goals.{Else-not-is_ascii_digit}
 use Rattle.values.proofs.scan_digits.Goals as goal
 
-small : (l : In-loop-i) → l.loop-i.value < 10 ^ 17
-small l = digits-small l.loop-i.value l.loop-i.i 17 l.loop-i.invariant.1 (omega arith)
+small : (d : Else-not-is_ascii_digit) → d.loop-b.value < 10 ^ 17
+small d = digits-small d.loop-b.value d.loop-b.b-index 17 d.loop-b.invariant.0 (omega arith)
 
-pub loop-i-init : goal.loop-i-init
-loop-i-init c = (omega arith, omega arith, refl)
-
-pub bounds-field-i : goal.bounds-field-i
-bounds-field-i c = omega arith
-
-pub returns-then-b-lt48 : goal.returns-then-b-lt48
-returns-then-b-lt48 c =
-    sym (c.loop-i.invariant.2 ∙ digits_low c.args.field.now c.loop-i.i c.loop-i.value (omega arith) c.if-b-lt48.true)
-
-pub returns-then-b-gt57 : goal.returns-then-b-gt57
-returns-then-b-gt57 c =
-    sym (c.loop-i.invariant.2 ∙ digits-high c.args.field.now c.loop-i.i c.loop-i.value (omega arith) c.if-b-gt57.true)
+pub returns-then-not-is_ascii_digit : goal.returns-then-not-is_ascii_digit
+unfolding is_digit
+returns-then-not-is_ascii_digit c =
+    sym (c.loop-b.invariant.1 ∙ digits_other c.args.field.now c.loop-b.b-index c.loop-b.value c.loop-b-test.true (sym c.if-not-is_ascii_digit.ensures.value))
 
 pub overflow_mul-value : goal.overflow_mul-value
-overflow_mul-value c = omega (arith, small (goal.at.overflow_mul-value c).In-loop-i)
+overflow_mul-value c = omega (arith, small (goal.at.overflow_mul-value c).Else-not-is_ascii_digit)
 
 pub overflow_add-value : goal.overflow_add-value
-overflow_add-value c = omega (arith, small (goal.at.overflow_add-value c).In-loop-i)
+overflow_add-value c = omega (arith, small (goal.at.overflow_add-value c).Else-not-is_ascii_digit, c.if-not-is_ascii_digit.ensures.cases)
 
-pub overflow_add-i : goal.overflow_add-i
-overflow_add-i c = omega arith
-
-pub loop-i-smaller : goal.loop-i-smaller
-loop-i-smaller c = omega arith
-
-pub loop-i-preserved : goal.loop-i-preserved
-loop-i-preserved c = (
-  omega arith,
-  digit_more c.loop-i.value c.loop-i.i _ c.loop-i.invariant.1 (omega arith),
-  c.loop-i.invariant.2 ∙ digits_goes c.args.field.now c.loop-i.i c.loop-i.value (omega arith) c.if-b-lt48.false c.if-b-gt57.false,
-)
+pub loop-b-preserved : goal.loop-b-preserved
+loop-b-preserved c =
+    let digit = c.if-not-is_ascii_digit.ensures.cases in
+    rw c.from.ensures (
+      digit_more c.loop-b.value c.loop-b.b-index _ c.loop-b.invariant.0 (omega arith),
+      c.loop-b.invariant.1 ∙ digits_goes c.args.field.now c.loop-b.b-index c.loop-b.value c.loop-b-test.true digit.0 digit.1,
+    )
 
 pub returns : goal.returns
-returns c = sym (c.loop-i.invariant.2 ∙ digits-none c.args.field.now c.loop-i.i c.loop-i.value c.loop-i-test.false)
+returns c = sym (c.loop-b.invariant.1 ∙ digits-none c.args.field.now c.loop-b.b-index c.loop-b.value c.loop-b-test.false)

@@ -56,9 +56,9 @@ returns-then-s-r c =
     let h = simp to_z-of_z at c.lower-then-s-r.ensures in
     rw (d, e) h
 
-pub returns : goal.returns
+pub returns-else-s-r : goal.returns-else-s-r
 unfolding ends lowest_from
-returns c =
+returns-else-s-r c =
     let f : SFits w64 c.args.r.last = search rules in
     let g : SFits w64 c.args.s.last = search rules in
     let d = simp (to_z-of_z, f, g) at c.if-r-s.false in

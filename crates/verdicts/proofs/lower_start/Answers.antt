@@ -12,11 +12,11 @@ use Rattle.verdicts.proofs.lower_start.Goals as goal
 pub returns-then-i-n : goal.returns-then-i-n
 unfolding starts lowest_from
 returns-then-i-n c =
-    let f : SFits w64 c.record_at-r.result.first = search rules in
+    let f : SFits w64 c.record_at.result.first = search rules in
     rw (records_from-more c.args.t.now c.args.i c.args.n c.if-i-n.true)
-    (c.lower.ensures ∙ ap (lower c.args.least.0) (to_z-of_z f ∙ ap (λ (r : Record). r.first) c.record_at-r.ensures))
+    (c.lower.ensures ∙ ap (lower c.args.least.0) (to_z-of_z f ∙ ap (λ (r : Record). r.first) c.record_at.ensures))
 
-pub returns : goal.returns
+pub returns-else-i-n : goal.returns-else-i-n
 unfolding starts lowest_from
-returns c =
+returns-else-i-n c =
     rw (records_from-none c.args.t.now c.args.i c.args.n c.if-i-n.false) refl

@@ -1,12 +1,8 @@
--- The invariant: the lists are the same where those from record i on are. The measure is what is left of them.
+-- The invariant: the lists are the same where those from record i on are.
 use mathlib.Core.Path.{◌≡◌}
-use Prim.Native.Nat.{◌-◌}
 use Rattle.model.specs.Verdicts.{same_list}
 use Rattle.normalisation.specs.Records.{records_of, records_from}
 use Rattle.verdicts.proofs.same_lists.Given as goal
 
 abbrev pub invariant-loop-i : goal.invariant-loop-i
 invariant-loop-i l = same_list (records_of l.a l.na) (records_of l.b l.nb) ≡ same_list (records_from l.a l.i l.na) (records_from l.b l.i l.na)
-
-abbrev pub decreases-loop-i : goal.decreases-loop-i
-decreases-loop-i l = l.na - l.i

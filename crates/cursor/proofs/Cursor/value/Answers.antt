@@ -1,33 +1,41 @@
--- The number counts where another field follows.
-use mathlib.Core.Path.{ap}
-use native.Mathlib.Omega.{arith}
+-- The number counts where another field follows, or where none does.
+use mathlib.Core.Path.{◌≡◌, refl, ap, ◌∙◌}
+use mathlib.Core.Bool.{Bool, true, false, not, beq}
 use borrow.Author.Rules.{rules}
-use borrow.Author.Tests.{not-true, not-false}
 use mir.Syntax.{w64}
 use mir.Val.{SFits}
 use mir.Facts.{to_z-of_z}
 use Rattle.values.specs.Given.{signed_value}
-use Rattle.cursor.proofs.Fields.{given_inner, given_not_inner, given_blank, given_next}
+use Rattle.cursor.proofs.Fields.{given_within, given_inner, given_last, given_next, given_later}
 use Rattle.cursor.proofs.Cursor.value.Goals as goal
 
-pub returns-then-not-field : goal.returns-then-not-field
-returns-then-not-field c =
-    given_not_inner c.args.text.now c.args.self.at c.requires.within c.read_field-field.ensures (not-true _ c.if-not-field.true)
+-- of two truth values that differ one is the other's contrary
+contrary : (a b : Bool) → beq a b ≡ false → a ≡ not b
+contrary true true h = cc
+contrary true false h = refl
+contrary false true h = refl
+contrary false false h = cc
 
-pub overflow_add-result : goal.overflow_add-result
-overflow_add-result c =
-    omega (arith, given_blank c.args.text.now c.args.self.at c.requires.within c.read_field-field.ensures (not-false _ c.if-not-field.false), c.well_formed)
+pub past-requires : goal.past-requires
+past-requires c =
+    given_within c.args.text.now c.args.self.at c.requires.within c.read_field-field.ensures
 
-pub returns-in-Value : goal.returns-in-Value
-returns-in-Value c =
+pub returns-then-last : goal.returns-then-last
+returns-then-last c =
     let given = c.read_field-field.ensures in
-    let fits : SFits w64 c.in-Value.x = search rules in (
-      rw (to_z-of_z fits)
-          (given_inner c.args.text.now c.args.self.at c.requires.within given (not-false _ c.if-not-field.false) (ap signed_value c.in-Value.is)),
-      given_next c.args.text.now c.args.self.at c.requires.within given c.args.self.line (not-false _ c.if-not-field.false),
+    let fits : SFits w64 c.in_ok-field.field-0 = search rules in
+    let more = contrary _ _ c.if-field-last.false ∙ ap not c.if-last.true in
+    rw (c.if-last.true, to_z-of_z fits) (
+      given_last c.args.text.now c.args.self.at c.requires.within given more (ap signed_value c.in_ok-field.was),
+      given_later c.args.text.now c.args.self.at c.requires.within given c.args.self.line c.past.result more c.past.ensures,
     )
 
-pub returns-in-Bad : goal.returns-in-Bad
-returns-in-Bad c =
-    given_inner c.args.text.now c.args.self.at c.requires.within c.read_field-field.ensures (not-false _ c.if-not-field.false)
-    (ap signed_value c.in-Bad.is)
+pub returns-else-last : goal.returns-else-last
+returns-else-last c =
+    let given = c.read_field-field.ensures in
+    let fits : SFits w64 c.in_ok-field.field-0 = search rules in
+    let more = contrary _ _ c.if-field-last.false ∙ ap not c.if-last.false in
+    rw (c.if-last.false, to_z-of_z fits) (
+      given_inner c.args.text.now c.args.self.at c.requires.within given more (ap signed_value c.in_ok-field.was),
+      given_next c.args.text.now c.args.self.at c.requires.within given c.args.self.line c.past.result more c.past.ensures,
+    )

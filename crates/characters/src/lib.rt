@@ -12,12 +12,19 @@ use model::Reason;
 // Bytes of a text at most.
 const MAX_TEXT: usize = 65536;
 
-// Whether the byte is one of a-z, 0-9, minus, space and line feed.
+// Whether the byte is one of a-z, 0-9, minus, space and line feed. The ranges are tested one after the other: one `matches!` for all looks for the
+// punctuation first at each byte, and takes longer.
 #[tactic(auto, unfolding(model::specs::Reader::allowed))]
 fn is_allowed(b: u8) -> bool
     ensures { result ≡ allowed b }
 {
-    matches!(b, b'a'..=b'z' | b'0'..=b'9' | b'-' | b' ' | b'\n')
+    if b'a' <= b {
+        b <= b'z'
+    } else if b'0' <= b {
+        b <= b'9'
+    } else {
+        matches!(b, b'-' | b' ' | b'\n')
+    }
 }
 
 // Passes over the bytes, up to one that is not allowed, and counts lines.

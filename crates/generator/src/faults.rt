@@ -39,7 +39,7 @@ const UNKNOWN_DRAWS: usize = 8;
 // Tables by the numbers that refusals give, apart from those of the library too.
 pub const SPEC_NODES: usize = 0;
 
-const IMPL_NODES: usize = 2;
+pub const IMPL_NODES: usize = 2;
 
 const ROOT_PAIRS: usize = 4;
 

@@ -28,15 +28,13 @@ use Rattle.model.proofs.Taken.{taken_bounds}
 use Rattle.tables.specs.Tables.{edge_at}
 use Rattle.tables.proofs.Limits.{row_below}
 use Rattle.tables.proofs.Rows.{nodes_length, nodes-at, edges-rest, edges_end, edge_member}
-use Rattle.pairing.specs.declared.Class.{Class}
-use Rattle.pairing.specs.declared.Class.TheVariants as class
-use Rattle.pairing.specs.Classes.{other, root, leaf, same_class, has_class}
+use Rattle.pairing.specs.Classes.{other, root, leaf, has_class}
 use Rattle.paircheck.specs.Classes.{class_of, classes_of, classes_over, Classifiable, kind_class, kinds_over, entered_class, entered_at, entered_by, EntersWithin}
 
 -- ---- lists
 
 -- the images of the first rows in front of a list, and the image of the next row stored behind them
-front-more : {A : Type 0} (f : A → Class) (rows : List A) (old : List Class) (d : A) (v : ℕ) → v < length rows → v < length old
+front-more : {A : Type 0} (f : A → ℕ) (rows : List A) (old : List ℕ) (d : A) (v : ℕ) → v < length rows → v < length old
     → set (map f (take v rows) ++ drop v old) v (f (get_or rows v d)) ≡ map f (take (suc v) rows) ++ drop (suc v) old
 front-more f [] old d v h k = absurd (omega arith)
 front-more f (x ∷ rows) [] d v h k = absurd (omega arith)
@@ -45,9 +43,9 @@ front-more f (x ∷ rows) (y ∷ old) d (suc v) h k = ap (λ t. f x ∷ t) (fron
 
 -- ---- the pass over the nodes
 
-module _ (ns : List ℤ) (old : List Class) where
+module _ (ns : List ℤ) (old : List ℕ) where
   -- the state between two turns: the first v nodes have the classes of their kinds
-  abbrev pub kinds_up_to : ℕ → List Class
+  abbrev pub kinds_up_to : ℕ → List ℕ
   kinds_up_to v = map (λ n. kind_class n.kind) (take v (node_rows ns)) ++ drop v old
 
   -- one turn
@@ -68,26 +66,28 @@ module _ (ns : List ℤ) (old : List Class) where
 -- ---- the pass over the edges
 
 -- a node entered twice has the class of one entered once
-entered_again : (c : Class) → entered_class (entered_class c) ≡ entered_class c
+entered_again : (c : ℕ) → entered_class (entered_class c) ≡ entered_class c
 unfolding entered_class
-entered_again class.Other = refl
-entered_again class.Root = refl
-entered_again class.Leaf = refl
+entered_again c = go (eqb c root) refl
+  where
+    go : (t : Bool) → eqb c root ≡ t → cond (eqb (cond t other c) root) other (cond t other c) ≡ cond t other c
+    go true e = refl
+    go false e = rw e
 
 -- an edge leaves as many classes as there are
-pub entered_length : (class : List Class) (v : ℤ) → length (entered_at class v) ≡ length class
+pub entered_length : (class : List ℕ) (v : ℤ) → length (entered_at class v) ≡ length class
 unfolding entered_at
 entered_length class (pos v) = length-set class v (entered_class (get_or class v other))
 entered_length class (negsuc v) = refl
 
 -- and so do all edges
-entered_by_length : (es : List Edge) (class : List Class) → length (entered_by es class) ≡ length class
+entered_by_length : (es : List Edge) (class : List ℕ) → length (entered_by es class) ≡ length class
 unfolding entered_by
 entered_by_length [] class = refl
 entered_by_length (e ∷ es) class = entered_by_length es (entered_at class e.to) ∙ entered_length class e.to
 
 -- an edge that enters a node of the front leaves the rest
-entered_append : (front rest : List Class) (v : ℤ) → (pos 0 ≤ℤ v) × (v <ℤ pos (length front)) → entered_at (front ++ rest) v ≡ entered_at front v ++ rest
+entered_append : (front rest : List ℕ) (v : ℤ) → (pos 0 ≤ℤ v) × (v <ℤ pos (length front)) → entered_at (front ++ rest) v ≡ entered_at front v ++ rest
 unfolding entered_at
 entered_append front rest (pos v) h =
     let k : v < length front = omega (arith, ints, h.1) in
@@ -96,7 +96,7 @@ entered_append front rest (pos v) h =
 entered_append front rest (negsuc v) h = absurd (omega (arith, ints, h.0))
 
 -- and so do all edges
-entered_by_append : (es : List Edge) (front rest : List Class) → ((e : Edge) → e ∈ es → (pos 0 ≤ℤ e.to) × (e.to <ℤ pos (length front)))
+entered_by_append : (es : List Edge) (front rest : List ℕ) → ((e : Edge) → e ∈ es → (pos 0 ≤ℤ e.to) × (e.to <ℤ pos (length front)))
     → entered_by es (front ++ rest) ≡ entered_by es front ++ rest
 unfolding entered_by
 entered_by_append [] front rest h = refl
@@ -106,7 +106,7 @@ entered_by_append (e ∷ es) front rest h =
     (λ x m. subst (λ (n : ℕ). (pos 0 ≤ℤ x.to) × (x.to <ℤ pos n)) (sym (entered_length front e.to)) (h x (Memᴰ.tail m)))
 
 -- one turn: the next edge enters node `to`, which gets the class c
-pub entered_next : (es : List ℤ) (class : List Class) (e to : ℕ) (c : Class) → edge_width * e + edge_width ≤ length es → pos to ≡ (edge_at es e).to
+pub entered_next : (es : List ℤ) (class : List ℕ) (e to c : ℕ) → edge_width * e + edge_width ≤ length es → pos to ≡ (edge_at es e).to
     → c ≡ entered_class (get_or class to other)
     → entered_by (edges_from e (drop (edge_width * e) es)) class ≡ entered_by (edges_from (suc e) (drop (edge_width * suc e) es)) (set class to c)
 unfolding entered_by entered_at
@@ -117,13 +117,13 @@ entered_next es class e to c there q r =
     ∙ ap (λ x. entered_by later (set class to x)) (sym r)
 
 -- behind the last turn
-pub entered_end : (es : List ℤ) (class : List Class) (e : ℕ) → length es < edge_width * e + edge_width
+pub entered_end : (es : List ℤ) (class : List ℕ) (e : ℕ) → length es < edge_width * e + edge_width
     → entered_by (edges_from e (drop (edge_width * e) es)) class ≡ class
 unfolding entered_by
 entered_end es class e h = ap (λ rows. entered_by rows class) (edges_end es e h)
 
 -- the class of node v after an edge
-entered-at : (class : List Class) (w : ℤ) (v : ℕ) → v < length class
+entered-at : (class : List ℕ) (w : ℤ) (v : ℕ) → v < length class
     → get_or (entered_at class w) v other ≡ cond (eq_z w (pos v)) (entered_class (get_or class v other)) (get_or class v other)
 unfolding entered_at
 entered-at class (negsuc w) v h = refl
@@ -137,7 +137,7 @@ entered-at class (pos w) v h = go (eqb w v) (eq? w v)
     go false (failed n) = get_or-set_other class w v (entered_class (get_or class w other)) other (λ e. n (sym e))
 
 -- the class of node v after all edges
-entered_by-at : (es : List Edge) (class : List Class) (v : ℕ) → v < length class
+entered_by-at : (es : List Edge) (class : List ℕ) (v : ℕ) → v < length class
     → get_or (entered_by es class) v other
     ≡ cond (any (λ e. eq_z e.to (pos v)) es) (entered_class (get_or class v other)) (get_or class v other)
 unfolding entered_by any
@@ -149,7 +149,7 @@ entered_by-at (e ∷ es) class v h =
     ∙ ap (λ c. cond later (entered_class c) c) (entered-at class e.to v h)
     ∙ either (eq_z e.to (pos v)) later x
   where
-    either : (a b : Bool) (x : Class) → cond b (entered_class (cond a (entered_class x) x)) (cond a (entered_class x) x) ≡ cond (a || b) (entered_class x) x
+    either : (a b : Bool) (x : ℕ) → cond b (entered_class (cond a (entered_class x) x)) (cond a (entered_class x) x) ≡ cond (a || b) (entered_class x) x
     either true true x = entered_again x
     either true false x = refl
     either false b x = refl
@@ -164,7 +164,7 @@ class_passes g v k r row = rw row (go (node g v).kind (taken_bounds k r).kind (a
   where
     by : (kind : ℤ) → Bool → Type 0
     by kind a =
-        cond a (cond (same_class (cond (eq_z kind block) leaf root) root) other (cond (eq_z kind block) leaf root)) (cond (eq_z kind block) leaf root)
+        cond a (cond (eqb (cond (eq_z kind block) leaf root) root) other (cond (eq_z kind block) leaf root)) (cond (eq_z kind block) leaf root)
         ≡ cond (true && (eq_z kind space || eq_z kind segment) && not a) root (cond (true && eq_z kind block) leaf other)
 
     go : (kind : ℤ) → Kind kind → (a : Bool) → by kind a
@@ -201,7 +201,7 @@ module _ (ns es : List ℤ) (k : TakenTables ns es) where
   enters-row e m = let r = (k.graph.ends e m).1 in (r.low, r.high)
 
   -- so every edge enters a node that has a class
-  pub enters-within : (class : List Class) → length (node_rows ns) ≤ length class → EntersWithin es class
+  pub enters-within : (class : List ℕ) → length (node_rows ns) ≤ length class → EntersWithin es class
   enters-within class room e h =
       let r = enters-row (edge_at es e) (edge_member es e (omega arith)) in
       (r.0, omega (arith, ints, r.1))
@@ -229,7 +229,7 @@ module _ (ns es : List ℤ) (k : TakenTables ns es) where
       (λ v h. let j : v < length (node_rows ns) = omega (arith, h, size) in class_found v j ∙ sym (classes_at ns es v j))
 
   -- both passes leave the classes of all nodes in front of what stood behind them
-  pub classes_found : (old : List Class) → length (node_rows ns) ≤ length old
+  pub classes_found : (old : List ℕ) → length (node_rows ns) ≤ length old
       → entered_by (edge_rows es) (kinds_over ns old) ≡ classes_over (graph_of ns es) old
   unfolding kinds_over classes_over graph_of
   classes_found old room =
@@ -243,13 +243,13 @@ module _ (ns es : List ℤ) (k : TakenTables ns es) where
   classes_room = record { tables = k; room = omega (arith, k.nodes.few, nodes_length ns, length-replicate max_nodes other) }
 
   -- there are as many classes as the code counts node rows, and no more than the limit
-  pub classes_size : {l : List Class} → l ≡ classes_of (graph_of ns es) → (length ns / node_width ≡ length l) × (length l ≤ max_nodes)
+  pub classes_size : {l : List ℕ} → l ≡ classes_of (graph_of ns es) → (length ns / node_width ≡ length l) × (length l ≤ max_nodes)
   classes_size {l} e =
       let size : length l ≡ length ns / node_width = ap length e ∙ classes_length ns es ∙ nodes_length ns in
       (sym size, omega (arith, size, k.nodes.few))
 
 -- what stands in front
-pub classes_front : (ns es : List ℤ) (old : List Class) → take (length ns / node_width) (classes_over (graph_of ns es) old) ≡ classes_of (graph_of ns es)
+pub classes_front : (ns es : List ℤ) (old : List ℕ) → take (length ns / node_width) (classes_over (graph_of ns es) old) ≡ classes_of (graph_of ns es)
 unfolding classes_over
 classes_front ns es old =
     take_at (classes_of (graph_of ns es)) (drop (length (graph_of ns es).nodes) old) (length ns / node_width) (classes_length ns es ∙ nodes_length ns)
@@ -258,7 +258,7 @@ classes_front ns es old =
 
 -- the class of a node tells whether it is a root
 root_told : (row above unentered below : Bool)
-    → row && same_class (cond (row && above && unentered) root (cond (row && below) leaf other)) root ≡ row && above && unentered
+    → row && eqb (cond (row && above && unentered) root (cond (row && below) leaf other)) root ≡ row && above && unentered
 root_told false a u b = refl
 root_told true true true b = refl
 root_told true true false true = refl
@@ -268,7 +268,7 @@ root_told true false u false = refl
 
 -- and whether it is a leaf, for no node is of both kinds
 leaf_told : (row above unentered below : Bool) → (T above → T below → ⊥)
-    → row && same_class (cond (row && above && unentered) root (cond (row && below) leaf other)) leaf ≡ row && below
+    → row && eqb (cond (row && above && unentered) root (cond (row && below) leaf other)) leaf ≡ row && below
 leaf_told false a u b apart = refl
 leaf_told true true true true apart = absurd (apart tt tt)
 leaf_told true true true false apart = refl
@@ -283,19 +283,19 @@ kinds_apart kind a b = subst (λ (k : ℤ). T (eq_z k space || eq_z k segment)) 
 
 module _ (ns es : List ℤ) where
   -- a number has a class exactly where it is a node row of that class
-  class_test : (wanted : Class) (v : ℤ)
-      → has_class (classes_of (graph_of ns es)) wanted v ≡ is_row (graph_of ns es) v && same_class (class_of (graph_of ns es) v) wanted
+  class_test : (wanted : ℕ) (v : ℤ)
+      → has_class (classes_of (graph_of ns es)) wanted v ≡ is_row (graph_of ns es) v && eqb (class_of (graph_of ns es) v) wanted
   unfolding has_class is_row
   class_test wanted (negsuc v) = refl
   class_test wanted (pos v) =
       let g = graph_of ns es in
-      ap (λ n. ltb v n && same_class (get_or (classes_of g) v other) wanted) (classes_length ns es)
+      ap (λ n. ltb v n && eqb (get_or (classes_of g) v other) wanted) (classes_length ns es)
       ∙ go (ltb v (length (node_rows ns))) (ltb? v (length (node_rows ns)))
-      ∙ ap (λ t. t && same_class (class_of g (pos v)) wanted) (row_test ns es v)
+      ∙ ap (λ t. t && eqb (class_of g (pos v)) wanted) (row_test ns es v)
     where
       go : (t : Bool) → Test (v < length (node_rows ns)) (length (node_rows ns) ≤ v) t
-          → t && same_class (get_or (classes_of (graph_of ns es)) v other) wanted ≡ t && same_class (class_of (graph_of ns es) (pos v)) wanted
-      go true (passed h) = ap (λ c. same_class c wanted) (classes_at ns es v h)
+          → t && eqb (get_or (classes_of (graph_of ns es)) v other) wanted ≡ t && eqb (class_of (graph_of ns es) (pos v)) wanted
+      go true (passed h) = ap (λ c. eqb c wanted) (classes_at ns es v h)
       go false (failed h) = refl
 
   -- it has the class of roots exactly where it is a root

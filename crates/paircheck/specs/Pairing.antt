@@ -7,7 +7,6 @@ use Rattle.model.specs.Rows.{pair_rows}
 use Rattle.model.specs.Compare.{Tables, spec_graph, impl_graph}
 use Rattle.model.specs.Refusals.{Refusal}
 use Rattle.model.specs.Checks.{when, ◌then◌, check_shape, is_root, is_leaf, same_root, same_impl}
-use Rattle.pairing.specs.declared.Class.{Class}
 use Rattle.pairing.specs.Classes.{root, leaf, has_class}
 use Rattle.pairing.specs.Pairs.{check_pairs}
 
@@ -21,7 +20,7 @@ check_sizes roots leaves =
     check_shape 4 pair_width max_pairs roots then check_shape 5 pair_width max_pairs leaves then check_some 4 roots then check_some 5 leaves
 
 -- refusals 7, 16 and 8 of the tables of root pairs and of leaf pairs, whose nodes have these classes
-unfoldable pub check_classified : List Class → List Class → List ℤ → List ℤ → Option Refusal
+unfoldable pub check_classified : List ℕ → List ℕ → List ℤ → List ℤ → Option Refusal
 check_classified spec impl roots leaves =
     check_pairs 4 (has_class spec root) (has_class impl root) (pos 0) same_root roots
     then check_pairs 5 (has_class spec leaf) (has_class impl leaf) last_at same_impl leaves

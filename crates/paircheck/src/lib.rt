@@ -16,38 +16,37 @@ use model::{
     BLOCK, EDGE_WIDTH, LAST_AT, LEAF_PAIRS, MAX_NODES, MAX_PAIRS, NODE_WIDTH, PAIR_WIDTH,
     ROOT_PAIRS, Reason,
 };
-use pairing::{Class, check_pairs};
+use pairing::check_pairs;
 use tables::{check_shape, edge_to};
+
+// Classes of nodes. Numbers and no enum: `classify` and `check_pairs` are promised for any numbers as classes.
+const OTHER: usize = 0;
+
+const ROOT: usize = 1;
+
+const LEAF: usize = 2;
 
 // The only `at` of a root row.
 const ROOT_AT: i64 = 0;
 
 // The class of a node of this kind that no edge enters.
 #[tactic(auto, using(tables::proofs::Cells::cells), unfolding(crate::specs::Classes::kind_class))]
-fn kind_class(kind: i64) -> Class
+fn kind_class(kind: i64) -> usize
     ensures { result ≡ kind_class kind }
 {
-    if kind == BLOCK {
-        Class::Leaf
-    } else {
-        Class::Root
-    }
+    if kind == BLOCK { LEAF } else { ROOT }
 }
 
 // The class of a node that an edge enters, which had this class.
 #[tactic(auto, unfolding(crate::specs::Classes::entered_class))]
-fn entered_class(class: Class) -> Class
+fn entered_class(class: usize) -> usize
     ensures { result ≡ entered_class class }
 {
-    if class == Class::Root {
-        Class::Other
-    } else {
-        class
-    }
+    if class == ROOT { OTHER } else { class }
 }
 
 // Sets class[v], for each node v, to the class of a node of its kind that no edge enters.
-fn classify_kinds(nodes: &[i64], class: &mut [Class])
+fn classify_kinds(nodes: &[i64], class: &mut [usize])
     requires { length (node_rows nodes.now) ≤ length class.old }
     ensures { class.new ≡ kinds_over nodes.now class.old }
 {
@@ -56,8 +55,8 @@ fn classify_kinds(nodes: &[i64], class: &mut [Class])
     }
 }
 
-// Sets class[v] to Other for each root v that an edge enters.
-fn enter_edges(edges: &[i64], class: &mut [Class])
+// Sets class[v] to OTHER for each root v that an edge enters.
+fn enter_edges(edges: &[i64], class: &mut [usize])
     requires { EntersWithin edges.now class.old }
     ensures { class.new ≡ entered_by (edge_rows edges.now) class.old }
 {
@@ -67,8 +66,8 @@ fn enter_edges(edges: &[i64], class: &mut [Class])
     }
 }
 
-// Sets class[v], for each node v, to Root, Leaf or Other. One pass over the nodes and one over the edges.
-pub fn classify(nodes: &[i64], edges: &[i64], class: &mut [Class])
+// Sets class[v], for each node v, to ROOT, LEAF or OTHER. One pass over the nodes and one over the edges.
+pub fn classify(nodes: &[i64], edges: &[i64], class: &mut [usize])
     requires { Classifiable nodes.now edges.now class.old }
     ensures { class.new ≡ classes_over (graph_of nodes.now edges.now) class.old }
 {
@@ -101,30 +100,18 @@ fn check_sizes(root_pairs: &[i64], leaf_pairs: &[i64]) -> Result<(), Reason>
 fn check_classified(
     root_pairs: &[i64],
     leaf_pairs: &[i64],
-    spec_class: &[Class],
-    impl_class: &[Class],
+    spec_class: &[usize],
+    impl_class: &[usize],
 ) -> Result<(), Reason>
     requires { (length spec_class.now ≤ max_nodes) × (length impl_class.now ≤ max_nodes) }
     ensures { checked_answer result
         ≡ answer (check_classified spec_class.now impl_class.now root_pairs.now leaf_pairs.now) tt }
 {
     check_pairs(
-        root_pairs,
-        ROOT_PAIRS,
-        spec_class,
-        impl_class,
-        Class::Root,
-        ROOT_AT,
-        true,
+        root_pairs, ROOT_PAIRS, spec_class, impl_class, ROOT, ROOT_AT, true,
     )?;
     check_pairs(
-        leaf_pairs,
-        LEAF_PAIRS,
-        spec_class,
-        impl_class,
-        Class::Leaf,
-        LAST_AT,
-        false,
+        leaf_pairs, LEAF_PAIRS, spec_class, impl_class, LEAF, LAST_AT, false,
     )
 }
 
@@ -142,8 +129,8 @@ pub fn check_pairing(
         ≡ answer (check_pairing_rows (tables_of spec_nodes.now spec_edges.now impl_nodes.now impl_edges.now root_pairs.now leaf_pairs.now)) tt }
 {
     check_sizes(root_pairs, leaf_pairs)?;
-    let mut spec_class = [Class::Other; MAX_NODES];
-    let mut impl_class = [Class::Other; MAX_NODES];
+    let mut spec_class = [OTHER; MAX_NODES];
+    let mut impl_class = [OTHER; MAX_NODES];
     classify(spec_nodes, spec_edges, &mut spec_class);
     classify(impl_nodes, impl_edges, &mut impl_class);
     check_classified(

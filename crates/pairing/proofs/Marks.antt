@@ -27,7 +27,6 @@ use Rattle.tables.specs.Tables.{pair_at}
 use Rattle.tables.proofs.Limits.{decides_same}
 use Rattle.tables.proofs.Checks.{checked, Left, left_none, left_on, left_stops}
 use Rattle.tables.proofs.Rows.{pairs-rest, pairs_end, pair_member, pair_own}
-use Rattle.pairing.specs.declared.Class.{Class}
 use Rattle.pairing.specs.Classes.{has_class}
 use Rattle.pairing.specs.Pairs.{same_by, check_pairs, Unmarked, check_at, check_row}
 use Rattle.pairing.proofs.Classes.{class_index}
@@ -134,7 +133,7 @@ module _ (ps : List ℤ) where
 
 -- ---- the rows, one by one
 
-module _ (ps : List ℤ) (t : ℕ) (wanted : Class) (most : ℤ) (specOnce : Bool) (specClass implClass : List Class) where
+module _ (ps : List ℤ) (t wanted : ℕ) (most : ℤ) (specOnce : Bool) (specClass implClass : List ℕ) where
   -- the check of a row
   abbrev check_of : Pair → Option Refusal
   check_of = check_pair t (has_class specClass wanted) (has_class implClass wanted) most (same_by specOnce) (pair_rows ps)
@@ -152,7 +151,7 @@ module _ (ps : List ℤ) (t : ℕ) (wanted : Class) (most : ℤ) (specOnce : Boo
   passed_start u w =
       record { within = omega arith; left = refl; specs = marked-none u; impls = marked-none w }
 
-module _ {ps : List ℤ} {t : ℕ} {wanted : Class} {most : ℤ} {specOnce : Bool} {specClass implClass : List Class} {specMarks implMarks : List Bool} {k : ℕ}
+module _ {ps : List ℤ} {t wanted : ℕ} {most : ℤ} {specOnce : Bool} {specClass implClass : List ℕ} {specMarks implMarks : List Bool} {k : ℕ}
     (p : Passed ps t wanted most specOnce specClass implClass specMarks implMarks k)
   where
     -- the tests on the nodes of a row, and on those of row k

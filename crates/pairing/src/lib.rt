@@ -20,17 +20,9 @@ pub const IMPL_COLUMN: usize = 1;
 // The column with the leaf bit where the implementation leaf begins.
 pub const AT_COLUMN: usize = 2;
 
-// The class of a node, as a pair row asks for it: a root, a leaf, or neither.
-#[derive(Clone, Copy, PartialEq, Eq)]
-pub enum Class {
-    Other,
-    Root,
-    Leaf,
-}
-
 // Whether v is a node with this class.
 #[tactic(auto, using(tables::proofs::Cells::cells), unfolding(crate::specs::Classes::has_class))]
-fn has_class(v: i64, class: &[Class], wanted: Class) -> bool
+fn has_class(v: i64, class: &[usize], wanted: usize) -> bool
     ensures { result ≡ has_class class.now wanted v }
 {
     0 <= v && (v as usize) < class.len() && class[v as usize] == wanted
@@ -73,9 +65,9 @@ pub fn pair_at(pairs: &[i64], row: usize) -> i64
 fn both_have_class(
     pairs: &[i64],
     k: usize,
-    spec_class: &[Class],
-    impl_class: &[Class],
-    wanted: Class,
+    spec_class: &[usize],
+    impl_class: &[usize],
+    wanted: usize,
 ) -> bool
     requires { pair_width * k + pair_width ≤ length pairs.now }
     ensures { result
@@ -129,9 +121,9 @@ fn check_row(
 fn check_unmarked(
     pairs: &[i64],
     table: usize,
-    spec_class: &[Class],
-    impl_class: &[Class],
-    wanted: Class,
+    spec_class: &[usize],
+    impl_class: &[usize],
+    wanted: usize,
     most: i64,
     spec_once: bool,
     spec_marks: &mut [bool],
@@ -166,9 +158,9 @@ fn check_unmarked(
 pub fn check_pairs(
     pairs: &[i64],
     table: usize,
-    spec_class: &[Class],
-    impl_class: &[Class],
-    wanted: Class,
+    spec_class: &[usize],
+    impl_class: &[usize],
+    wanted: usize,
     most: i64,
     spec_once: bool,
 ) -> Result<(), Reason>
